@@ -1,0 +1,4 @@
+pub mod Word
+pub mod SplitMix
+pub mod Xoshiro
+pub mod Uniform

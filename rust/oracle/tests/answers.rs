@@ -1,0 +1,15 @@
+//! The stored lists are what the original answers today.
+
+use std::path::Path;
+use std::process::Command;
+
+#[test]
+fn the_stored_lists_are_the_originals_answers() {
+    let crates = Path::new(env!("CARGO_MANIFEST_DIR")).join("../../crates");
+    for (list, place) in [("generators", "replay_rng/data/generators.bin")] {
+        let made = Command::new(env!("CARGO_BIN_EXE_answers")).arg(list).output().expect("answers runs");
+        assert!(made.status.success(), "answers {list}: {}", String::from_utf8_lossy(&made.stderr));
+        let stored = std::fs::read(crates.join(place)).unwrap_or_else(|e| panic!("{place}: {e}"));
+        assert!(made.stdout == stored, "{place} is not what answers {list} writes");
+    }
+}
