@@ -1,0 +1,98 @@
+-- What bounds the rounded vectors, answers and totals, with no tolerance and whatever overflows on the way.
+-- Of a job only its factors matter, finite and above zero, and of a pair its Z, which is to be so too.
+use mathlib.Core.Path.{_≡_}
+use Prim.Native.Nat.{ℕ, _+_, _*_, _-_, _^_, _≤_, _<_, min, max}
+use native.Mathlib.Nat.{le-trans, min-le-left, le-max-left}
+use native.Mathlib.Omega.{arith}
+use lib.Dec.{T}
+use lib.Pow.{pow-mono}
+use lib.Ieee.{Float, binary64, neg, le}
+use lib.Ieee.Scale.{finite}
+use lib.Ieee.Positive.{positive, positive-finite}
+use Rattle.rounding.specs.Sign.{abs, notMinus}
+use Rattle.rounding.specs.Under.{Under, unit, div-under, in-unit}
+use Rattle.rounding.specs.Sums.{Each}
+use Rattle.rounding.specs.Powers.{Ordered}
+use Rattle.transfer.specs.Job.{Job}
+use Rattle.transfer.specs.Checked.{Checked}
+use Rattle.transfer.specs.Rounded.{ieee}
+use Rattle.transfer.specs.Sweep.{at, forward, backward, propagated, Z, N, answer}
+use Rattle.transfer.specs.Totals.{chunkSize, chunkCount, enumeratedCount, sampledCount, square, fourth, enumerated, sampled}
+use Rattle.bounds.specs.Factors.{checked-notMinus}
+use Rattle.bounds.specs.Steps.{Finite}
+use Rattle.bounds.specs.Sweeps.{forward-beneath, backward-beneath, propagated-le, earlier-finite}
+use Rattle.bounds.specs.Pairs.{N-under-Z, Z-finite}
+use Rattle.bounds.specs.Chunks.{chunked-ordered, chunks-cover, configuration-lt}
+
+-- ---- one job
+module _ (J : Job Float) (checked : Checked (λ x. T (positive x)) J) where
+  pub forward-notMinus : (t j : ℕ) → T (notMinus (at ieee (forward ieee J t) j))
+  forward-notMinus t j = forward-beneath J (checked-notMinus J checked) t j .sign
+
+  pub backward-notMinus : (t j : ℕ) → T (notMinus (at ieee (backward ieee J t) j))
+  backward-notMinus t j = backward-beneath J (checked-notMinus J checked) t j .sign
+
+  pub numerator-under : (u v : ℕ) → u ≤ v → Under (N ieee J u v) (Z ieee J v)
+  numerator-under = N-under-Z J (checked-notMinus J checked)
+
+  -- A finite Z at v has finite forward vectors up to v, and a finite backward vector at v.
+  pub forward-finite : (v t : ℕ) → t ≤ v → T (finite (Z ieee J v)) → Finite (J .window) (forward ieee J t)
+  forward-finite v t l h =
+      let e : t + (v - t) ≡ v = omega arith in
+      earlier-finite J (checked .window) t (v - t) (rw e (λ j b. Z-finite J v h j b .0))
+
+  pub backward-finite : (v : ℕ) → T (finite (Z ieee J v)) → Finite (J .window) (backward ieee J v)
+  backward-finite v h j b = Z-finite J v h j b .1
+
+  -- No entry of a propagated vector exceeds the forward vector's in size, up to the vertex's last pair.
+  pub propagated-bounded : (u v i j : ℕ) → T (positive (Z ieee J v)) → u + i ≤ v → j < 2 ^ J .window
+      → T (le (abs (at ieee (propagated ieee J u i) j)) (at ieee (forward ieee J (u + i)) j))
+  propagated-bounded u v i j p l b =
+      propagated-le J (checked-notMinus J checked) u i j (forward-finite v (u + i) l (positive-finite (Z ieee J v) p) j b)
+
+  pub correlation-under : (u v : ℕ) → T (positive (Z ieee J (max u v))) → Under (answer ieee J u v) unit
+  unfolding answer
+  correlation-under u v p = div-under binary64 (numerator-under (min u v) (max u v) (le-trans (min-le-left u v) (le-max-left u v))) p
+
+  -- An answer lies in [-1, 1].
+  pub correlation-bounded : (u v : ℕ) → T (positive (Z ieee J (max u v)))
+      → T (le (neg unit) (answer ieee J u v)) × T (le (answer ieee J u v) unit)
+  correlation-bounded u v p = in-unit (correlation-under u v p)
+
+-- ---- totals: the fourth powers' is at least zero, at most the squares', and that at most the count
+pub enumerated-bounded : (free : ℕ) (c : ℕ → Float) → free ≤ 53 → Each (2 ^ free) (λ x. Under (c x) unit)
+    → Ordered binary64 (enumerated ieee (fourth ieee) free c) (enumerated ieee (square ieee) free c) (enumeratedCount free)
+unfolding enumerated
+enumerated-bounded free c l h =
+    let fits : chunkCount free * chunkSize free ≤ 2 ^ 53 = rw chunks-cover (pow-mono l) in
+    rw chunks-cover at
+    (chunked-ordered (chunkCount free) (chunkSize free) (λ i j. c (i * chunkSize free + j)) fits
+    (λ i a j b. h (i * chunkSize free + j) (configuration-lt free i j a b)))
+
+-- The count is 0 where there is no chunk.
+pub sampled-bounded : (from to samples : ℕ) (c : ℕ → ℕ → Float) → sampledCount from to samples ≤ 2 ^ 53
+    → ((chunk sample : ℕ) → from ≤ chunk → chunk < to → sample < samples → Under (c chunk sample) unit)
+    → Ordered binary64 (sampled ieee (fourth ieee) from to samples c) (sampled ieee (square ieee) from to samples c)
+    (sampledCount from to samples)
+unfolding sampled
+sampled-bounded from to samples c l h =
+    chunked-ordered (to - from) samples (λ i j. c (from + i) j) l (λ i a j b. h (from + i) j (omega arith) (omega arith) b)
+
+-- ---- totals of one pair's answers: J gives the job of each configuration
+pub record Answerable (J : Job Float) (u v : ℕ) : Type 0 where
+  pub checked : Checked (λ x. T (positive x)) J
+  pub passed : T (positive (Z ieee J (max u v)))
+
+pub enumerated-answers-bounded : (free : ℕ) (J : ℕ → Job Float) (u v : ℕ) → free ≤ 53 → Each (2 ^ free) (λ x. Answerable (J x) u v)
+    → Ordered binary64 (enumerated ieee (fourth ieee) free (λ x. answer ieee (J x) u v))
+    (enumerated ieee (square ieee) free (λ x. answer ieee (J x) u v)) (enumeratedCount free)
+enumerated-answers-bounded free J u v l h =
+    enumerated-bounded free (λ x. answer ieee (J x) u v) l (λ x b. let a = h x b in correlation-under (J x) (a .checked) u v (a .passed))
+
+pub sampled-answers-bounded : (from to samples : ℕ) (J : ℕ → ℕ → Job Float) (u v : ℕ) → sampledCount from to samples ≤ 2 ^ 53
+    → ((chunk sample : ℕ) → from ≤ chunk → chunk < to → sample < samples → Answerable (J chunk sample) u v)
+    → Ordered binary64 (sampled ieee (fourth ieee) from to samples (λ i j. answer ieee (J i j) u v))
+    (sampled ieee (square ieee) from to samples (λ i j. answer ieee (J i j) u v)) (sampledCount from to samples)
+sampled-answers-bounded from to samples J u v l h =
+    sampled-bounded from to samples (λ i j. answer ieee (J i j) u v) l
+    (λ i j a b s. let k = h i j a b s in correlation-under (J i j) (k .checked) u v (k .passed))

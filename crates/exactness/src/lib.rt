@@ -1,0 +1,1 @@
+// Laws only: the definition without rounding is the textbook ratio.

@@ -1,0 +1,5 @@
+pub mod Sign
+pub mod Under
+pub mod Whole
+pub mod Sums
+pub mod Powers

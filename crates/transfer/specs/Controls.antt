@@ -1,0 +1,41 @@
+-- Computed facts that rule out wrong readings which no settled example reaches: the chunks of a total, and the words of a sample.
+use mathlib.Core.Path.{_≡_, refl}
+use mathlib.Core.Bool.{false, cond}
+use Prim.Native.Nat.{ℕ, _+_, _^_}
+use lib.Dec.{eqb}
+use lib.IntN.{pos, negsuc}
+use lib.Ieee.{Float, fin, binary64, round, add, mul, ofBits}
+use Rattle.rng.specs.Xoshiro.{result, next, streamed}
+use Rattle.vector.specs.Bits.{bit}
+use Rattle.transfer.specs.Configuration.{sampledMinus}
+use Rattle.transfer.specs.Totals.{chunkSize, chunkCount, chunked, fourth, sampledCount}
+use Rattle.transfer.specs.Rounded.{ieee}
+
+-- Chunks of 1,024 configurations, or all if fewer.
+pub small-chunk : (chunkSize 3 ≡ 8) × (chunkCount 3 ≡ 1)
+small-chunk = (refl, refl)
+
+pub large-chunks : (chunkSize 12 ≡ 1024) × (chunkCount 12 ≡ 4)
+large-chunks = (refl, refl)
+
+-- 1 in the first of two chunks, 2 ^ -53 twice in the second. Chunk by chunk the second's sum counts; in one run each would be rounded away.
+abbrev terms : ℕ → ℕ → Float
+terms i j = cond (eqb i 1) (fin false 1 (negsuc 52)) (cond (eqb j 0) (fin false 1 (pos 0)) (fin false 0 (pos 0)))
+
+pub chunk-by-chunk : chunked ieee 2 2 terms ≡ round binary64 false (2 ^ 52 + 1) (2 ^ 52)
+unfolding chunked add round
+chunk-by-chunk = refl
+
+-- The fourth power of 0.1 is the square's square, rounded at every product; by three products in a row the last bit is another.
+pub square-of-square : fourth ieee (ofBits binary64 0x3fb9_9999_9999_999a) ≡ ofBits binary64 0x3f1a_36e2_eb1c_4330
+unfolding mul round ofBits
+square-of-square = refl
+
+-- No chunk where the end isn't above the start.
+pub no-chunk : (sampledCount 7 7 100 ≡ 0) × (sampledCount 9 7 100 ≡ 0)
+no-chunk = (refl, refl)
+
+-- 65 kept edges take two words a sample: edge 64 of sample 1 is the lowest bit of the fourth word of the chunk's stream.
+pub fourth-word : sampledMinus 5 65 6 1 64 ≡ bit 0 (result (next (next (next (streamed 5 6)))))
+unfolding sampledMinus
+fourth-word = refl

@@ -1,0 +1,13 @@
+pub mod Arithmetic
+pub mod Job
+pub mod Checked
+pub mod Sweep
+pub mod Room
+pub mod Configuration
+pub mod Totals
+pub mod Rounded
+pub mod Examples
+pub mod Controls
+pub mod Replay
+pub mod Original
+pub mod Compared
