@@ -1,5 +1,13 @@
 // Lists of stored answers, as the replay programs read them: a row of 64-bit words, little-endian, a double as its bits. Every function
 // is total; that it reads what was stored is what the replays show.
+mod hash;
+
+pub use hash::OFFSET;
+pub use hash::mix;
+pub use hash::mix_doubles;
+pub use hash::mix_marks;
+pub use hash::mix_number;
+pub use hash::mix_numbers;
 
 fn wide(x: u8) -> u64 {
     x as u64
@@ -23,10 +31,42 @@ pub fn word(list: &[u8], at: usize) -> u64 {
         | (wide(list[at + 7]) << 56)
 }
 
+// The double of a pattern; 0.0 of a NaN's.
+pub fn float_of(bits: u64) -> f64 {
+    if bits % 0x8000_0000_0000_0000 <= 0x7ff0_0000_0000_0000 {
+        return f64::from_bits(bits);
+    }
+    0.0
+}
+
 // The bits of a double; one pattern for every NaN.
 pub fn bits_of(x: f64) -> u64 {
     if x == x {
         return f64::to_bits(x);
     }
     0x7ff8_0000_0000_0000
+}
+
+// The place some words on; no list of a record is longer than 65,536.
+pub fn at(start: usize, words: usize) -> usize {
+    if 65536 < words {
+        return start;
+    }
+    std::num::wrapping_add_usize(start, words * 8)
+}
+
+pub fn load_numbers(list: &[u8], start: usize, out: &mut [usize]) {
+    let mut i: usize = 0;
+    while i < out.len() {
+        out[i] = word(list, at(start, i)) as usize;
+        i += 1;
+    }
+}
+
+pub fn load_doubles(list: &[u8], start: usize, out: &mut [f64]) {
+    let mut i: usize = 0;
+    while i < out.len() {
+        out[i] = float_of(word(list, at(start, i)));
+        i += 1;
+    }
 }

@@ -1,26 +1,26 @@
--- The settled examples of document 01 that are to be proved: one list, and one statement over it.
-use mathlib.Core.Path.{_≡_, refl}
+-- The settled examples of document 01 that are to be proved: one list of statements, and one statement over it.
+use mathlib.Core.Path.{_≡_, refl, sym}
 use mathlib.Core.Bool.{true, false}
 use mathlib.Core.List.{List, [], _∷_, map}
-use Prim.Native.Nat.{ℕ}
-use lib.Dec.{ltb}
+use Prim.Native.Nat.{ℕ, zero, suc, _<_}
+use native.Mathlib.Omega.{arith}
 use lib.IntN.{pos, negsuc}
 use lib.Ieee.{Float, fin, binary64, round, add, sub, mul, div, neg, lt}
+use lib.ListN.{getD}
+use Rattle.vector.specs.Tabulate.{tabulate}
+use Rattle.forest.specs.Labels.{isTree, labels}
+use Rattle.distance.specs.Walks.{Distance, Walk, Adjacent, along, back}
+use Rattle.distance.specs.declared.Reach.the-variants.{Length}
 use Rattle.transfer.specs.Job.{Edge, Job, Manner, block, perElement, windowOf}
 use Rattle.transfer.specs.Sweep.{answer}
 use Rattle.transfer.specs.Room.{room}
 use Rattle.transfer.specs.Configuration.{configured, enumeratedMinus}
 use Rattle.transfer.specs.Rounded.{ieee}
 
--- An example says what a double is, or what a number is.
-pub data Example : Type 0 where
-  double : (got nearest : Float) → Example
-  number : (got expected : ℕ) → Example
-
-abbrev pub Holds : List Example → Type 0
-Holds [] = Unit
-Holds (double got nearest ∷ es) = (got ≡ nearest) × Holds es
-Holds (number got expected ∷ es) = (got ≡ expected) × Holds es
+-- Every statement of a list holds.
+abbrev pub AllHold : List (Type 0) → Type 0
+AllHold [] = Unit
+AllHold (P ∷ Ps) = P × AllHold Ps
 
 -- The double nearest to top / bottom, and to -top / bottom.
 abbrev nearest : ℕ → ℕ → Float
@@ -52,39 +52,79 @@ job last floor es manner = record { last = last; window = windowOf floor (map (�
 abbrev bond : Float → ℕ → Manner → Job Float
 bond x floor manner = job 1 floor (edge 0 1 x ∷ []) manner
 
+-- The square's kept edges.
+abbrev squareEarly : List ℕ
+squareEarly = 0 ∷ 0 ∷ 1 ∷ 2 ∷ []
+
+abbrev squareLate : List ℕ
+squareLate = 1 ∷ 2 ∷ 3 ∷ 3 ∷ []
+
 -- Square 2 by 2, free: edges 0-1, 0-2, 1-3, 2-3, of which only the last is free; factors 2 and 1/2, block manner, in a configuration.
 abbrev square : ℕ → Job Float
 square configuration =
     job 3 0
-    (configured +0·0 (0 ∷ 0 ∷ 1 ∷ 2 ∷ []) (1 ∷ 2 ∷ 3 ∷ 3 ∷ []) (two ∷ half ∷ two ∷ half ∷ two ∷ half ∷ two ∷ half ∷ []) 0
-    (enumeratedMinus (λ e. ltb e 3) configuration))
+    (configured +0·0 squareEarly squareLate (two ∷ half ∷ two ∷ half ∷ two ∷ half ∷ two ∷ half ∷ []) 0
+    (enumeratedMinus (isTree squareEarly squareLate) configuration))
     block
 
-pub examples : List Example
+pub examples : List (Type 0)
 examples =
-    double (answer ieee (bond two 0 block) 0 1) (nearest 3 5)
-    ∷ double (answer ieee (bond two 0 perElement) 0 1) (nearest 3 5)
-    ∷ number (room 2 (bond two 0 block .window) 1 (0 ∷ []) (1 ∷ [])) 13
+    (answer ieee (bond two 0 block) 0 1 ≡ nearest 3 5)
+    ∷ (answer ieee (bond two 0 perElement) 0 1 ≡ nearest 3 5)
+    ∷ (room 2 (bond two 0 block .window) 1 (0 ∷ []) (1 ∷ []) ≡ 13)
     -- the same with floor 2
-    ∷ double (answer ieee (bond two 2 block) 0 1) (nearest 3 5)
-    ∷ double (answer ieee (bond two 2 perElement) 0 1) (nearest 3 5)
-    ∷ number (room 2 (bond two 2 block .window) 1 (0 ∷ []) (1 ∷ [])) 19
+    ∷ (answer ieee (bond two 2 block) 0 1 ≡ nearest 3 5)
+    ∷ (answer ieee (bond two 2 perElement) 0 1 ≡ nearest 3 5)
+    ∷ (room 2 (bond two 2 block .window) 1 (0 ∷ []) (1 ∷ []) ≡ 19)
     -- factor 1/2, factor 1
-    ∷ double (answer ieee (bond half 0 block) 0 1) (minusNearest 3 5)
-    ∷ double (answer ieee (bond half 0 perElement) 0 1) (minusNearest 3 5)
-    ∷ double (answer ieee (bond one 0 block) 0 1) +0·0
-    ∷ double (answer ieee (bond one 0 perElement) 0 1) +0·0
+    ∷ (answer ieee (bond half 0 block) 0 1 ≡ minusNearest 3 5)
+    ∷ (answer ieee (bond half 0 perElement) 0 1 ≡ minusNearest 3 5)
+    ∷ (answer ieee (bond one 0 block) 0 1 ≡ +0·0)
+    ∷ (answer ieee (bond one 0 perElement) 0 1 ≡ +0·0)
     -- a third vertex without edges
-    ∷ double (answer ieee (job 2 0 (edge 0 1 two ∷ []) block) 0 2) +0·0
-    ∷ double (answer ieee (job 2 0 (edge 0 1 two ∷ []) perElement) 0 2) +0·0
-    -- the square: its window, pair 0-1 and pair 0-3 in configurations 0 and 1
-    ∷ number (square 0 .window) 2
-    ∷ double (answer ieee (square 0) 0 1) (nearest 255 353)
-    ∷ double (answer ieee (square 1) 0 1) (nearest 15 34)
-    ∷ double (answer ieee (square 0) 0 3) (nearest 225 353)
-    ∷ double (answer ieee (square 1) 0 3) +0·0
+    ∷ (answer ieee (job 2 0 (edge 0 1 two ∷ []) block) 0 2 ≡ +0·0)
+    ∷ (answer ieee (job 2 0 (edge 0 1 two ∷ []) perElement) 0 2 ≡ +0·0)
+    -- the square: its window, and that only edge 2-3 is free
+    ∷ (square 0 .window ≡ 2)
+    ∷ (tabulate (isTree squareEarly squareLate) 4 ≡ true ∷ true ∷ true ∷ false ∷ [])
+    -- pair 0-1 and pair 0-3 in configurations 0 and 1, and the distance of 0-3
+    ∷ (answer ieee (square 0) 0 1 ≡ nearest 255 353)
+    ∷ (answer ieee (square 1) 0 1 ≡ nearest 15 34)
+    ∷ (answer ieee (square 0) 0 3 ≡ nearest 225 353)
+    ∷ (answer ieee (square 1) 0 3 ≡ +0·0)
+    ∷ Distance squareEarly squareLate 0 3 (Length 2)
     ∷ []
 
-pub examples-hold : Holds examples
-unfolding examples add sub mul div neg lt round answer room windowOf configured enumeratedMinus
-examples-hold = (refl, (refl, (refl, (refl, (refl, (refl, (refl, (refl, (refl, (refl, (refl, (refl, (refl, (refl, (refl, (refl, (refl, tt)))))))))))))))))
+-- no edge of the square joins 0 and 3
+no-edge : (j : ℕ) → j < 4 → getD squareEarly j 0 ≡ 0 → getD squareLate j 0 ≡ 3 → ⊥
+no-edge zero b p q = omega arith
+no-edge (suc zero) b p q = omega arith
+no-edge (suc (suc zero)) b p q = omega arith
+no-edge (suc (suc (suc zero))) b p q = omega arith
+no-edge (suc (suc (suc (suc j)))) b p q = omega arith
+
+-- no edge starts at 3
+no-start : (j : ℕ) → j < 4 → getD squareEarly j 0 ≡ 3 → ⊥
+no-start zero b q = omega arith
+no-start (suc zero) b q = omega arith
+no-start (suc (suc zero)) b q = omega arith
+no-start (suc (suc (suc zero))) b q = omega arith
+no-start (suc (suc (suc (suc j)))) b q = omega arith
+
+two-apart : Distance squareEarly squareLate 0 3 (Length 2)
+unfolding Walk
+two-apart = ((2, (0, refl, along 1 (omega arith)), along 3 (omega arith)), shorter)
+  where
+    adjacent : (u v : ℕ) → u ≡ 0 → v ≡ 3 → Adjacent squareEarly squareLate u v → ⊥
+    adjacent u v p q (along j b) = no-edge j b p q
+    adjacent u v p q (back j b) = no-start j b q
+
+    shorter : (j : ℕ) → j < 2 → Walk squareEarly squareLate j 0 3 → ⊥
+    shorter zero b w = omega arith
+    shorter (suc zero) b w = adjacent (w .0) 3 (sym (w .1)) refl (w .2)
+    shorter (suc (suc j)) b w = omega arith
+
+pub examples-hold : AllHold examples
+unfolding examples add sub mul div neg lt round answer room windowOf configured enumeratedMinus isTree labels tabulate
+examples-hold =
+    (refl, (refl, (refl, (refl, (refl, (refl, (refl, (refl, (refl, (refl, (refl, (refl, (refl, (refl, (refl, (refl, (refl, (refl, (two-apart, tt)))))))))))))))))))

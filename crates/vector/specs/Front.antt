@@ -1,10 +1,10 @@
 -- A buffer with a list written to its front: what lies past the list stays.
 use mathlib.Core.Path.{_≡_, sym, _∙_, ap}
 use mathlib.Core.List.{List, [], _∷_, _++_}
-use Prim.Native.Nat.{ℕ, suc, _≤_, _<_}
+use Prim.Native.Nat.{ℕ, suc, _+_, _-_, _≤_, _<_}
 use native.Mathlib.Omega.{arith}
-use lib.ListN.{length, drop, getD, set, length-append, length-drop}
-use lib.Seq.{drop-cons, set-at, append-snoc}
+use lib.ListN.{length, drop, getD, set, length-append, length-drop, List·getD-append}
+use lib.Seq.{drop-cons, drop-at, set-at, append-snoc, getD-append-add, getD-drop}
 
 module _ {A : Type 0} where
   abbrev pub over : List A → List A → List A
@@ -24,3 +24,21 @@ module _ {A : Type 0} where
       ∙ set-at front (getD buffer (length front) x) rest x i (sym e)
       ∙ sym (append-snoc front x rest)
       ∙ ap (λ (k : ℕ). (front ++ (x ∷ [])) ++ drop k buffer) (sym l)
+
+  -- behind the front the buffer is as it was
+  pub over-behind : (front buffer : List A) (i : ℕ) (z : A) → length front ≤ i → getD (over front buffer) i z ≡ getD buffer i z
+  over-behind front buffer i z h =
+      let e : length front + (i - length front) ≡ i = omega arith in
+      ap (λ (j : ℕ). getD (over front buffer) j z) (sym e)
+      ∙ getD-append-add front (drop (length front) buffer) (i - length front) z
+      ∙ getD-drop (length front) buffer (i - length front) z
+      ∙ ap (λ (j : ℕ). getD buffer j z) e
+
+  -- a front as long as the one before it takes its place
+  pub over-over : (front before buffer : List A) → length front ≡ length before → over front (over before buffer) ≡ over front buffer
+  over-over front before buffer e =
+      ap (λ (l : List A). front ++ l) (drop-at before (drop (length before) buffer) (length front) (sym e) ∙ ap (λ (j : ℕ). drop j buffer) (sym e))
+
+  -- at the front it is the front
+  pub over-front : (front buffer : List A) (i : ℕ) (z : A) → i < length front → getD (over front buffer) i z ≡ getD front i z
+  over-front front buffer i z h = List·getD-append front (drop (length front) buffer) z i h

@@ -26,6 +26,12 @@ unfolding most
 most-least f zero k h = omega arith
 most-least f (suc n) k h = max-le (most-least f n k (λ i l. h i (omega arith))) (h n (omega arith))
 
+-- rules that agree below n
+pub most-ext : (f g : ℕ → ℕ) (n : ℕ) → ((i : ℕ) → i < n → f i ≡ g i) → most f n ≡ most g n
+unfolding most
+most-ext f g zero h = refl
+most-ext f g (suc n) h = rw (most-ext f g n (λ i l. h i (omega arith)), h n (omega arith))
+
 -- one more, as a loop takes it
 pub most-more : (f : ℕ → ℕ) (i x y : ℕ) → x ≡ most f i → y ≡ max x (f i) → y ≡ most f (i + 1)
 unfolding most

@@ -6,7 +6,11 @@ use std::process::Command;
 #[test]
 fn the_stored_lists_are_the_originals_answers() {
     let crates = Path::new(env!("CARGO_MANIFEST_DIR")).join("../../crates");
-    for (list, place) in [("generators", "replay_rng/data/generators.bin"), ("sweeps", "transfer/specs/Original.antt")] {
+    for (list, place) in [
+        ("generators", "replay_rng/data/generators.bin"),
+        ("graphs", "replay_lattice/data/graphs.bin"),
+        ("sweeps", "transfer/specs/Original.antt"),
+    ] {
         let made = Command::new(env!("CARGO_BIN_EXE_answers")).arg(list).output().expect("answers runs");
         assert!(made.status.success(), "answers {list}: {}", String::from_utf8_lossy(&made.stderr));
         let stored = std::fs::read(crates.join(place)).unwrap_or_else(|e| panic!("{place}: {e}"));

@@ -1,0 +1,41 @@
+-- The first check that fits, as code finds it: past those that do not, and here at the one that does. And what it means that none fits.
+use mathlib.Core.Path.{_≡_, refl, sym, _∙_}
+use mathlib.Core.Bool.{Bool, true, false, cond, _&&_}
+use mathlib.Core.List.{List, [], _∷_}
+use Prim.Native.Nat.{ℕ, _<_}
+use native.Mathlib.Omega.{arith}
+use Rattle.checks.specs.Request.{Request}
+use Rattle.checks.specs.Refusal.{Check, checks, among, first}
+
+pub here : (t : Bool) (k rest : ℕ) → t ≡ true → k ≡ cond t k rest
+here t k rest e = rw e
+
+pub past : (t : Bool) (k r rest : ℕ) → t ≡ false → r ≡ rest → r ≡ cond t k rest
+past t k r rest e h = rw e h
+
+-- what a function answered of the test that it answers
+pub told : {r t b : Bool} → r ≡ t → r ≡ b → t ≡ b
+told p q = sym p ∙ q
+
+-- no check that concerns the call fits
+abbrev pub Passed : List Check → List ℕ → Request → Type 0
+Passed [] concerned r = Unit
+Passed (c ∷ cs) concerned r = ((among concerned (c .number) && c .fits r) ≡ false) × Passed cs concerned r
+
+-- no check has the number 0
+abbrev pub Numbered : List Check → Type 0
+Numbered [] = Unit
+Numbered (c ∷ cs) = (0 < c .number) × Numbered cs
+
+pub passed : (cs : List Check) (concerned : List ℕ) (r : Request) → Numbered cs → first cs concerned r ≡ 0 → Passed cs concerned r
+passed [] concerned r numbered h = tt
+passed (c ∷ cs) concerned r numbered h =
+    let p = go (among concerned (c .number) && c .fits r) (numbered .0) h in
+    (p .0, passed cs concerned r (numbered .1) (p .1))
+  where
+    go : (t : Bool) {k rest : ℕ} → 0 < k → cond t k rest ≡ 0 → (t ≡ false) × (rest ≡ 0)
+    go true p h = absurd (omega arith)
+    go false p h = (refl, h)
+
+pub checks-numbered : Numbered checks
+checks-numbered = (omega arith, (omega arith, (omega arith, (omega arith, (omega arith, (omega arith, (omega arith, tt)))))))

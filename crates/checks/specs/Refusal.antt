@@ -1,0 +1,46 @@
+-- The checks in checking order, as one list: a call applies those that concern it, and the first that fits is answered alone.
+use mathlib.Core.Bool.{Bool, false, cond, _||_, _&&_}
+use mathlib.Core.List.{List, [], _∷_}
+use Prim.Native.Nat.{ℕ}
+use lib.Dec.{eqb}
+use Rattle.checks.specs.Request.{Request, badVertices, badLists, badEdges, badMagnitudes, parallelEdges, badPairs}
+
+pub record Check : Type 0 where
+  pub number : ℕ
+  pub fits : Request → Bool
+
+abbrev pub check : ℕ → (Request → Bool) → Check
+check k test = record { number = k; fits = test }
+
+abbrev pub checks : List Check
+checks =
+    check 1 badVertices
+    ∷ check 2 badLists
+    ∷ check 3 badEdges
+    ∷ check 4 badMagnitudes
+    ∷ check 5 parallelEdges
+    ∷ check 8 badPairs
+    ∷ check 12 (λ r. r .misfit)
+    ∷ []
+
+abbrev pub among : List ℕ → ℕ → Bool
+among [] k = false
+among (c ∷ cs) k = eqb c k || among cs k
+
+-- The number of the first check that concerns the call and fits; 0 where none does.
+abbrev pub first : List Check → List ℕ → Request → ℕ
+first [] concerned r = 0
+first (c ∷ cs) concerned r = cond (among concerned (c .number) && c .fits r) (c .number) (first cs concerned r)
+
+abbrev pub refusal : List ℕ → Request → ℕ
+refusal concerned r = first checks concerned r
+
+-- ---- which checks concern which call
+abbrev pub ofGraph : List ℕ
+ofGraph = 1 ∷ 2 ∷ 3 ∷ 4 ∷ 5 ∷ []
+
+abbrev pub ofGraphWithBuffers : List ℕ
+ofGraphWithBuffers = 1 ∷ 2 ∷ 3 ∷ 4 ∷ 5 ∷ 12 ∷ []
+
+abbrev pub ofDistance : List ℕ
+ofDistance = 1 ∷ 2 ∷ 3 ∷ 4 ∷ 5 ∷ 8 ∷ []

@@ -1,0 +1,100 @@
+-- A root takes another root as its parent: the vertices below it take that root. This is what `union` does after two calls of `find`.
+use mathlib.Core.Path.{_≡_, refl, sym, ap, _∙_}
+use mathlib.Core.Bool.{true, false, cond}
+use mathlib.Core.List.{List}
+use Prim.Native.Nat.{ℕ, zero, suc, _<_}
+use native.Mathlib.Decide.{ℕ-discrete}
+use lib.Dec.{eqb}
+use lib.ListN.{length, set, length-set}
+use borrow.Author.Tests.{eq-eqb, ne-eqb}
+use Rattle.forest.specs.Labels.{merge-same}
+use Rattle.forest.specs.Forest.{parent, climb, links, root, Forest, Kept, Found, Merged}
+use Rattle.forest.proofs.Climb.{Own, climb-more, climb-own}
+use Rattle.forest.proofs.Store.{at-x, at-other, set-inside, links-one}
+use Rattle.forest.proofs.Halve.{kept-trans}
+
+module _ (p : List ℕ) (a b : ℕ) (a< : a < length p) (oa : Own p a) (ob : Own p b) (n : b ≡ a → ⊥) where
+  hung-own : (r : ℕ) → (r ≡ a → ⊥) → Own p r → Own (set p a b) r
+  hung-own r m h = at-other p a b r m ∙ h
+
+  hung-other : (k v : ℕ) → (climb p k v ≡ a → ⊥) → climb (set p a b) k v ≡ climb p k v
+  unfolding climb
+  hung-other zero v m = refl
+  hung-other (suc k) v m =
+      let no : v ≡ a → ⊥ = λ e. m (ap (λ (y : ℕ). climb p k (parent p y)) e ∙ climb-own p (suc k) a oa) in
+      ap (climb (set p a b) k) (at-other p a b v no) ∙ hung-other k (parent p v) m
+
+  hung-same : (k v : ℕ) → climb p k v ≡ a → climb (set p a b) (suc k) v ≡ b
+  unfolding climb
+  hung-same zero v e = ap (parent (set p a b)) e ∙ at-x p a b a<
+  hung-same (suc k) v e = go (hung-same k (parent p v) e) (ℕ-discrete v a)
+    where
+      q : List ℕ
+      q = set p a b
+
+      go : climb q (suc k) (parent p v) ≡ b → Dec (v ≡ a) → climb q (suc k) (parent q v) ≡ b
+      go ih (yes d) = ap (climb q (suc k)) (ap (parent q) d ∙ at-x p a b a<) ∙ climb-own q (suc k) b (hung-own b n ob)
+      go ih (no d) = ap (climb q (suc k)) (at-other p a b v d) ∙ ih
+
+  module _ (F : Forest p) (b< : b < length p) where
+    hung-root : (v : ℕ) → v < length p → root (set p a b) v ≡ cond (eqb (root p v) a) b (root p v)
+    unfolding root
+    hung-root v h = rw (links-one p a b a< oa n) (go (ℕ-discrete r a))
+      where
+        r : ℕ
+        r = climb p (links 0 p) v
+
+        go : Dec (r ≡ a) → climb (set p a b) (suc (links 0 p)) v ≡ cond (eqb r a) b r
+        go (yes e) = rw (eq-eqb _ _ e) (hung-same (links 0 p) v e)
+        go (no m) =
+            let s : climb (set p a b) (links 0 p) v ≡ r = hung-other (links 0 p) v m in
+            rw (ne-eqb _ _ m) (climb-more (set p a b) (links 0 p) v (rw s (hung-own r m (F .settles v h))) ∙ s)
+
+    hung-settles : (v : ℕ) → v < length p → Own (set p a b) (root (set p a b) v)
+    hung-settles v h = rw (hung-root v h) (go (ℕ-discrete (root p v) a))
+      where
+        go : Dec (root p v ≡ a) → Own (set p a b) (cond (eqb (root p v) a) b (root p v))
+        go (yes e) = rw (eq-eqb _ _ e) (hung-own b n ob)
+        go (no m) = rw (ne-eqb _ _ m) (hung-own (root p v) m (F .settles v h))
+
+    hung-forest : Forest (set p a b)
+    hung-forest =
+        record {
+          inside = set-inside p a b a< (F .inside) b<;
+          settles = λ v h. hung-settles v (rw (length-set p a b) at h);
+        }
+
+module _ {p q s : List ℕ} {a b ra rb : ℕ} (a< : a < length p) (b< : b < length p) (A : Found p a ra q) (B : Found q b rb s) where
+  both : Kept p s
+  both = kept-trans (A .kept) (B .kept)
+
+  is-b : rb ≡ root p b
+  is-b = B .is ∙ A .kept .same b b<
+
+  own-a : Own s ra
+  own-a =
+      let e : root s a ≡ ra = both .same a a< ∙ sym (A .is) in
+      rw e at (both .forest .settles a (rw (both .len) a<))
+
+  pub one-set : ra ≡ rb → Merged p a b false s
+  one-set e =
+      let ab : root p a ≡ root p b = sym (A .is) ∙ e ∙ is-b in
+      record {
+        len = both .len;
+        forest = both .forest;
+        roots = λ v h. both .same v h ∙ sym (merge-same (root p) a b ab v);
+        is = rw (eq-eqb (root p a) (root p b) ab);
+      }
+
+  pub two-sets : (ra ≡ rb → ⊥) → Merged p a b true (set s ra rb)
+  two-sets n =
+      let ra< : ra < length s = rw (both .len) (A .inside) in
+      let rb< : rb < length s = rw (B .kept .len) (B .inside) in
+      let m : rb ≡ ra → ⊥ = λ e. n (sym e) in
+      record {
+        len = length-set s ra rb ∙ both .len;
+        forest = hung-forest s ra rb ra< own-a (B .own) m (both .forest) rb<;
+        roots = λ v h.
+            hung-root s ra rb ra< own-a (B .own) m (both .forest) rb< v (rw (both .len) h) ∙ rw (both .same v h, A .is, is-b);
+        is = rw (ne-eqb (root p a) (root p b) (λ e. n (A .is ∙ e ∙ sym is-b)));
+      }

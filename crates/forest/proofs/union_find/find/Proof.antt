@@ -1,0 +1,65 @@
+-- The climb keeps every root and the root of where it stands; it ends since each turn stands less deep.
+use mathlib.Core.Path.{refl}
+use native.Mathlib.Omega.{arith}
+use Rattle.forest.specs.Forest.{links}
+use Rattle.forest.proofs.Halve.{Climbing, kept-refl, shallower, parent-inside, turn, ends}
+use Rattle.forest.proofs.Climb.{depth}
+use Rattle.forest.proofs.union_find.find.Statement.{statement}
+use Rattle.forest.proofs.union_find.find.Tie as tie
+
+abbrev Inv-loop : tie.InvT-loop
+Inv-loop p₀ vertex x₀ p x = Climbing p₀ vertex p x
+
+abbrev μ-loop : tie.MeasureT-loop
+μ-loop p₀ vertex x₀ p x = depth p (links 0 p) x
+
+loop-holds : tie.Need-loop-holds Inv-loop μ-loop
+loop-holds c = record { kept = kept-refl (c .pre .0); below = c .pre .1; same = refl }
+
+mul-y : tie.Need-mul-y Inv-loop μ-loop
+mul-y c = omega arith
+
+slice-read-y : tie.Need-slice-read-y Inv-loop μ-loop
+slice-read-y c = omega arith
+
+mul-z : tie.Need-mul-z Inv-loop μ-loop
+mul-z c = omega (arith, parent-inside (c .before .before .loop .inv))
+
+slice-read-z : tie.Need-slice-read-z Inv-loop μ-loop
+slice-read-z c = parent-inside (c .before .before .before .loop .inv)
+
+mul-p : tie.Need-mul-p Inv-loop μ-loop
+mul-p c = omega arith
+
+slice-write-p : tie.Need-slice-write-p Inv-loop μ-loop
+slice-write-p c = omega arith
+
+loop-again : tie.Need-loop-again Inv-loop μ-loop
+loop-again c = turn (c .before .before .before .loop .inv) (c .before .if1 .left)
+
+loop-less : tie.Need-loop-less Inv-loop μ-loop
+loop-less c = let I = c .before .before .before .loop .inv in shallower _ (I .kept .forest) _ (I .below) (c .before .if1 .left)
+
+same-length : tie.Need-same-length Inv-loop μ-loop
+same-length c = c .before .before .loop .inv .kept .len
+
+returns : tie.Need-returns Inv-loop μ-loop
+returns c = ends (c .before .before .loop .inv) (c .if1 .taken)
+
+pub find-spec : {M : Type 1} → statement M
+find-spec =
+    tie.close
+    (tie.spec
+    Inv-loop
+    μ-loop
+    loop-holds
+    mul-y
+    slice-read-y
+    mul-z
+    slice-read-z
+    mul-p
+    slice-write-p
+    loop-less
+    loop-again
+    same-length
+    returns)

@@ -1,0 +1,53 @@
+-- The list is filled from the front, each vertex with itself.
+use mathlib.Core.Path.{refl}
+use Prim.Native.Nat.{_-_}
+use native.Mathlib.Omega.{arith}
+use lib.ListN.{length}
+use Rattle.forest.proofs.Filled.{Filled, filled-none, filled-more}
+use Rattle.forest.proofs.union_find.start.Statement.{statement}
+use Rattle.forest.proofs.union_find.start.Tie as tie
+
+abbrev Inv-loop : tie.InvT-loop
+Inv-loop p₀ i₀ p i = Filled 0 (λ v. v) (length p₀) i p
+
+abbrev μ-loop : tie.MeasureT-loop
+μ-loop p₀ i₀ p i = length p₀ - i
+
+loop-holds : tie.Need-loop-holds Inv-loop μ-loop
+loop-holds c = filled-none _ refl
+
+mul-p : tie.Need-mul-p Inv-loop μ-loop
+mul-p c = omega arith
+
+slice-write-p : tie.Need-slice-write-p Inv-loop μ-loop
+slice-write-p c = omega arith
+
+add-i : tie.Need-add-i Inv-loop μ-loop
+add-i c = omega arith
+
+loop-less : tie.Need-loop-less Inv-loop μ-loop
+loop-less c = omega arith
+
+loop-again : tie.Need-loop-again Inv-loop μ-loop
+loop-again c = filled-more (c .before .loop .inv) (omega arith) refl
+
+same-length : tie.Need-same-length Inv-loop μ-loop
+same-length c = omega arith
+
+returns : tie.Need-returns Inv-loop μ-loop
+returns c = λ v h. c .before .loop .inv .front v (omega arith)
+
+pub start-spec : {M : Type 1} → statement M
+start-spec =
+    tie.close
+    (tie.spec
+    Inv-loop
+    μ-loop
+    loop-holds
+    mul-p
+    slice-write-p
+    add-i
+    loop-less
+    loop-again
+    same-length
+    returns)

@@ -1,0 +1,48 @@
+-- Two calls of `find`: where the roots are one, nothing is left to do, and else one is hung below the other.
+use borrow.Author.Needs.{needs}
+use Rattle.forest.proofs.Hang.{one-set, two-sets}
+use Rattle.forest.proofs.union_find.union.Statement.{statement}
+use Rattle.forest.proofs.union_find.union.Tie as tie
+
+find-requires : tie.Need-find-requires
+find-requires c κs = search needs
+
+find-requires-2 : tie.Need-find-requires-2
+find-requires-2 c κs = search needs
+
+same-length : tie.Need-same-length
+same-length c = search needs
+
+returns : tie.Need-returns
+returns c =
+    let s = c .before .before .before .before .before .before .before .before .before .before in
+    let f = c .before .before .before in
+    one-set (s .pre .1) (s .pre .2) (f .before .before .before .before .find .ensures) (f .find2 .ensures) (c .if1 .taken)
+
+mul-p : tie.Need-mul-p
+mul-p c = search needs
+
+slice-write-p : tie.Need-slice-write-p
+slice-write-p c = search needs
+
+returns-2 : tie.Need-returns-2
+returns-2 c =
+    let s = c .before .before .before .before .before .before .before .before .before .before in
+    let f = c .before .before .before in
+    two-sets (s .pre .1) (s .pre .2) (f .before .before .before .before .find .ensures) (f .find2 .ensures) (c .if1 .left)
+
+same-length-2 : tie.Need-same-length-2
+same-length-2 c = returns-2 c .len
+
+pub union-spec : {M : Type 1} → statement M
+union-spec =
+    tie.close
+    (tie.spec
+    find-requires
+    find-requires-2
+    same-length
+    returns
+    mul-p
+    slice-write-p
+    same-length-2
+    returns-2)

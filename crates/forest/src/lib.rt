@@ -1,0 +1,82 @@
+// Spanning forest, components and the number of free edges of a graph with the vertices 0 to n - 1.
+// Its kept edges come as two lists of ends, the smaller ends first: edge e joins early[e] and late[e].
+ghost use mathlib.Core.Path.{_≡_};
+ghost use mathlib.Core.Bool.{not};
+ghost use Prim.Native.Nat.{_+_, _-_, _≤_};
+ghost use lib.ListN.{length};
+ghost use Rattle.vector.specs.Count.{count};
+ghost use Rattle.vector.specs.Tabulate.{tabulate};
+ghost use Rattle.forest.specs.Paths.{Edges, Spans};
+ghost use Rattle.forest.specs.Labels.{labels, isTree};
+ghost use Rattle.forest.specs.Components.{componentCount};
+
+mod union_find;
+
+use union_find::find;
+use union_find::start;
+use union_find::union;
+
+// Marks the tree edges: those whose ends no path of earlier edges joins.
+pub fn spanning_forest(n: usize, early: &[usize], late: &[usize], tree: &mut [bool])
+    requires { ⌜ Edges n (now early) (now late) × (n ≤ 1024) × (length (now tree) ≡ length (now early)) ⌝ }
+    ensures { λ _. ⌜ now (tree .exit) ≡ tabulate (isTree (now (early .entry)) (now (late .entry))) (length (now (early .entry))) ⌝ }
+    ensures { λ _. ⌜ Spans (now (early .entry)) (now (late .entry)) (now (tree .exit)) ⌝ }
+{
+    let mut parents = [0usize; 1024];
+    let p = &mut parents[..n];
+    start(p);
+    let mut e: usize = 0;
+    while e < early.len() {
+        tree[e] = union(p, early[e], late[e]);
+        e += 1;
+    }
+}
+
+// The number of each vertex's component: the root above the vertex when all edges have joined their ends.
+pub fn components(n: usize, early: &[usize], late: &[usize], out: &mut [usize])
+    requires { ⌜ Edges n (now early) (now late) × (n ≤ 1024) × (length (now out) ≡ n) ⌝ }
+    ensures { λ _. ⌜ now (out .exit) ≡ tabulate (labels (now (early .entry)) (now (late .entry)) (length (now (early .entry)))) n ⌝ }
+{
+    let mut parents = [0usize; 1024];
+    let p = &mut parents[..n];
+    start(p);
+    let mut e: usize = 0;
+    while e < early.len() {
+        union(p, early[e], late[e]);
+        e += 1;
+    }
+    let mut v: usize = 0;
+    while v < n {
+        out[v] = find(p, v);
+        v += 1;
+    }
+}
+
+// How many components there are: a vertex whose number is its own counts for its component.
+pub fn n_components(n: usize, early: &[usize], late: &[usize]) -> usize
+    requires { ⌜ Edges n (now early) (now late) × (n ≤ 1024) ⌝ }
+    ensures { λ r. ⌜ r ≡ componentCount n (now (early .entry)) (now (late .entry)) ⌝ }
+{
+    let mut numbers = [0usize; 1024];
+    let c = &mut numbers[..n];
+    components(n, early, late, c);
+    let mut k: usize = 0;
+    let mut v: usize = 0;
+    while v < n {
+        let own = c[v] == v;
+        v += 1;
+        if own {
+            k += 1;
+        }
+    }
+    k
+}
+
+// The number of independent cycles, which is the number of free edges: those that are no tree edges.
+pub fn cyclomatic(n: usize, early: &[usize], late: &[usize]) -> usize
+    requires { ⌜ Edges n (now early) (now late) × (n ≤ 1024) ⌝ }
+    ensures { λ r. ⌜ r ≡ length (now (early .entry)) + componentCount n (now (early .entry)) (now (late .entry)) - n ⌝ }
+    ensures { λ r. ⌜ r ≡ count (λ e. not (isTree (now (early .entry)) (now (late .entry)) e)) (length (now (early .entry))) ⌝ }
+{
+    early.len() + n_components(n, early, late) - n
+}

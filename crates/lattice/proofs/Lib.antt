@@ -1,0 +1,5 @@
+mod Keeping
+mod Chaining
+mod Building
+mod Setting
+mod Turning

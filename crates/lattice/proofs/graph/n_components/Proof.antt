@@ -1,0 +1,56 @@
+-- The kept edges stand at the fronts of the lists, if the graph is accepted.
+use Rattle.forest.specs.Components.{componentCount}
+use Rattle.lattice.proofs.Building.{early-fits, late-fits, early-part, late-part, edges-fronts, is-accepted, of-kept}
+use Rattle.checks.specs.Answers.{refused-is, number-is}
+use borrow.Author.Needs.{needs}
+use Rattle.lattice.proofs.graph.n_components.Statement.{statement}
+use Rattle.lattice.proofs.graph.n_components.Tie as tie
+
+slice-aggregate-build : tie.Need-slice-aggregate-build
+slice-aggregate-build c = search needs
+
+slice-aggregate-build-2 : tie.Need-slice-aggregate-build-2
+slice-aggregate-build-2 c = search needs
+
+slice-aggregate-build-3 : tie.Need-slice-aggregate-build-3
+slice-aggregate-build-3 c = search needs
+
+build-requires : tie.Need-build-requires
+build-requires c κs = search needs
+
+returns : tie.Need-returns
+returns c = refused-is _ _ _ (c .before .before .before .before .build .ensures .refusal) (c .if1 .taken)
+
+array-share-prefix-early : tie.Need-array-share-prefix-early
+array-share-prefix-early c = early-fits (c .before .before .before .before .build .ensures .written (c .if1 .left))
+
+slice-aggregate-n-components : tie.Need-slice-aggregate-n-components
+slice-aggregate-n-components c = early-part (c .before .before .before .before .before .build .ensures .written (c .before .if1 .left))
+
+array-share-prefix-late : tie.Need-array-share-prefix-late
+array-share-prefix-late c = late-fits (c .before .before .before .before .before .build .ensures .written (c .before .if1 .left))
+
+slice-aggregate-n-components-2 : tie.Need-slice-aggregate-n-components-2
+slice-aggregate-n-components-2 c = late-part (c .before .before .before .before .before .before .build .ensures .written (c .before .before .if1 .left))
+
+n-components-requires : tie.Need-n-components-requires
+n-components-requires c κs = (edges-fronts (c .before .before .before .before .before .before .build .ensures) (c .before .before .if1 .left), is-accepted (c .before .before .before .before .before .before .build .ensures) (c .before .before .if1 .left) .few-vertices)
+
+returns-2 : tie.Need-returns-2
+returns-2 c = number-is _ _ _ _ (c .before .before .before .before .before .before .before .build .ensures .refusal) (c .before .before .before .if1 .left) (of-kept (c .before .before .before .before .before .before .before .build .ensures .written (c .before .before .before .if1 .left)) (componentCount (c .before .before .before .before .before .before .before .before .before .before .before .before .before .before .args .n)) (c .n-components .ensures))
+
+pub n-components-spec : {M : Type 1} → statement M
+n-components-spec =
+    tie.close
+    (tie.spec
+    slice-aggregate-build
+    slice-aggregate-build-2
+    slice-aggregate-build-3
+    build-requires
+    returns
+    array-share-prefix-early
+    slice-aggregate-n-components
+    array-share-prefix-late
+    slice-aggregate-n-components-2
+    n-components-requires
+    returns-2)

@@ -1,0 +1,95 @@
+-- The edges before e are turned, the others as they were.
+use Rattle.lattice.proofs.Turning.{Turning, turning-none, turning-more, turning-all, early-waits, late-waits}
+use Prim.Native.Nat.{_-_}
+use native.Mathlib.Omega.{arith}
+use Rattle.lattice.proofs.graph.turn.Statement.{statement}
+use Rattle.lattice.proofs.graph.turn.Tie as tie
+
+abbrev Inv-loop : tie.InvT-loop
+Inv-loop n edges early₀ late₀ e₀ early late e = Turning n edges early₀ early late₀ late e
+
+abbrev μ-loop : tie.MeasureT-loop
+μ-loop n edges early₀ late₀ e₀ early late e = edges - e
+
+loop-holds : tie.Need-loop-holds Inv-loop μ-loop
+loop-holds c = turning-none _ _ _ _
+
+mul-x : tie.Need-mul-x Inv-loop μ-loop
+mul-x c = omega arith
+
+slice-read-x : tie.Need-slice-read-x Inv-loop μ-loop
+slice-read-x c = omega arith
+
+mul-y : tie.Need-mul-y Inv-loop μ-loop
+mul-y c = omega arith
+
+slice-read-y : tie.Need-slice-read-y Inv-loop μ-loop
+slice-read-y c = omega arith
+
+sub-early : tie.Need-sub-early Inv-loop μ-loop
+sub-early c = omega (arith, c .before .before .before .before .pre .1 (c .before .before .before .loop .e) (omega arith) .0, c .before .before .before .before .pre .1 (c .before .before .before .loop .e) (omega arith) .1, early-waits (c .before .before .before .loop .inv), late-waits (c .before .before .before .loop .inv))
+
+sub-early-2 : tie.Need-sub-early-2 Inv-loop μ-loop
+sub-early-2 c = omega (arith, c .before .before .before .before .pre .1 (c .before .before .before .loop .e) (omega arith) .0, c .before .before .before .before .pre .1 (c .before .before .before .loop .e) (omega arith) .1, early-waits (c .before .before .before .loop .inv), late-waits (c .before .before .before .loop .inv))
+
+mul-early : tie.Need-mul-early Inv-loop μ-loop
+mul-early c = omega arith
+
+slice-write-early : tie.Need-slice-write-early Inv-loop μ-loop
+slice-write-early c = omega arith
+
+sub-late : tie.Need-sub-late Inv-loop μ-loop
+sub-late c = omega (arith, c .before .before .before .before .pre .1 (c .before .before .before .loop .e) (omega arith) .0, c .before .before .before .before .pre .1 (c .before .before .before .loop .e) (omega arith) .1, early-waits (c .before .before .before .loop .inv), late-waits (c .before .before .before .loop .inv))
+
+sub-late-2 : tie.Need-sub-late-2 Inv-loop μ-loop
+sub-late-2 c = omega (arith, c .before .before .before .before .pre .1 (c .before .before .before .loop .e) (omega arith) .0, c .before .before .before .before .pre .1 (c .before .before .before .loop .e) (omega arith) .1, early-waits (c .before .before .before .loop .inv), late-waits (c .before .before .before .loop .inv))
+
+mul-late : tie.Need-mul-late Inv-loop μ-loop
+mul-late c = omega arith
+
+slice-write-late : tie.Need-slice-write-late Inv-loop μ-loop
+slice-write-late c = omega arith
+
+add-e : tie.Need-add-e Inv-loop μ-loop
+add-e c = omega arith
+
+loop-less : tie.Need-loop-less Inv-loop μ-loop
+loop-less c = omega arith
+
+loop-again : tie.Need-loop-again Inv-loop μ-loop
+loop-again c = turning-more (c .before .before .before .loop .inv) (omega arith) (omega arith) (omega arith)
+
+same-length : tie.Need-same-length Inv-loop μ-loop
+same-length c = omega arith
+
+same-length-2 : tie.Need-same-length-2 Inv-loop μ-loop
+same-length-2 c = omega arith
+
+returns : tie.Need-returns Inv-loop μ-loop
+returns c = turning-all (c .before .loop .inv) (c .loop-test .left)
+
+pub turn-spec : {M : Type 1} → statement M
+turn-spec =
+    tie.close
+    (tie.spec
+    Inv-loop
+    μ-loop
+    loop-holds
+    mul-x
+    slice-read-x
+    mul-y
+    slice-read-y
+    sub-early
+    sub-early-2
+    mul-early
+    slice-write-early
+    sub-late
+    sub-late-2
+    mul-late
+    slice-write-late
+    add-e
+    loop-less
+    loop-again
+    same-length
+    same-length-2
+    returns)

@@ -1,0 +1,71 @@
+-- What the entries answer.
+use mathlib.Core.Path.{_≡_}
+use mathlib.Core.Bool.{Bool, not, _||_}
+use mathlib.Core.List.{List, map}
+use Prim.Native.Nat.{ℕ, zero, suc, _-_}
+use lib.Dec.{ltb}
+use lib.Ieee.{Float}
+use lib.ListN.{length, getD}
+use Rattle.vector.specs.Count.{count}
+use Rattle.vector.specs.Tabulate.{tabulate}
+use Rattle.forest.specs.Labels.{isTree, labels}
+use Rattle.lattice.specs.declared.graph.Graph.{Graph}
+use Rattle.lattice.specs.declared.graph.Made.{Made}
+use Rattle.lattice.specs.declared.graph.Made.the-variants.{Kept, Refused}
+use Rattle.lattice.specs.declared.graph.Reached.{Reached}
+use Rattle.lattice.specs.declared.graph.Reached.the-variants as Reached
+use Rattle.lattice.specs.declared.graph.Reached.the-variants.{Length, NotJoined}
+use Rattle.distance.specs.Walks.{Distance}
+use Rattle.distance.specs.declared.Reach.the-variants as Reach
+use Rattle.transfer.specs.Job.{windowOf}
+use Rattle.checks.specs.Edges as Edges
+use Rattle.checks.specs.Edges.{earlyEnds, lateEnds, magnitudes}
+use Rattle.checks.specs.Answers.{left}
+use Rattle.vector.specs.Front.{over}
+
+-- k edges do not fit into three buffers
+abbrev pub tooShort : ℕ → List ℕ → List ℕ → List Float → Bool
+tooShort k early late mag = ltb (length early) k || ltb (length late) k || ltb (length mag) k
+
+-- the graph of some kept edges, or the refusal
+abbrev pub made : ℕ → Graph → Made
+made zero g = Kept g
+made (suc k) g = Refused (suc k)
+
+-- how many of the kept edges are free: not tree edges
+unfoldable pub freeCount : List ℕ → List ℕ → ℕ
+freeCount early late = count (λ e. not (isTree early late e)) (length early)
+
+-- for each kept edge, whether it is a tree edge
+unfoldable pub treeMarks : List ℕ → List ℕ → List Bool
+treeMarks early late = tabulate (isTree early late) (length early)
+
+-- for each of n vertices, the vertex that names its component
+unfoldable pub componentNames : ℕ → List ℕ → List ℕ → List ℕ
+componentNames n early late = tabulate (labels early late (length early)) n
+
+-- What `Graph::new` answers and leaves: the graph, and the kept edges at the fronts of the lists; refused, the lists as they were.
+pub record Set (refused n floor : ℕ) (es : List Edges.Kept) (r : Made) (early early′ late late′ : List ℕ) (mag mag′ : List Float) : Type 0 where
+  pub answer : r ≡ made refused (record { n = n; win = windowOf floor (earlyEnds es) (lateEnds es); edges = length es })
+  pub earlies : early′ ≡ left refused (over (earlyEnds es) early) early
+  pub lates : late′ ≡ left refused (over (lateEnds es) late) late
+  pub mags : mag′ ≡ left refused (over (magnitudes es) mag) mag
+
+-- A vertex v turned to n - 1 - v: the later end comes first. An edge keeps its magnitude, its order and its raw place.
+abbrev pub turned : ℕ → ℕ → ℕ
+turned n v = n - 1 - v
+
+abbrev pub rotate : ℕ → List Edges.Kept → List Edges.Kept
+rotate n es = map (λ e. record { early = turned n (e .late); late = turned n (e .early); magnitude = e .magnitude; place = e .place }) es
+
+-- the first k of two lists of ends, turned and changed places
+pub record Turned (n k : ℕ) (early early′ late late′ : List ℕ) : Type 0 where
+  pub earlies : early′ ≡ over (tabulate (λ e. turned n (getD late e 0)) k) early
+  pub lates : late′ ≡ over (tabulate (λ e. turned n (getD early e 0)) k) late
+
+-- What `distance` answers: the refusal, or the distance as walks have it.
+abbrev pub Distanced : ℕ → List ℕ → List ℕ → ℕ → ℕ → Reached → Type 0
+Distanced zero early late u v (Length k) = Distance early late u v (Reach.Length k)
+Distanced zero early late u v NotJoined = Distance early late u v Reach.NotJoined
+Distanced zero early late u v (Reached.Refused k) = ⊥
+Distanced (suc j) early late u v r = r ≡ Reached.Refused (suc j)

@@ -1,0 +1,241 @@
+// The graph of a job, for callers: each entry checks first, and where it refuses it alters no lent list.
+ghost use mathlib.Core.Path.{_≡_};
+ghost use mathlib.Core.Bool.{false, not, _||_};
+ghost use lib.Dec.{eqb, ltb};
+ghost use Prim.Native.Nat.{ℕ, _≤_, _<_};
+ghost use lib.ListN.{length, getD};
+ghost use Rattle.transfer.specs.Job.{windowOf};
+ghost use Rattle.checks.specs.Edges.{kept, earlyEnds, lateEnds};
+ghost use Rattle.checks.specs.Request.{graphRequest, distanceRequest};
+ghost use Rattle.checks.specs.Refusal.{refusal, ofGraph, ofGraphWithBuffers, ofDistance};
+ghost use Rattle.checks.specs.Answers.{answered, left};
+ghost use Rattle.forest.specs.Paths.{Spans};
+ghost use Rattle.forest.specs.Components.{componentCount};
+ghost use Rattle.lattice.specs.Graphs.{tooShort, freeCount, treeMarks, componentNames, Set, Distanced, rotate, Turned};
+use crate::build::build;
+use crate::keep::keep;
+use crate::reach::window_of;
+use crate::refuse::is_outside;
+use checks::Answer;
+use distance::Reach;
+
+// A graph whose kept edges stand in lists beside it.
+pub struct Graph {
+    pub n: usize,
+    pub win: usize,
+    pub edges: usize,
+}
+
+// A graph, or the number of a refusal.
+pub enum Made {
+    Kept(Graph),
+    Refused(usize),
+}
+
+// The length of a shortest walk, that there is none, or the number of a refusal.
+pub enum Reached {
+    Length(usize),
+    NotJoined,
+    Refused(usize),
+}
+
+// The largest of 1, the caller's floor and the longest kept edge; a window above 24 is answered.
+pub fn window(n: usize, a: &[usize], b: &[usize], m: &[f64], floor: usize) -> Answer
+    ensures { λ r. ⌜ r ≡ answered (refusal ofGraph (graphRequest n (now (a .entry)) (now (b .entry)) (now (m .entry)) false)) (windowOf floor (earlyEnds (kept (now (a .entry)) (now (b .entry)) (now (m .entry)))) (lateEnds (kept (now (a .entry)) (now (b .entry)) (now (m .entry))))) ⌝ }
+{
+    let mut early = [0usize; 4096];
+    let mut late = [0usize; 4096];
+    let mut mag = [0.0f64; 4096];
+    let g = build(n, a, b, m, &mut early, &mut late, &mut mag);
+    let refusal = g.refusal;
+    if refusal != 0 {
+        return Answer::Refused(refusal);
+    }
+    let edges = g.edges;
+    Answer::Number(window_of(floor, &early[..edges], &late[..edges]))
+}
+
+// How many components the graph has.
+pub fn n_components(n: usize, a: &[usize], b: &[usize], m: &[f64]) -> Answer
+    ensures { λ r. ⌜ r ≡ answered (refusal ofGraph (graphRequest n (now (a .entry)) (now (b .entry)) (now (m .entry)) false)) (componentCount n (earlyEnds (kept (now (a .entry)) (now (b .entry)) (now (m .entry)))) (lateEnds (kept (now (a .entry)) (now (b .entry)) (now (m .entry))))) ⌝ }
+{
+    let mut early = [0usize; 4096];
+    let mut late = [0usize; 4096];
+    let mut mag = [0.0f64; 4096];
+    let g = build(n, a, b, m, &mut early, &mut late, &mut mag);
+    let refusal = g.refusal;
+    if refusal != 0 {
+        return Answer::Refused(refusal);
+    }
+    let edges = g.edges;
+    Answer::Number(forest::n_components(n, &early[..edges], &late[..edges]))
+}
+
+// How many edges are free: kept edges and components, less the vertices.
+pub fn cyclomatic(n: usize, a: &[usize], b: &[usize], m: &[f64]) -> Answer
+    ensures { λ r. ⌜ r ≡ answered (refusal ofGraph (graphRequest n (now (a .entry)) (now (b .entry)) (now (m .entry)) false)) (freeCount (earlyEnds (kept (now (a .entry)) (now (b .entry)) (now (m .entry)))) (lateEnds (kept (now (a .entry)) (now (b .entry)) (now (m .entry))))) ⌝ }
+{
+    let mut early = [0usize; 4096];
+    let mut late = [0usize; 4096];
+    let mut mag = [0.0f64; 4096];
+    let g = build(n, a, b, m, &mut early, &mut late, &mut mag);
+    let refusal = g.refusal;
+    if refusal != 0 {
+        return Answer::Refused(refusal);
+    }
+    let edges = g.edges;
+    Answer::Number(forest::cyclomatic(n, &early[..edges], &late[..edges]))
+}
+
+// Marks each kept edge that is a tree edge: no path of earlier kept edges joins its ends. Answers the refusal's number, 0 for accepted.
+pub fn spanning_forest(n: usize, a: &[usize], b: &[usize], m: &[f64], tree: &mut [bool]) -> usize
+    ensures { λ r. ⌜ (r ≡ refusal ofGraphWithBuffers (graphRequest n (now (a .entry)) (now (b .entry)) (now (m .entry)) (not (eqb (length (now (tree .entry))) (length (kept (now (a .entry)) (now (b .entry)) (now (m .entry)))))))) × (now (tree .exit) ≡ left r (treeMarks (earlyEnds (kept (now (a .entry)) (now (b .entry)) (now (m .entry)))) (lateEnds (kept (now (a .entry)) (now (b .entry)) (now (m .entry))))) (now (tree .entry))) × (r ≡ 0 → Spans (earlyEnds (kept (now (a .entry)) (now (b .entry)) (now (m .entry)))) (lateEnds (kept (now (a .entry)) (now (b .entry)) (now (m .entry)))) (now (tree .exit))) ⌝ }
+{
+    let mut early = [0usize; 4096];
+    let mut late = [0usize; 4096];
+    let mut mag = [0.0f64; 4096];
+    let g = build(n, a, b, m, &mut early, &mut late, &mut mag);
+    let refusal = g.refusal;
+    if refusal != 0 {
+        return refusal;
+    }
+    let edges = g.edges;
+    if tree.len() != edges {
+        return 12;
+    }
+    forest::spanning_forest(n, &early[..edges], &late[..edges], tree);
+    0
+}
+
+// Names each vertex's component by one of its vertices. Answers the refusal's number, 0 for accepted.
+pub fn components(n: usize, a: &[usize], b: &[usize], m: &[f64], out: &mut [usize]) -> usize
+    ensures { λ r. ⌜ (r ≡ refusal ofGraphWithBuffers (graphRequest n (now (a .entry)) (now (b .entry)) (now (m .entry)) (not (eqb (length (now (out .entry))) n)))) × (now (out .exit) ≡ left r (componentNames n (earlyEnds (kept (now (a .entry)) (now (b .entry)) (now (m .entry)))) (lateEnds (kept (now (a .entry)) (now (b .entry)) (now (m .entry))))) (now (out .entry))) ⌝ }
+{
+    let mut early = [0usize; 4096];
+    let mut late = [0usize; 4096];
+    let mut mag = [0.0f64; 4096];
+    let g = build(n, a, b, m, &mut early, &mut late, &mut mag);
+    let refusal = g.refusal;
+    if refusal != 0 {
+        return refusal;
+    }
+    if out.len() != n {
+        return 12;
+    }
+    let edges = g.edges;
+    forest::components(n, &early[..edges], &late[..edges], out);
+    0
+}
+
+// The least number of kept edges on a walk from u to v; equal ends are allowed.
+pub fn distance(n: usize, a: &[usize], b: &[usize], m: &[f64], u: usize, v: usize) -> Reached
+    ensures { λ r. ⌜ Distanced (refusal ofDistance (distanceRequest n (now (a .entry)) (now (b .entry)) (now (m .entry)) u v)) (earlyEnds (kept (now (a .entry)) (now (b .entry)) (now (m .entry)))) (lateEnds (kept (now (a .entry)) (now (b .entry)) (now (m .entry)))) u v r ⌝ }
+{
+    let mut early = [0usize; 4096];
+    let mut late = [0usize; 4096];
+    let mut mag = [0.0f64; 4096];
+    let g = build(n, a, b, m, &mut early, &mut late, &mut mag);
+    let refusal = g.refusal;
+    if refusal != 0 {
+        return Reached::Refused(refusal);
+    }
+    if is_outside(n, u, v) {
+        return Reached::Refused(8);
+    }
+    let edges = g.edges;
+    match distance::distance(&early[..edges], &late[..edges], u, v) {
+        Reach::Length(k) => Reached::Length(k),
+        Reach::NotJoined => Reached::NotJoined,
+    }
+}
+
+impl Graph {
+    // The kept edges to the fronts of three lists, and the graph that they make.
+    pub fn new(
+        n: usize,
+        floor: usize,
+        a: &[usize],
+        b: &[usize],
+        m: &[f64],
+        early: &mut [usize],
+        late: &mut [usize],
+        mag: &mut [f64],
+    ) -> Made
+        ensures { λ r. ⌜ Set (refusal ofGraphWithBuffers (graphRequest n (now (a .entry)) (now (b .entry)) (now (m .entry)) (tooShort (length (kept (now (a .entry)) (now (b .entry)) (now (m .entry)))) (now (early .entry)) (now (late .entry)) (now (mag .entry))))) n floor (kept (now (a .entry)) (now (b .entry)) (now (m .entry))) r (now (early .entry)) (now (early .exit)) (now (late .entry)) (now (late .exit)) (now (mag .entry)) (now (mag .exit)) ⌝ }
+    {
+        let mut first = [0usize; 4096];
+        let mut second = [0usize; 4096];
+        let mut size = [0.0f64; 4096];
+        let g = build(n, a, b, m, &mut first, &mut second, &mut size);
+        let refusal = g.refusal;
+        if refusal != 0 {
+            return Made::Refused(refusal);
+        }
+        let edges = g.edges;
+        if is_too_short(edges, early.len(), late.len(), mag.len()) {
+            return Made::Refused(12);
+        }
+        let win = window_of(floor, &first[..edges], &second[..edges]);
+        keep(a, b, m, early, late, mag);
+        Made::Kept(Graph { n, win, edges })
+    }
+
+    // The graph turned by 180 degrees, v to n - 1 - v; its edges keep their order, magnitudes and window.
+    pub fn rotated(
+        n: usize,
+        floor: usize,
+        a: &[usize],
+        b: &[usize],
+        m: &[f64],
+        early: &mut [usize],
+        late: &mut [usize],
+        mag: &mut [f64],
+    ) -> Made
+        ensures { λ r. ⌜ Set (refusal ofGraphWithBuffers (graphRequest n (now (a .entry)) (now (b .entry)) (now (m .entry)) (tooShort (length (kept (now (a .entry)) (now (b .entry)) (now (m .entry)))) (now (early .entry)) (now (late .entry)) (now (mag .entry))))) n floor (rotate n (kept (now (a .entry)) (now (b .entry)) (now (m .entry)))) r (now (early .entry)) (now (early .exit)) (now (late .entry)) (now (late .exit)) (now (mag .entry)) (now (mag .exit)) ⌝ }
+    {
+        let mut first = [0usize; 4096];
+        let mut second = [0usize; 4096];
+        let mut size = [0.0f64; 4096];
+        let g = build(n, a, b, m, &mut first, &mut second, &mut size);
+        let refusal = g.refusal;
+        if refusal != 0 {
+            return Made::Refused(refusal);
+        }
+        let edges = g.edges;
+        if is_too_short(edges, early.len(), late.len(), mag.len()) {
+            return Made::Refused(12);
+        }
+        let win = window_of(floor, &first[..edges], &second[..edges]);
+        keep(a, b, m, early, late, mag);
+        turn(n, edges, early, late);
+        Made::Kept(Graph { n, win, edges })
+    }
+}
+
+fn is_too_short(edges: usize, early: usize, late: usize, mag: usize) -> bool
+    ensures { λ r. ⌜ r ≡ (ltb early edges || ltb late edges || ltb mag edges) ⌝ }
+{
+    if early < edges {
+        return true;
+    }
+    if late < edges {
+        return true;
+    }
+    mag < edges
+}
+
+// The first edges with their ends turned, v to n - 1 - v: the later end comes first.
+fn turn(n: usize, edges: usize, early: &mut [usize], late: &mut [usize])
+    requires { ⌜ (edges ≤ length (now early)) × (edges ≤ length (now late)) ⌝ }
+    requires { ⌜ ((e : ℕ) → e < edges → (getD (now early) e 0 < n) × (getD (now late) e 0 < n)) ⌝ }
+    ensures { λ r. ⌜ Turned n edges (now (early .entry)) (now (early .exit)) (now (late .entry)) (now (late .exit)) ⌝ }
+{
+    let mut e: usize = 0;
+    while e < edges {
+        let x = early[e];
+        let y = late[e];
+        early[e] = n - 1 - y;
+        late[e] = n - 1 - x;
+        e += 1;
+    }
+}

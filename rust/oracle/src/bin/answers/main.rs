@@ -1,0 +1,40 @@
+//! Writes the lists of the original's answers that Rattle replays. `answers NAME` writes the list NAME to standard output; `answers` names
+//! the lists. A list for a program is a row of 64-bit words, little-endian, a double as its bits; a list for the prover is a file of
+//! definitions.
+//!
+//!     cargo run --release --offline --bin answers -- generators > ../crates/replay_rng/data/generators.bin
+//!     cargo run --release --offline --bin answers -- graphs > ../crates/replay_lattice/data/graphs.bin
+//!     cargo run --release --offline --bin answers -- sweeps > ../crates/transfer/specs/Original.antt
+
+mod generators;
+mod graphs;
+mod sweeps;
+
+use std::io::Write;
+use std::process::ExitCode;
+
+const LISTS: [(&str, fn() -> Vec<u8>); 3] = [
+    ("generators", || words(generators::generators())),
+    ("graphs", || words(graphs::graphs())),
+    ("sweeps", || sweeps::sweeps().into_bytes()),
+];
+
+fn words(list: Vec<u64>) -> Vec<u8> {
+    list.into_iter().flat_map(u64::to_le_bytes).collect()
+}
+
+fn main() -> ExitCode {
+    let name = std::env::args().nth(1).unwrap_or_default();
+    let Some((_, list)) = LISTS.iter().find(|(known, _)| *known == name) else {
+        let names: Vec<&str> = LISTS.iter().map(|(known, _)| *known).collect();
+        eprintln!("answers: no list is named '{name}'; the lists are: {}", names.join(", "));
+        return ExitCode::from(2);
+    };
+    match std::io::stdout().write_all(&list()) {
+        Ok(()) => ExitCode::SUCCESS,
+        Err(e) => {
+            eprintln!("answers: {e}");
+            ExitCode::FAILURE
+        }
+    }
+}
