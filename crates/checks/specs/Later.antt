@@ -3,6 +3,7 @@ use mathlib.Core.Path.{_≡_, refl, sym, ap, _∙_}
 use mathlib.Core.Bool.{Bool, true, false, cond}
 use mathlib.Core.List.{List}
 use Prim.Native.Nat.{ℕ, zero, suc}
+use native.Mathlib.Omega.{arith}
 use lib.Ieee.{Float}
 use Rattle.vector.specs.Search.{some}
 use Rattle.checks.specs.Request.{graphRequest, badVertices, badLists, badEdges, badMagnitudes, parallelEdges, distanceRequest, outside}
@@ -56,3 +57,11 @@ module _ {K′ K : ℕ} {t : Bool} {j : ℕ} (T : Then K′ K t j) (r : ℕ) (p 
 
   pub refused-not : r ≡ 0 → t ≡ false → 0 ≡ K′
   refused-not z q = ap (λ b. cond b j 0) (sym q) ∙ after z
+
+-- where neither refuses, the graph's checks do not
+pub passed-before : {K′ K : ℕ} {t : Bool} {j : ℕ} → Then K′ K t j → K′ ≡ 0 → K ≡ 0
+passed-before {K = K} {t = t} {j = j} T z = go K (sym (T .is) ∙ z)
+  where
+    go : (k : ℕ) → orElse k (cond t j 0) ≡ 0 → k ≡ 0
+    go zero q = refl
+    go (suc k) q = absurd (omega arith)

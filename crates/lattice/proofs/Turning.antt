@@ -17,6 +17,8 @@ use Rattle.vector.specs.Front.{over, over-more, over-behind, over-front, over-o
 use Rattle.checks.specs.Edges.{Kept, kept, earlyEnds, lateEnds}
 use Rattle.lattice.specs.Keep.{Written}
 use Rattle.lattice.specs.Graphs.{Set, Turned, turned, rotate}
+use Rattle.lattice.specs.declared.graph.Graph.{Graph}
+use Rattle.lattice.specs.declared.graph.Made.{Made}
 use Rattle.lattice.specs.declared.graph.Made.the-variants as Made
 
 -- e of the edges were turned
@@ -131,22 +133,6 @@ window-turned n floor a b m ok = ap (λ k. max 1 (max floor k)) (lengths ∙ sym
         rw (length-map es (λ k. k .early), length-map es (λ k. turned n (k .late)))
         (most-ext (λ e. getD (lateEnds es) e 0 - getD (earlyEnds es) e 0) (λ e. getD (map (λ k. turned n (k .early)) es) e 0 - getD (map (λ k. turned n (k .late)) es) e 0) (length es) same)
 
--- the turned graph as the entry leaves it
-pub rotated-set : (K n floor w k : ℕ) {a b : List ℕ} {m : List Float} {j : ℕ} {early₀ early early′ late₀ late late′ : List ℕ} {mag₀ mag : List Float} → 0 ≡ K
-    → Written a b m (length a) j early₀ early late₀ late mag₀ mag → k ≡ length (kept a b m) → Turned n k early early′ late late′
-    → some (badEdge n a b) (length a) ≡ false → w ≡ windowOf floor (earlyEnds (kept a b m)) (lateEnds (kept a b m))
-    → Set K n floor (rotate n (kept a b m)) (Made.Kept (record { n = n; win = w; edges = k })) early₀ early′ late₀ late′ mag₀ mag
-rotated-set zero n floor w k {a} {b} {m} {mag₀ = mag₀} e W q T ok p =
-    let turn = turned-kept W q T in
-    let es = kept a b m in
-    record {
-      answer = ap₂ (λ x y. Made.Kept (record { n = n; win = x; edges = y })) (p ∙ window-turned n floor a b m ok) (q ∙ sym (length-map es _));
-      earlies = turn .0;
-      lates = turn .1;
-      mags = W .mags ∙ ap (λ l. over l mag₀) (sym (map-map (λ u. u .magnitude) _ es));
-    }
-rotated-set (suc i) n floor w k e W q T ok p = absurd (omega arith)
-
 -- the ends of what was kept are below n
 pub kept-below : (n : ℕ) {a b : List ℕ} {m : List Float} {j k : ℕ} {early₀ early late₀ late : List ℕ} {mag₀ mag : List Float}
     → Written a b m (length a) j early₀ early late₀ late mag₀ mag → k ≡ length (kept a b m) → some (badEdge n a b) (length a) ≡ false
@@ -158,3 +144,48 @@ kept-below n {a} {b} {m} {early₀ = early₀} {late₀ = late₀} W q ok e h =
     let x = ap (λ l. getD l e 0) (W .earlies) ∙ over-front (earlyEnds es) early₀ e 0 (rw (length-map es (λ k. k .early)) h′) in
     let y = ap (λ l. getD l e 0) (W .lates) ∙ over-front (lateEnds es) late₀ e 0 (rw (length-map es (λ k. k .late)) h′) in
     (omega (arith, i .0, i .1), omega (arith, i .1))
+
+-- ---- from what `Graph::new` answered
+
+abbrev refusals : Made → ℕ
+refusals (Made.Kept g) = 0
+refusals (Made.Refused k) = 1
+
+abbrev graphOf : Graph → Made → Graph
+graphOf other (Made.Kept g) = g
+graphOf other (Made.Refused k) = other
+
+-- a refused graph has nothing to turn
+pub refused-turned : (K : ℕ) {n floor k : ℕ} {es : List Kept} {r : Made} {early early′ late late′ : List ℕ} {mag mag′ : List Float} → r ≡ Made.Refused k
+    → Set K n floor es r early early′ late late′ mag mag′ → Set K n floor (rotate n es) (Made.Refused k) early early′ late late′ mag mag′
+refused-turned zero p S = let apart = ap refusals (sym p ∙ S .answer) in absurd (omega arith)
+refused-turned (suc j) p S = record { answer = sym p ∙ S .answer; earlies = S .earlies; lates = S .lates; mags = S .mags }
+
+-- an accepted one was not refused, and its edges were written
+pub record Given (K n floor : ℕ) (g : Graph) (a b : List ℕ) (m : List Float) (early early′ late late′ : List ℕ) (mag mag′ : List Float) : Type 0 where
+  pub accepted : K ≡ 0
+  pub graph : g ≡ record { n = n; win = windowOf floor (earlyEnds (kept a b m)) (lateEnds (kept a b m)); edges = length (kept a b m) }
+  pub written : Written a b m (length a) (g .edges) early early′ late late′ mag mag′
+
+pub given : (K : ℕ) {n floor : ℕ} {g : Graph} {a b : List ℕ} {m : List Float} {r : Made} {early early′ late late′ : List ℕ} {mag mag′ : List Float} → r ≡ Made.Kept g
+    → Set K n floor (kept a b m) r early early′ late late′ mag mag′ → Given K n floor g a b m early early′ late late′ mag mag′
+given zero {g = g} p S =
+    let same = ap (graphOf g) (sym p ∙ S .answer) in
+    record { accepted = refl; graph = same; written = record { edges = ap (λ x. x .edges) same; earlies = S .earlies; lates = S .lates; mags = S .mags } }
+given (suc j) p S = let apart = ap refusals (sym p ∙ S .answer) in absurd (omega arith)
+
+-- the turned graph as the entry leaves it
+pub rotated-given : (K : ℕ) {n floor : ℕ} {g : Graph} {a b : List ℕ} {m : List Float} {early₀ early early′ late₀ late late′ : List ℕ} {mag₀ mag : List Float}
+    → Given K n floor g a b m early₀ early late₀ late mag₀ mag → some (badEdge n a b) (length a) ≡ false → Turned n (g .edges) early early′ late late′
+    → Set K n floor (rotate n (kept a b m)) (Made.Kept g) early₀ early′ late₀ late′ mag₀ mag
+rotated-given zero {n} {floor} {a = a} {b = b} {m = m} {mag₀ = mag₀} G ok T =
+    let W = G .written in
+    let turn = turned-kept W (W .edges) T in
+    let es = kept a b m in
+    record {
+      answer = ap Made.Kept (G .graph ∙ ap₂ (λ x y. record { n = n; win = x; edges = y }) (window-turned n floor a b m ok) (sym (length-map es _)));
+      earlies = turn .0;
+      lates = turn .1;
+      mags = W .mags ∙ ap (λ l. over l mag₀) (sym (map-map (λ u. u .magnitude) _ es));
+    }
+rotated-given (suc j) G ok T = let z = G .accepted in absurd (omega arith)

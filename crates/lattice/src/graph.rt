@@ -193,22 +193,13 @@ impl Graph {
     ) -> Made
         ensures { λ r. ⌜ Set (refusal ofGraphWithBuffers (graphRequest n (now (a .entry)) (now (b .entry)) (now (m .entry)) (tooShort (length (kept (now (a .entry)) (now (b .entry)) (now (m .entry)))) (now (early .entry)) (now (late .entry)) (now (mag .entry))))) n floor (rotate n (kept (now (a .entry)) (now (b .entry)) (now (m .entry)))) r (now (early .entry)) (now (early .exit)) (now (late .entry)) (now (late .exit)) (now (mag .entry)) (now (mag .exit)) ⌝ }
     {
-        let mut first = [0usize; 4096];
-        let mut second = [0usize; 4096];
-        let mut size = [0.0f64; 4096];
-        let g = build(n, a, b, m, &mut first, &mut second, &mut size);
-        let refusal = g.refusal;
-        if refusal != 0 {
-            return Made::Refused(refusal);
+        match Graph::new(n, floor, a, b, m, early, late, mag) {
+            Made::Kept(g) => {
+                turn(n, g.edges, early, late);
+                Made::Kept(g)
+            }
+            Made::Refused(refusal) => Made::Refused(refusal),
         }
-        let edges = g.edges;
-        if is_too_short(edges, early.len(), late.len(), mag.len()) {
-            return Made::Refused(12);
-        }
-        let win = window_of(floor, &first[..edges], &second[..edges]);
-        keep(a, b, m, early, late, mag);
-        turn(n, edges, early, late);
-        Made::Kept(Graph { n, win, edges })
     }
 }
 
