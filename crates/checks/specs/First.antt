@@ -4,7 +4,6 @@ use mathlib.Core.Bool.{Bool, true, false, cond, _&&_}
 use mathlib.Core.List.{List, [], _∷_}
 use Prim.Native.Nat.{ℕ, _<_}
 use native.Mathlib.Omega.{arith}
-use Rattle.checks.specs.Request.{Request}
 use Rattle.checks.specs.Refusal.{Check, checks, among, first}
 
 pub here : (t : Bool) (k rest : ℕ) → t ≡ true → k ≡ cond t k rest
@@ -18,16 +17,16 @@ pub told : {r t b : Bool} → r ≡ t → r ≡ b → t ≡ b
 told p q = sym p ∙ q
 
 -- no check that concerns the call fits
-abbrev pub Passed : List Check → List ℕ → Request → Type 0
+abbrev pub Passed : {A : Type 0} → List (Check A) → List ℕ → A → Type 0
 Passed [] concerned r = Unit
 Passed (c ∷ cs) concerned r = ((among concerned (c .number) && c .fits r) ≡ false) × Passed cs concerned r
 
 -- no check has the number 0
-abbrev pub Numbered : List Check → Type 0
+abbrev pub Numbered : {A : Type 0} → List (Check A) → Type 0
 Numbered [] = Unit
 Numbered (c ∷ cs) = (0 < c .number) × Numbered cs
 
-pub passed : (cs : List Check) (concerned : List ℕ) (r : Request) → Numbered cs → first cs concerned r ≡ 0 → Passed cs concerned r
+pub passed : {A : Type 0} (cs : List (Check A)) (concerned : List ℕ) (r : A) → Numbered cs → first cs concerned r ≡ 0 → Passed cs concerned r
 passed [] concerned r numbered h = tt
 passed (c ∷ cs) concerned r numbered h =
     let p = go (among concerned (c .number) && c .fits r) (numbered .0) h in

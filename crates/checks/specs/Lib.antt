@@ -6,3 +6,4 @@ pub mod Answers
 pub mod First
 pub mod Accepted
 pub mod Later
+pub mod StripRequest

@@ -5,14 +5,15 @@ use Prim.Native.Nat.{ℕ}
 use lib.Dec.{eqb}
 use Rattle.checks.specs.Request.{Request, badVertices, badLists, badEdges, badMagnitudes, parallelEdges, badPairs}
 
-pub record Check : Type 0 where
+-- a check of the requests of one kind
+pub record Check (A : Type 0) : Type 0 where
   pub number : ℕ
-  pub fits : Request → Bool
+  pub fits : A → Bool
 
-abbrev pub check : ℕ → (Request → Bool) → Check
+abbrev pub check : {A : Type 0} → ℕ → (A → Bool) → Check A
 check k test = record { number = k; fits = test }
 
-abbrev pub checks : List Check
+abbrev pub checks : List (Check Request)
 checks =
     check 1 badVertices
     ∷ check 2 badLists
@@ -28,7 +29,7 @@ among [] k = false
 among (c ∷ cs) k = eqb c k || among cs k
 
 -- The number of the first check that concerns the call and fits; 0 where none does.
-abbrev pub first : List Check → List ℕ → Request → ℕ
+abbrev pub first : {A : Type 0} → List (Check A) → List ℕ → A → ℕ
 first [] concerned r = 0
 first (c ∷ cs) concerned r = cond (among concerned (c .number) && c .fits r) (c .number) (first cs concerned r)
 

@@ -4,3 +4,5 @@ pub mod Search
 pub mod Count
 pub mod Most
 pub mod Front
+pub mod Part
+pub mod Power

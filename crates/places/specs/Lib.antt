@@ -1,0 +1,4 @@
+-- The definitions that the contracts cite.
+pub mod Places
+pub mod Work
+pub mod Order

@@ -1,0 +1,34 @@
+-- How the work memory is laid out: the places, a vector each, then the scales of the vertices, then the factors of the edges.
+use mathlib.Core.Path.{_≡_}
+use mathlib.Core.List.{List}
+use Prim.Native.Nat.{ℕ, _+_, _*_, _^_, _≤_, _<_}
+use native.Mathlib.Nat.{mul-comm, suc-mul, mul-le-mul-right}
+use native.Mathlib.Omega.{arith}
+use lib.ListN.{length}
+use Rattle.transfer.specs.Room.{room}
+use Rattle.plan.specs.Edges.{Steps}
+use Rattle.places.specs.Places.{placesOf, Places}
+
+-- where the scales and the factors begin, and where all ends: n vertices, window w, m edges
+pub record Laid (n w m places scales factors end : ℕ) : Type 0 where
+  pub scales-at : scales ≡ places * 2 ^ w
+  pub factors-at : factors ≡ scales + n
+  pub ends : end ≡ factors + m
+
+-- the plan of a job and its pairs, and the layout of the work memory that goes with it
+pub record Planned (plan early late us vs : List ℕ) (n w places scales factors end : ℕ) : Type 0 where
+  pub steps : Steps plan early late n w
+  pub kept : Places plan us vs n w
+  pub count-is : places ≡ placesOf n w us vs
+  pub laid : Laid n w (length early) places scales factors end
+  pub ends : end ≡ room n w (length early) us vs
+
+-- each place lies before the scales
+pub place-fits : (n w m places scales factors end p : ℕ) → Laid n w m places scales factors end → p < places → p * 2 ^ w + 2 ^ w ≤ scales
+place-fits n w m places scales factors end p g b = omega (arith, g .scales-at, mul-le-mul-right (2 ^ w) b, suc-mul p (2 ^ w))
+
+-- the end is the room of the definition
+pub room-is : (n w m : ℕ) (us vs : List ℕ) (scales factors end : ℕ) → Laid n w m (placesOf n w us vs) scales factors end → end ≡ room n w m us vs
+unfolding room
+room-is n w m us vs scales factors end g =
+    omega (arith, g .scales-at, g .factors-at, g .ends, mul-comm (placesOf n w us vs) (2 ^ w))

@@ -1,0 +1,4 @@
+-- Laws that the proofs share.
+mod Tabled
+mod Scanned
+mod Steps

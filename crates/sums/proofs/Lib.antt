@@ -1,0 +1,3 @@
+mod SumTurn
+mod Order
+mod LargestTurn

@@ -1,0 +1,48 @@
+-- What the loop over the two sums knows on its way.
+use mathlib.Core.Path.{_≡_, _∙_}
+use mathlib.Core.List.{List}
+use mathlib.Core.Logic.{dite}
+use Prim.Native.Nat.{ℕ, suc, _+_, _-_, _/_, _%_, _^_, _≤_, _<_}
+use native.Mathlib.Decide.{decLt}
+use native.Mathlib.Omega.{arith}
+use lib.ListN.{length, getD}
+use lib.Pow.{shr-shr}
+use lib.Ieee.{Float, nan, binary64, add, mul}
+use Rattle.vector.specs.Part.{part, part-read}
+use Rattle.transfer.specs.Arithmetic.{sum, signedSum}
+use Rattle.transfer.specs.Rounded.{ieee}
+use Rattle.transfer.specs.Sweep as S
+use Rattle.sums.specs.Sums.{products, differ, paired}
+
+-- a product of two entries that the loop reads is the vectors' product
+pub product-at : (d : List Float) (f b n j : ℕ) → f + n ≤ length d → b + n ≤ length d → j < n
+    → mul binary64 (getD d (f + j) nan) (getD d (b + j) nan) ≡ products (part d f n) (part d b n) j
+product-at d f b n j hf hb l = rw (part-read d f n j nan (ieee .𝟘) hf l, part-read d b n j nan (ieee .𝟘) hb l)
+
+pub sum-turn : (f : ℕ → Float) (i : ℕ) (z p q : Float) → z ≡ sum ieee i f → p ≡ f i → q ≡ f (i + 1)
+    → add binary64 (add binary64 z p) q ≡ sum ieee (i + 2) f
+unfolding sum
+sum-turn f i z p q e ep eq =
+    let n : i + 2 ≡ suc (suc i) = omega arith in
+    let m : suc i ≡ i + 1 = omega arith in
+    rw (n, e, ep, eq, m)
+
+-- the index after an even one has the same bit d
+same-bit : (i d : ℕ) → 1 ≤ d → i % 2 ≡ 0 → (i + 1) / 2 ^ d ≡ i / 2 ^ d
+same-bit i d h e =
+    let t : 1 + (d - 1) ≡ d = omega arith in
+    let g : (i + 1) / 2 ^ 1 ≡ i / 2 ^ 1 = omega arith in
+    rw (← t, ← shr-shr (i + 1) 1 (d - 1), ← shr-shr i 1 (d - 1), g)
+
+pub signed-turn : (d : ℕ) (f : ℕ → Float) (i : ℕ) (z p q r : Float) → 1 ≤ d → i % 2 ≡ 0 → z ≡ signedSum ieee i (differ d) f → p ≡ f i → q ≡ f (i + 1)
+    → r ≡ paired z p q (i / 2 ^ d % 2) → r ≡ signedSum ieee (i + 2) (differ d) f
+unfolding signedSum paired
+signed-turn d f i z p q r h e w ep eq u =
+    let n : i + 2 ≡ suc (suc i) = omega arith in
+    let m : suc i ≡ i + 1 = omega arith in
+    let o : (i + 1) / 1 % 2 ≡ 1 = omega arith in
+    let e′ : i / 1 % 2 ≡ 0 = omega arith in
+    let b = same-bit i d h e in
+    dite (decLt (i / 2 ^ d % 2) 1)
+    (λ l. let s : i / 2 ^ d % 2 ≡ 0 = omega arith in u ∙ rw (n, m, b, o, e′, s, w, ep, eq))
+    (λ l. let s : i / 2 ^ d % 2 ≡ 1 = omega arith in u ∙ rw (n, m, b, o, e′, s, w, ep, eq))

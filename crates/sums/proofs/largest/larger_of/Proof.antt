@@ -1,0 +1,12 @@
+-- Both branches are what the contract says.
+use Rattle.sums.proofs.largest.larger_of.Statement.{statement}
+use Rattle.sums.proofs.largest.larger_of.Tie as tie
+
+returns : tie.Need-returns
+returns c = rw (c .if1 .taken)
+
+returns-2 : tie.Need-returns-2
+returns-2 c = rw (c .if1 .left)
+
+pub larger-of-spec : {M : Type 1} → statement M
+larger-of-spec = tie.close (tie.spec returns returns-2)

@@ -1,0 +1,7 @@
+mod Patterns
+mod TableTurn
+mod Rules
+mod Tabled
+mod ForwardTurn
+mod BackwardTurn
+mod AlternateTurn

@@ -1,0 +1,70 @@
+-- The loop builds the pattern from its top bit down: what it has is the pattern by the bits from i on.
+use mathlib.Core.Path.{_≡_}
+use Prim.Native.Nat.{_≤_, _<_, _-_}
+use native.Mathlib.Omega.{arith}
+use Rattle.sweep.specs.Step.{patternFrom}
+use Rattle.sweep.proofs.Patterns.{pattern-16, pattern-down}
+use Rattle.sweep.proofs.blocks.pattern_of.Statement.{statement}
+use Rattle.sweep.proofs.blocks.pattern_of.Tie as tie
+
+abbrev Inv-loop : tie.InvT-loop
+Inv-loop k bits n m₀ i₀ m i = (i ≤ n) × (m ≡ patternFrom bits i (n - i) k)
+
+abbrev μ-loop : tie.MeasureT-loop
+μ-loop k bits n m₀ i₀ m i = i
+
+-- the pattern so far is below 16
+small : (c : tie.At-loop Inv-loop μ-loop) → c .loop .m < 16
+small c = omega (arith, pattern-16 (c .before .args .bits .now) (c .loop .i) (c .before .args .n - c .loop .i) (c .before .args .k) (omega arith))
+
+loop-holds : tie.Need-loop-holds Inv-loop μ-loop
+unfolding patternFrom
+loop-holds c = let e : c .args .n - c .args .n ≡ 0 = omega arith in (omega arith, rw e)
+
+sub-i : tie.Need-sub-i Inv-loop μ-loop
+sub-i c = omega arith
+
+mul-m : tie.Need-mul-m Inv-loop μ-loop
+mul-m c = omega (arith, small (c .before))
+
+mul-m-2 : tie.Need-mul-m-2 Inv-loop μ-loop
+mul-m-2 c = omega arith
+
+element-copy-out-m : tie.Need-element-copy-out-m Inv-loop μ-loop
+element-copy-out-m c = omega arith
+
+shr-m : tie.Need-shr-m Inv-loop μ-loop
+shr-m c = c .before .before .before .pre .1 (c .before .before .loop .i - 1) (omega arith)
+
+add-m : tie.Need-add-m Inv-loop μ-loop
+add-m c = omega (arith, small (c .before .before))
+
+loop-less : tie.Need-loop-less Inv-loop μ-loop
+loop-less c = omega arith
+
+loop-again : tie.Need-loop-again Inv-loop μ-loop
+loop-again c = let at = c .before .before in (omega arith, rw (at .loop .inv .1) (pattern-down _ _ _ _ (omega arith) (omega arith)))
+
+returns : tie.Need-returns Inv-loop μ-loop
+returns c =
+    let at = c .before in
+    let e : at .loop .i ≡ 0 = omega arith in
+    let g : at .before .args .n - at .loop .i ≡ at .before .args .n = omega arith in
+    (cc (at .loop .inv .1), small at)
+
+pub pattern-of-spec : {M : Type 1} → statement M
+pattern-of-spec =
+    tie.close
+    (tie.spec
+    Inv-loop
+    μ-loop
+    loop-holds
+    sub-i
+    mul-m
+    mul-m-2
+    element-copy-out-m
+    shr-m
+    add-m
+    loop-less
+    loop-again
+    returns)

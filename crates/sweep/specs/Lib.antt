@@ -1,0 +1,4 @@
+pub mod Step
+pub mod Constants
+pub mod Rule
+pub mod Place
