@@ -9,6 +9,10 @@ fn the_stored_lists_are_the_originals_answers() {
     for (list, place) in [
         ("generators", "replay_rng/data/generators.bin"),
         ("graphs", "replay_lattice/data/graphs.bin"),
+        ("strips", "replay_strip/data/strips.bin"),
+        ("strip_edges", "replay_strip/data/edges.bin"),
+        ("dilutions", "replay_strip/data/dilutions.bin"),
+        ("strip_refusals", "replay_strip/data/refusals.bin"),
         ("sweeps", "transfer/specs/Original.antt"),
     ] {
         let made = Command::new(env!("CARGO_BIN_EXE_answers")).arg(list).output().expect("answers runs");

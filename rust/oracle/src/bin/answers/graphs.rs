@@ -1,5 +1,6 @@
 //! Graphs, accepted and refused, with the hash of what every graph entry answers and leaves.
 
+use crate::hash::{mix, OFFSET};
 use oracle::lattice::Graph;
 use oracle::rng::Rng;
 
@@ -32,12 +33,6 @@ fn graph_refusal(job: &GraphJob) -> u64 {
     }
 }
 
-/// FNV-1a over words.
-fn mix(hash: u64, word: u64) -> u64 {
-    (hash ^ word).wrapping_mul(0x100_0000_01b3)
-}
-
-const OFFSET: u64 = 0xcbf2_9ce4_8422_2325;
 /// A refusal's number, told from a value.
 const REFUSED: u64 = 1 << 32;
 const NOT_JOINED: u64 = 1 << 33;

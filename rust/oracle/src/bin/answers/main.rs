@@ -4,18 +4,28 @@
 //!
 //!     cargo run --release --offline --bin answers -- generators > ../crates/replay_rng/data/generators.bin
 //!     cargo run --release --offline --bin answers -- graphs > ../crates/replay_lattice/data/graphs.bin
+//!     cargo run --release --offline --bin answers -- strips > ../crates/replay_strip/data/strips.bin
+//!     cargo run --release --offline --bin answers -- strip_edges > ../crates/replay_strip/data/edges.bin
+//!     cargo run --release --offline --bin answers -- dilutions > ../crates/replay_strip/data/dilutions.bin
+//!     cargo run --release --offline --bin answers -- strip_refusals > ../crates/replay_strip/data/refusals.bin
 //!     cargo run --release --offline --bin answers -- sweeps > ../crates/transfer/specs/Original.antt
 
 mod generators;
 mod graphs;
+mod hash;
+mod strips;
 mod sweeps;
 
 use std::io::Write;
 use std::process::ExitCode;
 
-const LISTS: [(&str, fn() -> Vec<u8>); 3] = [
+const LISTS: [(&str, fn() -> Vec<u8>); 7] = [
     ("generators", || words(generators::generators())),
     ("graphs", || words(graphs::graphs())),
+    ("strips", || words(strips::strips())),
+    ("strip_edges", || words(strips::strip_edges())),
+    ("dilutions", || words(strips::dilutions())),
+    ("strip_refusals", || words(strips::strip_refusals())),
     ("sweeps", || sweeps::sweeps().into_bytes()),
 ];
 

@@ -1,0 +1,3 @@
+pub mod PairSet
+pub mod PairListing
+pub mod PairLaws

@@ -1,0 +1,98 @@
+-- The standard pair set: candidates in order, of which a strip takes those that it wants and that lie on it with two different ends.
+use mathlib.Core.Bool.{Bool, true, false, cond, not, _||_, _&&_}
+use mathlib.Core.List.{List, [], _∷_, _++_, map}
+use Prim.Native.Nat.{ℕ, zero, suc, _+_, _-_, _/_}
+use Prim.Native.String.{String}
+use lib.Dec.{eqb, ltb, leb}
+use lib.ListN.{length, getD}
+use Rattle.checks.specs.StripRequest.{stripRefusal, ofPairs}
+use Rattle.strip.specs.Strips.{vertex}
+use Rattle.strip.specs.Listing.{stripRequest}
+use Rattle.strip.specs.Spelling.{spelled}
+use Rattle.strip.specs.declared.strip.Strip.{Strip}
+use Rattle.pairset.specs.declared.candidates.Seats.{Seats}
+
+-- two sites, (x1, y1) and (x2, y2), and whether a strip wants them as a pair
+abbrev pub seat : Bool → ℕ → ℕ → ℕ → ℕ → Seats
+seat wanted x1 y1 x2 y2 = record { wanted = wanted; x1 = x1; y1 = y1; x2 = x2; y2 = y2 }
+
+pub record Candidate : Type 0 where
+  pub label : List ℕ
+  pub seats : Seats
+
+abbrev pub candidate : String → Bool → ℕ → ℕ → ℕ → ℕ → Candidate
+candidate name wanted x1 y1 x2 y2 = record { label = spelled name; seats = seat wanted x1 y1 x2 y2 }
+
+-- the candidates of strips w across and l along; (xm, ym) is the middle
+unfoldable pub candidates : ℕ → ℕ → List Candidate
+candidates w l =
+    let xm = (l - 1) / 2 in
+    let ym = (w - 1) / 2 in
+    let centre = leb 3 w && leb 3 l in
+    candidate "corner-adj-a" true 0 0 0 1
+    ∷ candidate "corner-adj-l" true 0 0 1 0
+    ∷ candidate "bdry-adj-a" (leb 3 w) 0 1 0 2
+    ∷ candidate "bdry-adj-l" (leb 3 l) 1 0 2 0
+    ∷ candidate "bdry-adj-lmid" (leb 4 l) xm 0 (xm + 1) 0
+    ∷ candidate "bdry-d2-l" (leb 4 l) (xm - 1) 0 (xm - 1 + 2) 0
+    ∷ candidate "bdry-d3-l" (leb 5 l) (xm - 1) 0 (xm - 1 + 3) 0
+    ∷ candidate "bdry-d2-a" (leb 4 w) 0 0 0 2
+    ∷ candidate "bdry-d3-a" (leb 4 w) 0 0 0 3
+    ∷ candidate "short-end-to-end" true 0 0 0 (w - 1)
+    ∷ candidate "end-to-end-l" true 0 0 (l - 1) 0
+    ∷ candidate "opp-corners" true 0 0 (l - 1) (w - 1)
+    ∷ candidate "centre-adj-l" centre xm ym (xm + 1) ym
+    ∷ candidate "centre-adj-a" centre xm ym xm (ym + 1)
+    ∷ candidate "centre-d2-l" (centre && ltb (xm + 2) l) (xm - 1) ym (xm - 1 + 2) ym
+    ∷ candidate "centre-d3-l" (centre && ltb (xm + 3) l) (xm - 1) ym (xm - 1 + 3) ym
+    ∷ candidate "centre-d4-l" (centre && ltb (xm + 4) l) (xm - 2) ym (xm - 2 + 4) ym
+    ∷ candidate "centre-d2-a" (leb 5 w && leb 3 l) xm (ym - 1) xm (ym + 1)
+    ∷ []
+
+-- the candidate's own place in the list, and one that no strip wants past its end
+unfoldable pub candidateAt : ℕ → ℕ → ℕ → Candidate
+unfolding candidates
+candidateAt w l i = getD (candidates w l) i (candidate "" false 0 0 0 0)
+
+-- both sites lie on the strip, and they differ
+abbrev pub taken : ℕ → ℕ → Seats → Bool
+taken w l c = c .wanted && (ltb (c .x1) l && ltb (c .x2) l && ltb (c .y1) w && ltb (c .y2) w && not (eqb (c .x1) (c .x2) && eqb (c .y1) (c .y2)))
+
+pub record Pair : Type 0 where
+  pub label : List ℕ
+  pub u : ℕ
+  pub v : ℕ
+
+abbrev pub pairOf : ℕ → Candidate → Pair
+pairOf w c = record { label = c .label; u = vertex w (c .seats .x1) (c .seats .y1); v = vertex w (c .seats .x2) (c .seats .y2) }
+
+-- what a strip takes of candidate i
+unfoldable pub pairAt : ℕ → ℕ → ℕ → List Pair
+unfolding candidateAt
+pairAt w l i = let c = candidateAt w l i in cond (taken w l (c .seats)) (pairOf w c ∷ []) []
+
+-- the pairs among the first i candidates
+unfoldable pub pairsBelow : ℕ → ℕ → ℕ → List Pair
+unfolding pairAt
+pairsBelow w l zero = []
+pairsBelow w l (suc i) = pairsBelow w l i ++ pairAt w l i
+
+abbrev pub pairSet : Strip → List Pair
+pairSet s = pairsBelow (s .w) (s .l) 18
+
+abbrev pub firsts : List Pair → List ℕ
+firsts ps = map (λ p. p .u) ps
+
+abbrev pub seconds : List Pair → List ℕ
+seconds ps = map (λ p. p .v) ps
+
+-- the labels one after another, each closed by a zero byte
+unfoldable pub labelBytes : List Pair → List ℕ
+labelBytes [] = []
+labelBytes (p ∷ ps) = (p .label ++ (0 ∷ [])) ++ labelBytes ps
+
+-- what refuses a call for the pair set
+unfoldable pub pairsRefusal : Strip → List ℕ → List ℕ → List ℕ → ℕ
+unfolding pairsBelow labelBytes
+pairsRefusal s us vs labels =
+    stripRefusal ofPairs (stripRequest s (ltb (length us) (length (pairSet s)) || ltb (length vs) (length (pairSet s)) || ltb (length labels) (length (labelBytes (pairSet s)))))

@@ -1,0 +1,5 @@
+// The standard pair set of a strip, with its labels.
+mod candidates;
+mod standard;
+
+pub use standard::pairs;

@@ -1,0 +1,94 @@
+// Replays the original's strips from the lists in data/: `answers strips`, `strip_edges`, `dilutions` and `strip_refusals` of rust/oracle made them
+// from the original, the last by its own reading of document 01.
+mod common;
+mod dilutions;
+mod edges;
+mod refusals;
+mod strips;
+
+ghost use Prim.Native.Nat.{_≤_, _<_};
+use edges::Tally;
+use libc::STDOUT_FILENO;
+
+// bytes of a record of each list
+const STRIP: usize = 8 * 7;
+
+const DILUTION: usize = 8 * 8;
+
+const REFUSAL: usize = 8 * 9;
+// stands for records of different sizes
+const EDGES: usize = 1;
+
+fn replay(size: usize, list: &[u8], at: usize) -> bool {
+    match size {
+        STRIP => strips::replay(list, at),
+        DILUTION => dilutions::replay(list, at),
+        _ => refusals::replay(list, at),
+    }
+}
+
+fn count_same(size: usize, list: &[u8]) -> usize
+    requires { ⌜ (0 < size) × (size ≤ 72) ⌝ }
+{
+    let mut count: usize = 0;
+    let mut at: usize = 0;
+    while at < list.len() {
+        if replay(size, list, at) {
+            count += 1;
+        }
+        at += size;
+    }
+    count
+}
+
+fn tally(size: usize, list: &[u8]) -> Tally
+    requires { ⌜ (0 < size) × (size ≤ 72) ⌝ }
+{
+    if size == EDGES {
+        return edges::replay_all(list);
+    }
+    Tally {
+        records: list.len() / size,
+        agree: count_same(size, list),
+    }
+}
+
+fn print_number(n: usize) {
+    io::print_decimal(STDOUT_FILENO, n as u64);
+}
+
+fn print_tally(t: Tally, what: &[u8]) {
+    print_number(t.agree);
+    io::write_all(STDOUT_FILENO, b" of ");
+    print_number(t.records);
+    io::write_all(STDOUT_FILENO, what);
+}
+
+fn report(size: usize, path: &[u8], what: &[u8])
+    requires { ⌜ (0 < size) × (size ≤ 72) ⌝ }
+{
+    let fd = os::open_read(path);
+    if fd < 0 {
+        os::fail(path);
+        return;
+    }
+    let mut list = [0u8; 98304];
+    let n = io::read_full(fd, &mut list);
+    libc::close(fd);
+    print_tally(tally(size, &list[..n]), what);
+}
+
+fn main() {
+    report(
+        STRIP,
+        b"strips.bin",
+        b" strips agree: edges, window, pairs, labels, buffers too short and exact\n",
+    );
+    report(EDGES, b"edges.bin", b" small strips agree edge by edge\n");
+    report(DILUTION, b"dilutions.bin", b" dilutions agree\n");
+    report(
+        REFUSAL,
+        b"refusals.bin",
+        b" refusals and near misses agree\n",
+    );
+}

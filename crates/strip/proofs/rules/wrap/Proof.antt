@@ -1,0 +1,29 @@
+-- The rule, as its test and ends come out.
+use Rattle.strip.specs.Strips.{wrap}
+use borrow.Author.Needs.{needs}
+use Rattle.strip.proofs.rules.wrap.Statement.{statement}
+use Rattle.strip.proofs.rules.wrap.Tie as tie
+
+add-round : tie.Need-add-round
+add-round c = search needs
+
+has-brick-requires : tie.Need-has-brick-requires
+has-brick-requires c κs = search needs
+
+vid-requires : tie.Need-vid-requires
+vid-requires c κs = search needs
+
+vid-requires-2 : tie.Need-vid-requires-2
+vid-requires-2 c κs = search needs
+
+bond-if-requires : tie.Need-bond-if-requires
+bond-if-requires c κs = search needs
+
+returns : tie.Need-returns
+unfolding wrap
+returns c = cc
+
+pub wrap-spec : {M : Type 1} → statement M
+wrap-spec =
+    tie.close
+    (tie.spec add-round has-brick-requires vid-requires vid-requires-2 bond-if-requires returns)
