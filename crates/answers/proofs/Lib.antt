@@ -1,0 +1,4 @@
+-- Laws that the proofs share.
+mod Propagation
+mod PairLaws
+mod Answering

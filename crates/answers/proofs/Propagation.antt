@@ -1,0 +1,169 @@
+-- How a propagated vector starts and goes on by one step, at a moving place.
+use mathlib.Core.Path.{_≡_, refl, sym, ap, _∙_}
+use mathlib.Core.Bool.{Bool}
+use mathlib.Core.List.{List}
+use Prim.Native.Nat.{ℕ, suc, _+_, _-_, _^_, _≤_, _<_}
+use native.Mathlib.Omega.{arith}
+use lib.ListN.{length, getD, drop}
+use lib.Ieee.{Float, nan}
+use Rattle.vector.specs.Tabulate.{tabulate-length}
+use Rattle.transfer.specs.Job.{Job, Step, stepOf}
+use Rattle.transfer.specs.Rounded.{ieee}
+use Rattle.transfer.specs.Sweep as S
+use Rattle.plan.specs.Layout.{stepIn, forwardPlace}
+use Rattle.sweep.specs.Place.{Place, Places, held, hold}
+use Rattle.vertex.specs.Frame.{moving-fits, Wrote, wrote-same}
+use Rattle.vertex.specs.Ready.{Ready, Stepping, Still, still-none, still-then, still-wrote, still-swept, tail-factors, tail-scale}
+use Rattle.answers.specs.declared.propagate.Hand.{Hand}
+use Rattle.answers.specs.Hand.{Passed, Reached, Advanced, Propagated}
+
+-- ---- what stays
+
+pub still-ready : (plan : List ℕ) (r₀ r : List Float) (n w scales : ℕ) → Still r₀ r w scales → Ready plan (length r₀) n w scales
+    → Ready plan (length r) n w scales
+still-ready plan r₀ r n w scales s p = rw (s .same) p
+
+pub still-passed : (J : Job Float) (plan : List ℕ) (r₀ r : List Float) (n w scales : ℕ) (each : Bool) → Ready plan (length r₀) n w scales
+    → Still r₀ r w scales → Passed J plan r₀ n w scales each → Passed J plan r n w scales each
+still-passed J plan r₀ r n w scales each p s g =
+    record { of = rw (tail-factors r₀ r scales n (s .tail)) (g .of); swept = still-swept J plan r₀ r n w scales p s (g .swept) }
+
+-- ---- the definition's propagated vectors
+
+propagated-start : (J : Job Float) (u t : ℕ) → t ≡ 0 → S.propagated ieee J u t ≡ S.alternate ieee (J .window) (S.forward ieee J u)
+unfolding S.propagated
+propagated-start J u t e = rw e
+
+propagated-more : (J : Job Float) (u i : ℕ)
+    → S.propagated ieee J u (suc i)
+    ≡ S.forwardStep ieee (J .window) (stepOf J (u + suc i)) (S.scale ieee J (u + suc i)) (S.propagated ieee J u i)
+unfolding S.propagated
+propagated-more J u i = refl
+
+propagated-step : (J : Job Float) (u t : ℕ) → u ≤ t
+    → S.propagated ieee J u (t + 1 - u)
+    ≡ S.forwardStep ieee (J .window) (stepOf J (t + 1)) (S.scale ieee J (t + 1)) (S.propagated ieee J u (t - u))
+propagated-step J u t l =
+    let e : t + 1 - u ≡ suc (t - u) = omega arith in
+    let g : u + suc (t - u) ≡ t + 1 = omega arith in
+    rw e
+    (propagated-more J u (t - u)
+    ∙ ap (λ (k : ℕ). S.forwardStep ieee (J .window) (stepOf J k) (S.scale ieee J k) (S.propagated ieee J u (t - u))) g)
+
+alternate-length : (w : ℕ) (v : List Float) → length (S.alternate ieee w v) ≡ 2 ^ w
+unfolding S.alternate
+alternate-length w v = tabulate-length _ (2 ^ w)
+
+step-length : (w : ℕ) (s : Step Float) (x : Float) (v : List Float) → length (S.forwardStep ieee w s x v) ≡ 2 ^ w
+unfolding S.forwardStep
+step-length w s x v = tabulate-length _ (2 ^ w)
+
+step-same : (w w′ : ℕ) (s s′ : Step Float) (x x′ : Float) (v v′ : List Float) → w ≡ w′ → s ≡ s′ → x ≡ x′ → v ≡ v′
+    → S.forwardStep ieee w s x v ≡ S.forwardStep ieee w′ s′ x′ v′
+step-same w w′ s s′ x x′ v v′ a b c d = cc
+
+-- ---- places
+
+-- a moving place lies in the room
+pub moving-place : (plan : List ℕ) (len n w scales p : ℕ) → Ready plan len n w scales → p < 2 → Place len w p
+moving-place plan len n w scales p g l =
+    record { wide = g .wide; narrow = g .narrow; inside = omega (arith, g .ends, moving-fits w scales p l (g .moving)) }
+
+-- ---- on by no step, and by one: from place src to the other moving place
+
+pub advance-none : (plan : List ℕ) (r : List Float) (n w scales from at : ℕ) → at < 2 → Advanced plan r r n w scales from at from at
+advance-none plan r n w scales from at l = record { moving = l; still = still-none r w scales; reached = λ J each u passed before. before }
+
+module _ (plan : List ℕ) (r₀ r : List Float) (n w scales from at t src : ℕ) (ready : Ready plan (length r₀) n w scales)
+    (g : Advanced plan r₀ r n w scales from at t src) (inside : t + 1 < n) where
+  ready-now : Ready plan (length r) n w scales
+  ready-now = still-ready plan r₀ r n w scales (g .still) ready
+
+  other : 1 - src < 2
+  other = omega arith
+
+  pub advance-stepping : Stepping plan (length r) w (scales + n) (t + 1) src (1 - src)
+  advance-stepping =
+      let p = ready-now in
+      record {
+        reads = record { holds = omega (arith, p .holds); ends = p .ends; vertex = p .vertex (t + 1) inside };
+        places = record {
+          from = moving-place plan (length r) n w scales src p (g .moving);
+          to = moving-place plan (length r) n w scales (1 - src) p other;
+          other = λ e. omega (arith, g .moving);
+        };
+      }
+
+  pub advance-turn : (r′ : List Float) (scale : Float) → scale ≡ getD r (scales + (t + 1)) nan
+      → r′ ≡ hold r w (1 - src) (S.forwardStep ieee w (stepIn plan (drop (scales + n) r) (t + 1)) scale (held r w src))
+      → Advanced plan r₀ r′ n w scales from at (t + 1) (1 - src)
+  advance-turn r′ scale es e =
+      let p = ready-now in
+      let wrote : Wrote r r′ w (1 - src) = record { vector = _; full = step-length w _ scale (held r w src); done = e } in
+      record {
+        moving = other;
+        still = still-then r₀ r r′ w scales (g .still) (still-wrote plan r r′ n w scales (1 - src) p other wrote);
+        reached = λ J each u passed before.
+            let now = g .reached J each u passed before in
+            record {
+              order = omega (arith, now .order);
+              vector = wrote-same r r′ w (1 - src) wrote (moving-place plan (length r) n w scales (1 - src) p other .inside)
+                  ∙ step-same w (J .window) _ (stepOf J (t + 1)) scale (S.scale ieee J (t + 1)) (held r w src) _ (sym (passed .of .window))
+                  (ap (λ (x : List Float). stepIn plan x (t + 1)) (tail-factors r₀ r scales n (g .still .tail)) ∙ passed .of .step (t + 1) inside)
+                  (es ∙ tail-scale r₀ r scales (t + 1) (g .still .tail) ∙ passed .swept .forward .scaled (t + 1) inside)
+                  (now .vector)
+                  ∙ sym (propagated-step J u t (now .order));
+            };
+      }
+
+-- ---- on from the one at hand
+
+pub propagated-on : (plan : List ℕ) (r₀ r : List Float) (n w scales u v on : ℕ) (hand : Hand) → u < n → hand .vertex ≡ u
+    → Advanced plan r₀ r n w scales (hand .reached) (hand .place) v on → Propagated plan r₀ r n w scales u v hand on
+propagated-on plan r₀ r n w scales u v on hand b e g =
+    record {
+      moving = g .moving;
+      still = g .still;
+      reached = λ J each passed known. g .reached J each u passed (rw e at (known .reached (omega arith)));
+    }
+
+-- ---- anew
+
+module _ (plan : List ℕ) (r₀ : List Float) (n w scales u : ℕ) (ready : Ready plan (length r₀) n w scales) (inside : u < n)
+    (kept : 0 < forwardPlace plan u) where
+  pub start-places : Places (length r₀) w (forwardPlace plan u) 0
+  start-places =
+      let fits = ready .forward .fits u inside kept in
+      let high = ready .forward .high u inside kept in
+      record {
+        from = record { wide = ready .wide; narrow = ready .narrow; inside = omega (arith, ready .ends) };
+        to = moving-place plan (length r₀) n w scales 0 ready (omega arith);
+        other = λ e. omega arith;
+      }
+
+  module _ (r₁ : List Float) (e : r₁ ≡ hold r₀ w 0 (S.alternate ieee w (held r₀ w (forwardPlace plan u)))) where
+    abbrev wrote : Wrote r₀ r₁ w 0
+    wrote = record { vector = _; full = alternate-length w (held r₀ w (forwardPlace plan u)); done = e }
+
+    still-start : Still r₀ r₁ w scales
+    still-start = still-wrote plan r₀ r₁ n w scales 0 ready (omega arith) wrote
+
+    started : (J : Job Float) (each : Bool) → Passed J plan r₀ n w scales each → Reached J r₁ w u u 0
+    started J each passed =
+        record {
+          order = omega arith;
+          vector = wrote-same r₀ r₁ w 0 wrote (start-places .to .inside)
+              ∙ ap (S.alternate ieee w) (passed .swept .forward .vectors u inside kept)
+              ∙ ap (λ (k : ℕ). S.alternate ieee k (S.forward ieee J u)) (sym (passed .of .window))
+              ∙ sym (propagated-start J u (u - u) (omega arith));
+        }
+
+    pub propagated-anew : (r : List Float) (v on : ℕ) (hand : Hand) → Advanced plan r₁ r n w scales u 0 v on
+        → Propagated plan r₀ r n w scales u v hand on
+    propagated-anew r v on hand g =
+        record {
+          moving = g .moving;
+          still = still-then r₀ r₁ r w scales still-start (g .still);
+          reached = λ J each passed known.
+              g .reached J each u (still-passed J plan r₀ r₁ n w scales each ready still-start passed) (started J each passed);
+        }

@@ -1,0 +1,57 @@
+-- The propagated vector that is at hand, and what is known as it goes on from pair to pair. Only the moving places are written.
+use mathlib.Core.Path.{_≡_}
+use mathlib.Core.Bool.{Bool}
+use mathlib.Core.List.{List}
+use Prim.Native.Nat.{ℕ, _+_, _-_, _≤_, _<_}
+use lib.ListN.{drop}
+use lib.Ieee.{Float}
+use Rattle.transfer.specs.Job.{Job}
+use Rattle.transfer.specs.Rounded.{ieee}
+use Rattle.transfer.specs.Sweep as S
+use Rattle.plan.specs.Layout.{forwardPlace, backwardPlace}
+use Rattle.sweep.specs.Place.{held}
+use Rattle.vertex.specs.Ready.{PlanOf, Swept, Still}
+use Rattle.answers.specs.declared.propagate.Hand.{Hand}
+use Rattle.answers.specs.declared.pair.PairSums.{PairSums}
+
+-- The plan is of job J, and both its sweeps have passed the room.
+pub record Passed (J : Job Float) (plan : List ℕ) (r : List Float) (n w scales : ℕ) (each : Bool) : Type 0 where
+  pub of : PlanOf J plan (drop (scales + n) r) n w each
+  pub swept : Swept J plan r n w scales
+
+-- The propagated vector of u has reached vertex t and lies at place `at`.
+pub record Reached (J : Job Float) (r : List Float) (w u t at : ℕ) : Type 0 where
+  pub order : u ≤ t
+  pub vector : held r w at ≡ S.propagated ieee J u (t - u)
+
+-- A propagated vector that had reached `from` at place `at`, whichever it was, has reached `to` at place `on`.
+pub record Advanced (plan : List ℕ) (r₀ r : List Float) (n w scales from at to on : ℕ) : Type 0 where
+  pub moving : on < 2
+  pub still : Still r₀ r w scales
+  pub reached : (J : Job Float) (each : Bool) (u : ℕ) → Passed J plan r₀ n w scales each → Reached J r₀ w u from at → Reached J r w u to on
+
+-- The vector at hand is what it is said to be, if there is one.
+pub record AtHand (J : Job Float) (r : List Float) (n w : ℕ) (hand : Hand) : Type 0 where
+  pub reached : hand .vertex < n → Reached J r w (hand .vertex) (hand .reached) (hand .place)
+
+-- The propagated vector of u has reached v at place `on`.
+pub record Propagated (plan : List ℕ) (r₀ r : List Float) (n w scales u v : ℕ) (hand : Hand) (on : ℕ) : Type 0 where
+  pub moving : on < 2
+  pub still : Still r₀ r w scales
+  pub reached : (J : Job Float) (each : Bool) → Passed J plan r₀ n w scales each → AtHand J r₀ n w hand → Reached J r w u v on
+
+-- The pair u < v has the places that it needs.
+pub record PairPlaces (plan : List ℕ) (n w u v : ℕ) : Type 0 where
+  pub order : u < v
+  pub inside : v < n
+  pub forward : 0 < forwardPlace plan v
+  pub backward : 0 < backwardPlace plan v
+  pub propagated : w ≤ v - u → 0 < forwardPlace plan u
+
+-- The sums are N and Z of the pair u < v, and the vector at hand is still known.
+pub record Summed (plan : List ℕ) (r₀ r : List Float) (n w scales u v : ℕ) (hand : Hand) (s : PairSums) : Type 0 where
+  pub moving : s .hand .place < 2
+  pub still : Still r₀ r w scales
+  pub at-hand : (J : Job Float) (each : Bool) → Passed J plan r₀ n w scales each → AtHand J r₀ n w hand → AtHand J r n w (s .hand)
+  pub n-is : (J : Job Float) (each : Bool) → Passed J plan r₀ n w scales each → AtHand J r₀ n w hand → s .n ≡ S.N ieee J u v
+  pub z-is : (J : Job Float) (each : Bool) → Passed J plan r₀ n w scales each → s .z ≡ S.Z ieee J v

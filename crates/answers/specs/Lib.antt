@@ -1,0 +1,4 @@
+-- The definitions that the contracts cite.
+pub mod Sound
+pub mod Served
+pub mod Hand

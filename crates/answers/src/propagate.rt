@@ -1,0 +1,68 @@
+// A propagated vector goes on from vertex to vertex. It moves between places 0 and 1: what the sweeps kept stays.
+ghost use Prim.Native.Nat.{_≤_, _<_};
+ghost use lib.ListN.{length};
+ghost use Rattle.plan.specs.Layout.{forwardPlace};
+ghost use Rattle.vertex.specs.Ready.{Ready};
+ghost use Rattle.answers.specs.Hand.{Advanced, Propagated};
+use plan::forward_place;
+use sweep::alternate;
+use vertex::forward_at;
+
+// The propagated vector at hand: of which vertex, which vertex it has reached, and its place. The vertex is n where there is none.
+pub struct Hand {
+    pub vertex: usize,
+    pub reached: usize,
+    pub place: usize,
+}
+
+// The vector at place `at`, which has reached vertex `from`, goes on to vertex `to` by the stored scales; returns its place.
+fn advance(
+    room: &mut [f64],
+    plan: &[usize],
+    n: usize,
+    w: usize,
+    scales: usize,
+    from: usize,
+    to: usize,
+    at: usize,
+) -> usize
+    requires { ⌜ Ready (now plan) (length (now room)) n w scales × (from ≤ to) × (to < n) × (at < 2) ⌝ }
+    ensures { λ r. ⌜ Advanced (now (plan .entry)) (now (room .entry)) (now (room .exit)) n w scales from at to r ⌝ }
+{
+    let mut src = at;
+    let mut t = from;
+    while t < to {
+        let next = t + 1;
+        let scale = room[scales + next];
+        let dst = 1 - src;
+        forward_at(room, scales + n, plan, w, next, scale, src, dst);
+        src = dst;
+        t = next;
+    }
+    src
+}
+
+// The propagated vector of u at v: on from the one at hand if it is u's and not past v, else anew from u's forward vector. Returns its
+// place.
+pub fn propagate(
+    room: &mut [f64],
+    plan: &[usize],
+    n: usize,
+    w: usize,
+    scales: usize,
+    u: usize,
+    v: usize,
+    hand: Hand,
+) -> usize
+    requires { ⌜ Ready (now plan) (length (now room)) n w scales × (u ≤ v) × (v < n) × (0 < forwardPlace (now plan) u) × (hand .place < 2) ⌝ }
+    ensures { λ r. ⌜ Propagated (now (plan .entry)) (now (room .entry)) (now (room .exit)) n w scales u v hand r ⌝ }
+{
+    if hand.vertex == u {
+        if hand.reached <= v {
+            return advance(room, plan, n, w, scales, hand.reached, v, hand.place);
+        }
+    }
+    let f = forward_place(plan, u);
+    alternate(room, f, 0, w);
+    advance(room, plan, n, w, scales, u, v, 0)
+}

@@ -1,0 +1,189 @@
+-- The backward sweep: its start, and a turn.
+use mathlib.Core.Path.{_≡_, refl, sym, ap, _∙_}
+use mathlib.Core.Bool.{Bool, cond}
+use mathlib.Core.List.{List}
+use mathlib.Core.Logic.{dite}
+use Prim.Native.Nat.{ℕ, suc, _+_, _-_, _<_}
+use native.Mathlib.Decide.{decLt}
+use native.Mathlib.Omega.{arith}
+use lib.ListN.{length, drop}
+use lib.Ieee.{Float, binary64, div}
+use Rattle.transfer.specs.Job.{Job, Manner, Step, block, perElement, stepOf}
+use Rattle.transfer.specs.Rounded.{ieee}
+use Rattle.transfer.specs.Sweep as S
+use Rattle.plan.specs.Layout.{stepIn, forwardPlace, backwardPlace}
+use Rattle.sweep.specs.Place.{held, hold}
+use Rattle.vertex.specs.Frame.{Fits, Wrote, wrote-same, wrote-other}
+use Rattle.vertex.specs.Ready.{Ready, PlanOf, Stepping, tail-factors}
+use Rattle.sweeps.specs.Target.{Target}
+use Rattle.sweeps.specs.Kept.{Since}
+use Rattle.sweeps.specs.Coming.{NewestBackward, Coming}
+use Rattle.sweeps.proofs.Targets.{Aimed, target-fits, target-own, target-kind, target-other, target-free}
+use Rattle.sweeps.proofs.Frames.{place-of, stepping, start-full, backward-full, since-none, since-then, since-wrote}
+
+-- ---- the definition, opened
+
+-- the step that follows s
+abbrev stepAfter : Job Float → ℕ → List Float × Float → List Float
+stepAfter J t s = S.backwardStep ieee (J .window) (stepOf J t) (div binary64 (ieee .𝟙) (s .1)) (s .0)
+
+vector-next : (J : Job Float) (i : ℕ) → S.afterSteps ieee J (suc i) .0 ≡ stepAfter J (J .last - i) (S.afterSteps ieee J i)
+unfolding S.afterSteps S.sweepBackward
+vector-next J i = refl
+
+entry-next : (J : Job Float) (i : ℕ)
+    → S.afterSteps ieee J (suc i) .1 ≡ S.stored ieee (J .manner) 0 (J .last - i) (S.afterSteps ieee J (suc i) .0)
+unfolding S.afterSteps S.sweepBackward
+entry-next J i = refl
+
+backward-is : (J : Job Float) (t : ℕ) → S.backward ieee J t ≡ S.afterSteps ieee J (J .last - t) .0
+unfolding S.backward
+backward-is J t = refl
+
+first-vector : (J : Job Float) → S.afterSteps ieee J 0 .0 ≡ S.start ieee (J .window)
+unfolding S.afterSteps
+first-vector J = refl
+
+first-entry : (J : Job Float) → S.afterSteps ieee J 0 .1 ≡ ieee .𝟙
+unfolding S.afterSteps
+first-entry J = refl
+
+-- the step at t makes the vector of u, t being u + 1
+module _ (J : Job Float) {n t : ℕ} (u : ℕ) (vertices : J .last + 1 ≡ n) (b : t < n) (next : t ≡ u + 1) where
+  count : J .last - u ≡ suc (J .last - t)
+  count = omega arith
+
+  back : J .last - (J .last - t) ≡ t
+  back = omega arith
+
+  vector-at : S.afterSteps ieee J (J .last - u) .0 ≡ stepAfter J t (S.afterSteps ieee J (J .last - t))
+  vector-at = rw count (vector-next J (J .last - t) ∙ ap (λ (k : ℕ). stepAfter J k (S.afterSteps ieee J (J .last - t))) back)
+
+  entry-at : S.afterSteps ieee J (J .last - u) .1 ≡ S.stored ieee (J .manner) 0 t (S.afterSteps ieee J (J .last - u) .0)
+  entry-at =
+      let new = S.afterSteps ieee J (suc (J .last - t)) in
+      rw count (entry-next J (J .last - t) ∙ ap (λ (k : ℕ). S.stored ieee (J .manner) 0 k (new .0)) back)
+
+-- ---- a vector of u, written to its target
+
+module _ {plan : List ℕ} (r : List Float) {n w scales u src dst : ℕ} (g : Ready plan (length r) n w scales) (b : u < n)
+    (target : Target (backwardPlace plan u) src dst) where
+  aimed : Aimed (backwardPlace plan) n w scales u src dst
+  aimed = record { own = g .backward; moving = g .moving; below = b; target = target }
+
+  pub written-fits : Fits w scales dst
+  written-fits = target-fits aimed
+
+  written-inside : Fits w (length r) dst
+  written-inside = place-of g dst written-fits .inside
+
+  written-since : {r′ : List Float} → Wrote r r′ w dst → Since plan r r′ n w scales
+  written-since {r′} d =
+      since-wrote plan r r′ n w scales dst g written-fits
+      (λ v c p. target-kind aimed (forwardPlace plan v) (g .forward .high v c p) (λ e. g .kinds v u c b p e)) d
+
+-- ---- the start: e is the room at entry, u the last vertex
+
+module _ {plan : List ℕ} (e : List Float) {r : List Float} {n w scales : ℕ} (u : ℕ) {src dst : ℕ} (g : Ready plan (length e) n w scales)
+    (last : u + 1 ≡ n) (target : Target (backwardPlace plan u) src dst) (made : r ≡ hold e w dst (S.start ieee w)) where
+  first-below : u < n
+  first-below = omega arith
+
+  abbrev first-wrote : Wrote e r w dst
+  first-wrote = record { vector = S.start ieee w; full = start-full w; done = made }
+
+  pub start-since : Since plan e r n w scales
+  start-since = written-since e g first-below target first-wrote
+
+  first-newest : {one : Float} → one ≡ ieee .𝟙 → (J : Job Float) → J .last + 1 ≡ n → J .window ≡ w → NewestBackward J plan r n w u dst one
+  first-newest o J vertices window =
+      let none : J .last - u ≡ 0 = omega arith in
+      let vector : held r w dst ≡ S.afterSteps ieee J (J .last - u) .0 =
+      wrote-same e r w dst first-wrote (written-inside e g first-below target)
+      ∙ ap (S.start ieee) (sym window) ∙ sym (first-vector J) ∙ ap (λ (i : ℕ). S.afterSteps ieee J i .0) (sym none) in
+      record {
+        vector = vector;
+        entry = o ∙ sym (first-entry J) ∙ ap (λ (i : ℕ). S.afterSteps ieee J i .1) (sym none);
+        kept = record {
+          vectors = λ v c d p. let x : v ≡ u = omega arith in
+              let p′ : 0 < backwardPlace plan u = rw x at p in
+              rw x (ap (λ (q : ℕ). held r w q) (sym (target .keeps p′)) ∙ vector ∙ sym (backward-is J u));
+        };
+      }
+
+  pub coming-start : (each : Bool) {one : Float} → one ≡ ieee .𝟙 → Coming plan r r n w scales each u dst one
+  coming-start each o =
+      record {
+        below = first-below;
+        ready = rw (start-since .same) g;
+        since = since-none plan r n w scales;
+        free = target-free (aimed e g first-below target) (λ v. v < u) (λ v q x. omega arith);
+        newest = λ J of. first-newest o J (of .vertices) (of .window);
+      }
+
+-- ---- a turn
+
+module _ {plan : List ℕ} {r₀ r : List Float} {n w scales : ℕ} {each : Bool} {t : ℕ} (u : ℕ) {src dst : ℕ} {most : Float}
+    (g : Coming plan r₀ r n w scales each t src most) (next : t ≡ u + 1) (target : Target (backwardPlace plan u) src dst) where
+  before : u < n
+  before = omega (arith, g .below)
+
+  aim : Aimed (backwardPlace plan) n w scales u src dst
+  aim = aimed r (g .ready) before target
+
+  pub coming-fits : Fits w scales dst
+  coming-fits = target-fits aim
+
+  pub coming-step : Stepping plan (length r) w (scales + n) t src dst
+  coming-step =
+      stepping (g .ready) t src dst (g .below) (g .free .fits) coming-fits (target-other aim (λ v. v < t) (g .free) (omega arith))
+
+  module _ {r₂ : List Float} {scale most′ : Float} (one-over : scale ≡ div binary64 (ieee .𝟙) most)
+      (step : r₂ ≡ hold r w dst (S.backwardStep ieee w (stepIn plan (drop (scales + n) r) t) scale (held r w src)))
+      (taken : most′ ≡ S.stored ieee (cond each perElement block) 0 t (held r₂ w dst)) where
+    abbrev wrote : Wrote r r₂ w dst
+    wrote = record { vector = _; full = backward-full w _ scale _; done = step }
+
+    newest-turn : (J : Job Float) → PlanOf J plan (drop (scales + n) r₀) n w each → NewestBackward J plan r₂ n w u dst most′
+    newest-turn J of =
+        let f = g .newest J of in
+        let old = S.afterSteps ieee J (J .last - t) in
+        let fits = place-of (g .ready) dst coming-fits .inside in
+        let said : stepIn plan (drop (scales + n) r) t ≡ stepOf J t =
+        ap (λ (x : List Float). stepIn plan x t) (tail-factors r₀ r scales n (g .since .tail)) ∙ of .step t (g .below) in
+        let vector : held r₂ w dst ≡ S.afterSteps ieee J (J .last - u) .0 =
+        wrote-same r r₂ w dst wrote fits
+        ∙ ap (λ (s : Step Float). S.backwardStep ieee w s scale (held r w src)) said
+        ∙ ap (λ (x : List Float). S.backwardStep ieee w (stepOf J t) scale x) (f .vector)
+        ∙ ap (λ (c : Float). S.backwardStep ieee w (stepOf J t) c (old .0)) (one-over ∙ ap (div binary64 (ieee .𝟙)) (f .entry))
+        ∙ ap (λ (k : ℕ). S.backwardStep ieee k (stepOf J t) (div binary64 (ieee .𝟙) (old .1)) (old .0)) (sym (of .window))
+        ∙ sym (vector-at J u (of .vertices) (g .below) next) in
+        let manner = ap (λ (m : Manner). S.stored ieee m 0 t (held r₂ w dst)) (sym (of .manner)) in
+        record {
+          vector = vector;
+          entry = taken ∙ manner ∙ ap (S.stored ieee (J .manner) 0 t) vector ∙ sym (entry-at J u (of .vertices) (g .below) next);
+          kept = record {
+            vectors = λ v c d p.
+                dite (decLt v t)
+                (λ x.
+                let e : v ≡ u = omega arith in
+                let p′ : 0 < backwardPlace plan u = rw e at p in
+                rw e (ap (λ (q : ℕ). held r₂ w q) (sym (target .keeps p′)) ∙ vector ∙ sym (backward-is J u)))
+                (λ x.
+                let q = backwardPlace plan v in
+                let own = target-own aim v d (λ z. omega arith) p in
+                wrote-other r r₂ w dst wrote fits q (λ e. own (sym e)) (place-of (g .ready) q (g .ready .backward .fits v d p) .inside)
+                ∙ f .kept .vectors v (omega arith) d p);
+          };
+        }
+
+    pub coming-turn : Coming plan r₀ r₂ n w scales each u dst most′
+    coming-turn =
+        let now = written-since r (g .ready) before target wrote in
+        record {
+          below = before;
+          ready = rw (now .same) (g .ready);
+          since = since-then (g .since) now;
+          free = target-free aim (λ v. v < u) (λ v q e. omega arith);
+          newest = newest-turn;
+        }

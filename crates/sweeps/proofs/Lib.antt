@@ -1,0 +1,5 @@
+-- Laws that the proofs share.
+mod Targets
+mod Frames
+mod ForwardTurn
+mod BackwardTurn

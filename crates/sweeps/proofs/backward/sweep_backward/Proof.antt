@@ -1,0 +1,127 @@
+-- Each turn takes the step from the newest vector and keeps what it gave.
+use mathlib.Core.Path.{_≡_, _∙_}
+use Prim.Native.Nat.{_+_, _-_}
+use native.Mathlib.Omega.{arith}
+use borrow.Author.Needs.{needs}
+use Rattle.plan.specs.Layout.{backwardPlace}
+use Rattle.sweep.specs.Constants.{one-is}
+use Rattle.vertex.specs.Ready.{tail-factors}
+use Rattle.sweeps.specs.Target.{Target}
+use Rattle.sweeps.specs.Coming.{Coming}
+use Rattle.sweeps.proofs.Frames.{place-of, since-then}
+use Rattle.sweeps.proofs.BackwardTurn.{written-fits, start-since, coming-start, coming-fits, coming-step, coming-turn}
+use Rattle.sweeps.proofs.backward.sweep_backward.Statement.{statement}
+use Rattle.sweeps.proofs.backward.sweep_backward.Tie as tie
+
+abbrev Inv-loop : tie.InvT-loop
+Inv-loop room₀ plan n w scales each factors t₀ src₀ most₀ room t src most = Coming plan room₀ room n w scales each t src most
+
+abbrev μ-loop : tie.MeasureT-loop
+μ-loop room₀ plan n w scales each factors t₀ src₀ most₀ room t src most = t
+
+-- the place of the last vertex
+first : (c : tie.After-place-for Inv-loop μ-loop)
+    → let a = c .before .before .before .before .args in
+    Target (backwardPlace (a .plan .now) (a .n - 1)) 1 (c .place-for .result)
+first c = rw (c .before .backward-place .ensures) at (c .place-for .ensures)
+
+last : (c : tie.After-place-for Inv-loop μ-loop) → let a = c .before .before .before .before .args in a .n - 1 + 1 ≡ a .n
+last c = omega (arith, c .before .before .before .before .pre .0)
+
+-- the target of the step at t, and its vertex
+target : (c : tie.After-place-for2 Inv-loop μ-loop)
+    → let a = c .before .before .before .before .before .before .before .before .before .before .before .before .args in
+    let l = c .before .before .before .loop in
+    Target (backwardPlace (a .plan .now) (l .t - 1)) (l .src) (c .place-for2 .result)
+target c = rw (c .before .backward-place2 .ensures) at (c .place-for2 .ensures)
+
+next : (c : tie.After-place-for2 Inv-loop μ-loop) → let l = c .before .before .before .loop in l .t ≡ l .t - 1 + 1
+next c = omega arith
+
+add-factors : tie.Need-add-factors Inv-loop μ-loop
+add-factors c = search needs
+
+sub-t : tie.Need-sub-t Inv-loop μ-loop
+sub-t c = search needs
+
+backward-place-requires : tie.Need-backward-place-requires Inv-loop μ-loop
+backward-place-requires c κs = omega (arith, c .before .before .pre .1 .holds, c .before .before .pre .0)
+
+place-for-requires : tie.Need-place-for-requires Inv-loop μ-loop
+place-for-requires c κs = search needs
+
+start-at-requires : tie.Need-start-at-requires Inv-loop μ-loop
+start-at-requires c κs =
+    let s = c .before .before .before .before .before in
+    let e = last (c .before) in
+    place-of (s .pre .1) _ (written-fits (s .args .room .now) (s .pre .1) (omega arith) (first (c .before)))
+
+loop-holds : tie.Need-loop-holds Inv-loop μ-loop
+loop-holds c =
+    let s = c .before .before .before .before .before .before .before .before in
+    let placed = c .before .before .before .before in
+    coming-start (s .args .room .now) _ (s .pre .1) (last placed) (first placed) (c .before .before .start-at .ensures) (s .args .each) one-is
+
+sub-u : tie.Need-sub-u Inv-loop μ-loop
+sub-u c = search needs
+
+backward-place-requires-2 : tie.Need-backward-place-requires-2 Inv-loop μ-loop
+backward-place-requires-2 c κs = omega (arith, c .before .loop .inv .ready .holds, c .before .loop .inv .below)
+
+place-for-requires-2 : tie.Need-place-for-requires-2 Inv-loop μ-loop
+place-for-requires-2 c κs = search needs
+
+backward-at-requires : tie.Need-backward-at-requires Inv-loop μ-loop
+backward-at-requires c κs = coming-step _ (c .before .before .before .before .loop .inv) (next (c .before)) (target (c .before))
+
+stored-requires : tie.Need-stored-requires Inv-loop μ-loop
+stored-requires c κs =
+    let g = c .before .before .before .before .before .before .before .before .loop .inv in
+    let placed = c .before .before .before .before .before in
+    rw (c .before .before .before .backward-at .kept .0) (place-of (g .ready) _ (coming-fits _ g (next placed) (target placed)))
+
+loop-less : tie.Need-loop-less Inv-loop μ-loop
+loop-less c = search needs
+
+loop-again : tie.Need-loop-again Inv-loop μ-loop
+loop-again c =
+    let placed = c .before .before .before .before .before .before in
+    let stepped = c .before .before .before .before .backward-at in
+    let g = c .before .before .before .before .before .before .before .before .before .loop .inv in
+    coming-turn _ g (next placed) (target placed) (rw one-is) (stepped .ensures) (c .stored .ensures)
+
+same-length : tie.Need-same-length Inv-loop μ-loop
+same-length c = c .before .loop .inv .since .same ∙ c .before .before .before .before .start-at .kept .0
+
+returns : tie.Need-returns Inv-loop μ-loop
+returns c =
+    let s = c .before .before .before .before .before .before .before .before .before .before in
+    let g = c .before .loop .inv in
+    let placed = c .before .before .before .before .before .before in
+    let start = start-since (s .args .room .now) _ (s .pre .1) (last placed) (first placed) (c .before .before .before .before .start-at .ensures) in
+    let none : c .before .loop .t ≡ 0 = omega arith in (
+      since-then start (g .since),
+      λ J of. rw none at (g .newest J (rw (tail-factors _ _ _ (s .args .n) (start .tail)) of) .kept),
+    )
+
+pub sweep-backward-spec : {M : Type 1} → statement M
+sweep-backward-spec =
+    tie.close
+    (tie.spec
+    Inv-loop
+    μ-loop
+    add-factors
+    sub-t
+    backward-place-requires
+    place-for-requires
+    start-at-requires
+    loop-holds
+    sub-u
+    backward-place-requires-2
+    place-for-requires-2
+    backward-at-requires
+    stored-requires
+    loop-less
+    loop-again
+    same-length
+    returns)

@@ -1,0 +1,25 @@
+-- The filled place is the start of a sweep.
+use mathlib.Core.Path.{_∙_}
+use native.Mathlib.Omega.{arith}
+use borrow.Author.Needs.{needs}
+use Rattle.sweep.specs.Constants.{start-is}
+use Rattle.sweeps.proofs.target.start_at.Statement.{statement}
+use Rattle.sweeps.proofs.target.start_at.Tie as tie
+
+pow2-requires : tie.Need-pow2-requires
+pow2-requires c κs = search needs
+
+mul-fill : tie.Need-mul-fill
+mul-fill c = rw (c .before .pow2 .ensures) (omega (arith, c .before .before .before .pre .inside))
+
+fill-requires : tie.Need-fill-requires
+fill-requires c κs = rw (c .before .pow2 .ensures) (c .before .before .before .pre .inside)
+
+same-length : tie.Need-same-length
+same-length c = search needs
+
+returns : tie.Need-returns
+returns c = c .before .before .fill .ensures ∙ rw (c .before .before .before .before .pow2 .ensures, start-is)
+
+pub start-at-spec : {M : Type 1} → statement M
+start-at-spec = tie.close (tie.spec pow2-requires mul-fill fill-requires same-length returns)

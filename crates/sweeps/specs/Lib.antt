@@ -1,0 +1,5 @@
+-- The definitions that the contracts cite, and what the loops keep.
+pub mod Target
+pub mod Kept
+pub mod Going
+pub mod Coming

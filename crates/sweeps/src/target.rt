@@ -1,0 +1,28 @@
+// The places that a sweep writes.
+ghost use mathlib.Core.Path.{_≡_};
+ghost use lib.ListN.{length};
+ghost use Rattle.transfer.specs.Rounded.{ieee};
+ghost use Rattle.transfer.specs.Sweep as S;
+ghost use Rattle.sweep.specs.Place.{Place, hold};
+ghost use Rattle.sweeps.specs.Target.{Target};
+use sweep::fill;
+use sweep::pow2;
+
+// The place that a step writes: the kept one, or the moving one that is not the source. So no vector is copied.
+pub(crate) fn place_for(kept: usize, src: usize) -> usize
+    ensures { λ r. ⌜ Target kept src r ⌝ }
+{
+    if kept > 0 {
+        return kept;
+    }
+    if src == 0 { 1 } else { 0 }
+}
+
+// The start of a sweep at place p: all 1.0.
+pub(crate) fn start_at(room: &mut [f64], w: usize, p: usize)
+    requires { ⌜ Place (length (now room)) w p ⌝ }
+    ensures { λ _. ⌜ now (room .exit) ≡ hold (now (room .entry)) w p (S.start ieee w) ⌝ }
+{
+    let size = pow2(w);
+    fill(room, p * size, size, 1.0);
+}

@@ -1,0 +1,77 @@
+-- What a vector that is written to a place leaves as it was: its own length, the other places, and what lies behind the places.
+use mathlib.Core.Path.{_≡_, refl, sym, ap, _∙_, subst}
+use mathlib.Core.List.{List, []}
+use mathlib.Core.Logic.{_⊎_, inl, inr, dite}
+use Prim.Native.Nat.{ℕ, _+_, _*_, _-_, _^_, _≤_, _<_}
+use native.Mathlib.Decide.{decLt}
+use native.Mathlib.Nat.{suc-mul, mul-le-mul-right, zero-mul}
+use native.Mathlib.Omega.{arith}
+use lib.ListN.{length, getD, drop, set, length-drop, length-set}
+use lib.Seq.{ext-getD, getD-drop, getD-set-other}
+use lib.Ieee.{Float, nan}
+use Rattle.vector.specs.Part.{part, put, Apart, part-length, part-at, put-length, put-out, part-put, part-put-out}
+use Rattle.sweep.specs.Place.{held, hold}
+
+-- place p of window w lies below `end`
+abbrev pub Fits : ℕ → ℕ → ℕ → Type 0
+Fits w end p = p * 2 ^ w + 2 ^ w ≤ end
+
+-- two places lie apart
+off : (w p q : ℕ) → (p ≡ q → ⊥) → (p * 2 ^ w + 2 ^ w ≤ q * 2 ^ w) ⊎ (q * 2 ^ w + 2 ^ w ≤ p * 2 ^ w)
+off w p q ne =
+    dite (decLt p q)
+    (λ l. inl (omega (arith, mul-le-mul-right (2 ^ w) l, suc-mul p (2 ^ w))))
+    (λ l. let l′ : q < p = omega (arith, ne) in inr (omega (arith, mul-le-mul-right (2 ^ w) l′, suc-mul q (2 ^ w))))
+
+-- the moving places 0 and 1
+pub moving-fits : (w end p : ℕ) → p < 2 → 2 * 2 ^ w ≤ end → Fits w end p
+moving-fits w end p l m =
+    dite (decLt p 1)
+    (λ z. let e : p ≡ 0 = omega arith in rw e (omega arith))
+    (λ z. let e : p ≡ 1 = omega arith in rw e (omega arith))
+
+-- r′ is r with some vector at place p
+pub record Wrote (r r′ : List Float) (w p : ℕ) : Type 0 where
+  pub vector : List Float
+  pub full : length vector ≡ 2 ^ w
+  pub done : r′ ≡ hold r w p vector
+
+module _ (r r′ : List Float) (w p : ℕ) (g : Wrote r r′ w p) (fits : Fits w (length r) p) where
+  ends : p * 2 ^ w + length (g .vector) ≤ length r
+  ends = omega (arith, g .full)
+
+  pub wrote-length : length r′ ≡ length r
+  wrote-length = ap length (g .done) ∙ put-length r (p * 2 ^ w) (g .vector) ends
+
+  -- the place holds the vector
+  pub wrote-same : held r′ w p ≡ g .vector
+  wrote-same =
+      ap (λ (x : List Float). held x w p) (g .done)
+      ∙ subst (λ (k : ℕ). part (hold r w p (g .vector)) (p * 2 ^ w) k ≡ g .vector) (g .full) (part-put r (p * 2 ^ w) (g .vector) ends)
+
+  -- the others hold what they held
+  pub wrote-other : (q : ℕ) → (q ≡ p → ⊥) → Fits w (length r) q → held r′ w q ≡ held r w q
+  wrote-other q ne b =
+      let a : Apart (length r) (q * 2 ^ w) (2 ^ w) (p * 2 ^ w) (2 ^ w) = record { from = b; to = fits; off = off w q p ne } in
+      ap (λ (x : List Float). held x w q) (g .done)
+      ∙ part-put-out r (p * 2 ^ w) (g .vector) ends nan (q * 2 ^ w) (2 ^ w) (subst (λ (k : ℕ). Apart (length r) (q * 2 ^ w) (2 ^ w) (p * 2 ^ w) k) (sym (g .full)) a)
+
+  -- all that lies behind the place stays
+  pub wrote-at : (i : ℕ) → p * 2 ^ w + 2 ^ w ≤ i → getD r′ i nan ≡ getD r i nan
+  wrote-at i b = ap (λ (x : List Float). getD x i nan) (g .done) ∙ put-out r (p * 2 ^ w) (g .vector) ends i nan (inr (omega (arith, g .full)))
+
+  pub wrote-drop : (k : ℕ) → p * 2 ^ w + 2 ^ w ≤ k → drop k r′ ≡ drop k r
+  wrote-drop k b =
+      let l = wrote-length in
+      ext-getD nan (drop k r′) (drop k r) (length-drop k r′ ∙ ap (λ (n : ℕ). n - k) l ∙ sym (length-drop k r))
+      (λ i _. getD-drop k r′ i nan ∙ wrote-at (k + i) (omega arith) ∙ sym (getD-drop k r i nan))
+
+-- a number that is stored behind the places leaves them as they were
+pub set-held : (r : List Float) (w i q : ℕ) (a : Float) → i < length r → q * 2 ^ w + 2 ^ w ≤ i → held (set r i a) w q ≡ held r w q
+set-held r w i q a b l =
+    let s : length (set r i a) ≡ length r = length-set r i a in
+    let m : length (held (set r i a) w q) ≡ 2 ^ w = part-length (set r i a) (q * 2 ^ w) (2 ^ w) (omega arith) in
+    ext-getD nan (held (set r i a) w q) (held r w q) (m ∙ sym (part-length r (q * 2 ^ w) (2 ^ w) (omega arith)))
+    (λ j c. let c′ : j < 2 ^ w = omega arith in
+    part-at (set r i a) (q * 2 ^ w) (2 ^ w) j nan c′ ∙ getD-set-other r i (q * 2 ^ w + j) a nan (λ e. omega arith)
+    ∙ sym (part-at r (q * 2 ^ w) (2 ^ w) j nan c′))
