@@ -48,6 +48,9 @@ abbrev pub stripRefusal : List ℕ → StripRequest → ℕ
 stripRefusal concerned r = first stripChecks concerned r
 
 -- ---- which checks concern which call
+abbrev pub ofSides : List ℕ
+ofSides = 15 ∷ []
+
 abbrev pub ofStrip : List ℕ
 ofStrip = 15 ∷ 16 ∷ []
 

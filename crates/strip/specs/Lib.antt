@@ -8,3 +8,4 @@ pub mod EdgeLaws
 pub mod WindowLaw
 pub mod Spelling
 pub mod Names
+pub mod Vertices

@@ -6,6 +6,7 @@ mod reach;
 mod refuse;
 mod rules;
 mod strip;
+mod vertices;
 
 pub use dilute::diluted;
 pub use raw::raw_edges;
@@ -15,3 +16,4 @@ pub use strip::Kind;
 pub use strip::Parsed;
 pub use strip::Strip;
 pub use strip::Word;
+pub use vertices::Sited;

@@ -1,0 +1,48 @@
+// The vertices of a strip, for callers.
+ghost use mathlib.Core.Path.{_≡_};
+ghost use mathlib.Core.Bool.{false};
+ghost use Prim.Native.Nat.{_*_};
+ghost use Rattle.checks.specs.Answers.{answered};
+ghost use Rattle.checks.specs.StripRequest.{stripRefusal, ofSides};
+ghost use Rattle.strip.specs.Listing.{stripRequest};
+ghost use Rattle.strip.specs.Vertices.{sited};
+use crate::refuse::bad_sides;
+use crate::strip::Strip;
+use crate::strip::n;
+use crate::strip::vid;
+use checks::Answer;
+
+// A vertex, that the strip has none there, or the number of a refusal.
+pub enum Sited {
+    Vertex(usize),
+    Outside,
+    Refused(usize),
+}
+
+impl Strip {
+    // The number of vertices.
+    pub fn n(self) -> Answer
+        ensures { λ r. ⌜ r ≡ answered (stripRefusal ofSides (stripRequest self false)) (self .w * self .l) ⌝ }
+    {
+        if bad_sides(self.w, self.l) {
+            return Answer::Refused(15);
+        }
+        Answer::Number(n(self.w, self.l))
+    }
+
+    // The vertex at x along the strip and y across.
+    pub fn vid(self, x: usize, y: usize) -> Sited
+        ensures { λ r. ⌜ r ≡ sited (stripRefusal ofSides (stripRequest self false)) self x y ⌝ }
+    {
+        if bad_sides(self.w, self.l) {
+            return Sited::Refused(15);
+        }
+        if self.l <= x {
+            return Sited::Outside;
+        }
+        if self.w <= y {
+            return Sited::Outside;
+        }
+        Sited::Vertex(vid(self.w, x, y))
+    }
+}
