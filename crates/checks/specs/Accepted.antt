@@ -1,6 +1,6 @@
 -- What the checks give of a graph that none of them refuses.
 use mathlib.Core.Path.{_≡_, refl, sym}
-use mathlib.Core.Bool.{Bool, true, false, cond, _||_}
+use mathlib.Core.Bool.{Bool, true, false, cond, not, _||_}
 use mathlib.Core.List.{List, [], _∷_, _++_}
 use Prim.Native.Nat.{ℕ, zero, suc, _≤_, _<_, min, max}
 use native.Mathlib.Decide.{decLt}
@@ -25,23 +25,32 @@ pub record Inside (n : ℕ) (e : Kept) : Type 0 where
 pub low-count : (n : ℕ) → (eqb n 0 || ltb 1024 n) ≡ false → n ≤ 1024
 low-count n h = ltb-false 1024 n (or-false (eqb n 0) (ltb 1024 n) h .1)
 
+pub some-count : (n : ℕ) → (eqb n 0 || ltb 1024 n) ≡ false → 1 ≤ n
+some-count n h = pos n (eqb-false n 0 (or-false (eqb n 0) (ltb 1024 n) h .0))
+  where
+    pos : (n : ℕ) → (n ≡ 0 → ⊥) → 1 ≤ n
+    pos zero f = absurd (f refl)
+    pos (suc n) f = omega arith
+
 -- lists that check 2 passes
 pub record Lengths (a b : List ℕ) (m : List Float) : Type 0 where
   pub others : length b ≡ length a
   pub magnitudes : length m ≡ length a
   pub few-edges : length a ≤ 4096
 
-pub lengths : (a b : List ℕ) (m : List Float) → badLists (graphRequest 0 a b m false) ≡ false → Lengths a b m
-lengths a b m h =
-    let l5 = or-false _ _ h in
-    let l4 = or-false _ _ (l5 .0) in
-    let l3 = or-false _ _ (l4 .0) in
+pub edge-lengths : (a b : List ℕ) (m : List Float)
+    → (not (eqb (length a) (length b)) || not (eqb (length a) (length m)) || ltb 4096 (length a)) ≡ false → Lengths a b m
+edge-lengths a b m h =
+    let l3 = or-false _ _ h in
     let l2 = or-false _ _ (l3 .0) in
     record {
       others = sym (eqb-true _ _ (not-false _ (l2 .0)));
       magnitudes = sym (eqb-true _ _ (not-false _ (l2 .1)));
       few-edges = ltb-false 4096 (length a) (l3 .1);
     }
+
+pub lengths : (a b : List ℕ) (m : List Float) → badLists (graphRequest 0 a b m false) ≡ false → Lengths a b m
+lengths a b m h = edge-lengths a b m (or-false _ _ (or-false _ _ h .0) .0)
 
 pub record Accepted (n : ℕ) (a b : List ℕ) (m : List Float) : Type 0 where
   pub some-vertex : 1 ≤ n
@@ -53,18 +62,13 @@ pub record Accepted (n : ℕ) (a b : List ℕ) (m : List Float) : Type 0 where
 pub accepted : (n : ℕ) (a b : List ℕ) (m : List Float) (misfit : Bool) → refusal ofGraph (graphRequest n a b m misfit) ≡ 0 → Accepted n a b m
 accepted n a b m misfit h =
     let none = passed checks ofGraph (graphRequest n a b m misfit) checks-numbered h in
-    let v = or-false (eqb n 0) (ltb 1024 n) (none .0) in
     record {
-      some-vertex = pos n (eqb-false n 0 (v .0));
+      some-vertex = some-count n (none .0);
       few-vertices = low-count n (none .0);
       lists = lengths a b m (none .1 .0);
       edges = none .1 .1 .0;
       apart = none .1 .1 .1 .1 .0;
     }
-  where
-    pos : (n : ℕ) → (n ≡ 0 → ⊥) → 1 ≤ n
-    pos zero f = absurd (f refl)
-    pos (suc n) f = omega arith
 
 -- ---- the kept edges lie inside the graph
 module _ (n : ℕ) (a b : List ℕ) (m : List Float) (ok : some (badEdge n a b) (length a) ≡ false) where

@@ -4,6 +4,7 @@ use mathlib.Core.List.{List, [], _∷_, _++_, map}
 use Prim.Native.Nat.{ℕ, zero, suc, min, max}
 use lib.Ieee.{Float, nan, binary64, eq, ofBits}
 use lib.ListN.{length, getD}
+use Rattle.transfer.specs.Job.{windowOf}
 
 -- +0.0 and -0.0 equal 0.0
 abbrev pub isZero : Float → Bool
@@ -36,3 +37,7 @@ lateEnds es = map (λ e. e .late) es
 
 abbrev pub magnitudes : List Kept → List Float
 magnitudes es = map (λ e. e .magnitude) es
+
+-- Their window, by the caller's floor.
+abbrev pub windowFrom : ℕ → List ℕ → List ℕ → List Float → ℕ
+windowFrom floor a b m = windowOf floor (earlyEnds (kept a b m)) (lateEnds (kept a b m))

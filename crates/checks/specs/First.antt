@@ -26,15 +26,16 @@ abbrev pub Numbered : {A : Type 0} → List (Check A) → Type 0
 Numbered [] = Unit
 Numbered (c ∷ cs) = (0 < c .number) × Numbered cs
 
+-- a check that might have answered did not
+pub unless : (t : Bool) {k rest : ℕ} → 0 < k → cond t k rest ≡ 0 → (t ≡ false) × (rest ≡ 0)
+unless true p h = absurd (omega arith)
+unless false p h = (refl, h)
+
 pub passed : {A : Type 0} (cs : List (Check A)) (concerned : List ℕ) (r : A) → Numbered cs → first cs concerned r ≡ 0 → Passed cs concerned r
 passed [] concerned r numbered h = tt
 passed (c ∷ cs) concerned r numbered h =
-    let p = go (among concerned (c .number) && c .fits r) (numbered .0) h in
+    let p = unless (among concerned (c .number) && c .fits r) (numbered .0) h in
     (p .0, passed cs concerned r (numbered .1) (p .1))
-  where
-    go : (t : Bool) {k rest : ℕ} → 0 < k → cond t k rest ≡ 0 → (t ≡ false) × (rest ≡ 0)
-    go true p h = absurd (omega arith)
-    go false p h = (refl, h)
 
 pub checks-numbered : Numbered checks
-checks-numbered = (omega arith, (omega arith, (omega arith, (omega arith, (omega arith, (omega arith, (omega arith, tt)))))))
+checks-numbered = search arith

@@ -1,13 +1,15 @@
--- A call that applies the graph's checks and one more after them.
+-- A call that applies its checks in parts, each part after those before it: the graph's checks and one more, or a job's and its lists'.
 use mathlib.Core.Path.{_≡_, refl, sym, ap, _∙_}
-use mathlib.Core.Bool.{Bool, true, false, cond}
-use mathlib.Core.List.{List}
-use Prim.Native.Nat.{ℕ, zero, suc}
+use mathlib.Core.Bool.{Bool, true, false, cond, not, _||_, _&&_}
+use mathlib.Core.List.{List, [], _∷_, _++_}
+use Prim.Native.Nat.{ℕ, zero, suc, _<_}
 use native.Mathlib.Omega.{arith}
+use lib.Dec.{eqb}
 use lib.Ieee.{Float}
 use Rattle.vector.specs.Search.{some}
-use Rattle.checks.specs.Request.{graphRequest, badVertices, badLists, badEdges, badMagnitudes, parallelEdges, distanceRequest, outside}
-use Rattle.checks.specs.Refusal.{refusal, ofGraph, ofGraphWithBuffers, ofDistance}
+use Rattle.checks.specs.Request.{graphRequest, distanceRequest, outside}
+use Rattle.checks.specs.Refusal.{Check, checks, among, first, refusal, ofGraph, ofGraphWithBuffers, ofDistance}
+use Rattle.checks.specs.First.{Numbered, checks-numbered}
 
 -- the first refusal, or the other where there is none
 abbrev pub orElse : ℕ → ℕ → ℕ
@@ -18,26 +20,85 @@ orElse (suc k) other = suc k
 pub record Then (K′ K : ℕ) (t : Bool) (j : ℕ) : Type 0 where
   pub is : K′ ≡ orElse K (cond t j 0)
 
-five : (a b c d e : Bool) (rest : ℕ) → cond a 1 (cond b 2 (cond c 3 (cond d 4 (cond e 5 rest)))) ≡ orElse (cond a 1 (cond b 2 (cond c 3 (cond d 4 (cond e 5 0))))) rest
-five true b c d e rest = refl
-five false true c d e rest = refl
-five false false true d e rest = refl
-five false false false true e rest = refl
-five false false false false true rest = refl
-five false false false false false rest = refl
+-- ---- one part after another
+
+-- no check of the list is among these
+abbrev without : {A : Type 0} → List (Check A) → List ℕ → Bool
+without [] front = true
+without (c ∷ cs) front = not (among front (c .number)) && without cs front
+
+-- behind a check that is among `back` none is among `front`
+abbrev pub inOrder : {A : Type 0} → List (Check A) → List ℕ → List ℕ → Bool
+inOrder [] front back = true
+inOrder (c ∷ cs) front back = (not (among back (c .number)) || without cs front) && inOrder cs front back
+
+pub and-true : (a b : Bool) → (a && b) ≡ true → (a ≡ true) × (b ≡ true)
+and-true true b h = (refl, h)
+and-true false b h = absurd (let z : _≡_ {A = ℕ} 0 1 = cc in omega arith)
+
+among-both : (front back : List ℕ) (k : ℕ) → among (front ++ back) k ≡ (among front k || among back k)
+among-both [] back k = refl
+among-both (c ∷ front) back k = go (eqb c k) (among-both front back k)
+  where
+    go : (b : Bool) → among (front ++ back) k ≡ (among front k || among back k)
+        → (b || among (front ++ back) k) ≡ ((b || among front k) || among back k)
+    go true e = refl
+    go false e = e
+
+module _ {A : Type 0} (concerned : List ℕ) (r : A) where
+  without-none : (cs : List (Check A)) → without cs concerned ≡ true → first cs concerned r ≡ 0
+  without-none [] h = refl
+  without-none (c ∷ cs) h = go (among concerned (c .number)) h (without-none cs)
+    where
+      go : (p : Bool) → (not p && without cs concerned) ≡ true → (without cs concerned ≡ true → first cs concerned r ≡ 0)
+          → cond (p && c .fits r) (c .number) (first cs concerned r) ≡ 0
+      go true h ih = absurd (let z : _≡_ {A = ℕ} 0 1 = cc in omega arith)
+      go false h ih = ih h
+
+  -- the answer is the number of a check that concerns the call
+  pub is-among : (cs : List (Check A)) → (first cs concerned r ≡ 0 → ⊥) → among concerned (first cs concerned r) ≡ true
+  is-among [] h = absurd (h refl)
+  is-among (c ∷ cs) h = go (among concerned (c .number)) (c .fits r) refl h (is-among cs)
+    where
+      go : (p t : Bool) → among concerned (c .number) ≡ p → (cond (p && t) (c .number) (first cs concerned r) ≡ 0 → ⊥)
+          → ((first cs concerned r ≡ 0 → ⊥) → among concerned (first cs concerned r) ≡ true)
+          → among concerned (cond (p && t) (c .number) (first cs concerned r)) ≡ true
+      go true true e h ih = e
+      go true false e h ih = ih h
+      go false t e h ih = ih h
+
+-- the checks of `front`, and where none of them fits those of `back`
+pub in-parts : {A : Type 0} (cs : List (Check A)) (front back : List ℕ) (r : A) → Numbered cs → inOrder cs front back ≡ true
+    → first cs (front ++ back) r ≡ orElse (first cs front r) (first cs back r)
+in-parts [] front back r numbered h = refl
+in-parts (c ∷ cs) front back r numbered h =
+    let p = and-true _ (inOrder cs front back) h in
+    rw (among-both front back (c .number))
+    (go (among front (c .number)) (among back (c .number)) (c .fits r) (c .number) (numbered .0) (p .0)
+    (in-parts cs front back r (numbered .1) (p .1)))
+  where
+    go : (p q t : Bool) (k : ℕ) → 0 < k → (not q || without cs front) ≡ true
+        → first cs (front ++ back) r ≡ orElse (first cs front r) (first cs back r)
+        → cond ((p || q) && t) k (first cs (front ++ back) r)
+        ≡ orElse (cond (p && t) k (first cs front r)) (cond (q && t) k (first cs back r))
+    go true q true zero l o e = absurd (omega arith)
+    go true q true (suc k) l o e = refl
+    go true true false k l o e = e
+    go true false false k l o e = e
+    go false true true k l o e = rw (without-none front r cs o)
+    go false true false k l o e = e
+    go false false t k l o e = e
+
+-- ---- the graph's checks and one more
 
 pub then-buffers : (n : ℕ) (a b : List ℕ) (m : List Float) (misfit : Bool)
     → Then (refusal ofGraphWithBuffers (graphRequest n a b m misfit)) (refusal ofGraph (graphRequest n a b m false)) misfit 12
-then-buffers n a b m misfit =
-    let r = graphRequest n a b m misfit in
-    record { is = five (badVertices r) (badLists r) (badEdges r) (badMagnitudes r) (parallelEdges r) (cond misfit 12 0) }
+then-buffers n a b m misfit = record { is = in-parts checks ofGraph (12 ∷ []) (graphRequest n a b m misfit) checks-numbered refl }
 
 pub then-pair : (n : ℕ) (a b : List ℕ) (m : List Float) (u v : ℕ)
     → Then (refusal ofDistance (distanceRequest n a b m u v)) (refusal ofGraph (graphRequest n a b m false)) (outside n u v) 8
 unfolding some
-then-pair n a b m u v =
-    let r = graphRequest n a b m false in
-    record { is = five (badVertices r) (badLists r) (badEdges r) (badMagnitudes r) (parallelEdges r) (cond (outside n u v) 8 0) }
+then-pair n a b m u v = record { is = in-parts checks ofGraph (8 ∷ []) (distanceRequest n a b m u v) checks-numbered refl }
 
 -- ---- from the number r that the graph's checks gave
 

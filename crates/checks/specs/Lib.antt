@@ -6,4 +6,5 @@ pub mod Answers
 pub mod First
 pub mod Accepted
 pub mod Later
+pub mod AcceptedJob
 pub mod StripRequest

@@ -3,7 +3,7 @@ use mathlib.Core.Bool.{Bool, false, cond, _||_, _&&_}
 use mathlib.Core.List.{List, [], _∷_}
 use Prim.Native.Nat.{ℕ}
 use lib.Dec.{eqb}
-use Rattle.checks.specs.Request.{Request, badVertices, badLists, badEdges, badMagnitudes, parallelEdges, badPairs}
+use Rattle.checks.specs.Request.{Request, badVertices, badLists, badEdges, badMagnitudes, parallelEdges, wideWindow, manyNear, badPairs, badFactors, shortWork}
 
 -- a check of the requests of one kind
 pub record Check (A : Type 0) : Type 0 where
@@ -20,8 +20,13 @@ checks =
     ∷ check 3 badEdges
     ∷ check 4 badMagnitudes
     ∷ check 5 parallelEdges
+    ∷ check 6 wideWindow
+    ∷ check 7 manyNear
     ∷ check 8 badPairs
+    ∷ check 10 badFactors
     ∷ check 12 (λ r. r .misfit)
+    ∷ check 13 shortWork
+    ∷ check 14 (λ r. r .unsound)
     ∷ []
 
 abbrev pub among : List ℕ → ℕ → Bool
@@ -45,3 +50,13 @@ ofGraphWithBuffers = 1 ∷ 2 ∷ 3 ∷ 4 ∷ 5 ∷ 12 ∷ []
 
 abbrev pub ofDistance : List ℕ
 ofDistance = 1 ∷ 2 ∷ 3 ∷ 4 ∷ 5 ∷ 8 ∷ []
+
+abbrev pub ofRoom : List ℕ
+ofRoom = 1 ∷ 2 ∷ 3 ∷ 4 ∷ 5 ∷ 6 ∷ 7 ∷ 8 ∷ []
+
+-- behind those of `room`: what a call is lent for its sweeps
+abbrev pub ofLists : List ℕ
+ofLists = 10 ∷ 12 ∷ 13 ∷ []
+
+abbrev pub ofCorrelations : List ℕ
+ofCorrelations = 1 ∷ 2 ∷ 3 ∷ 4 ∷ 5 ∷ 6 ∷ 7 ∷ 8 ∷ 10 ∷ 12 ∷ 13 ∷ 14 ∷ []

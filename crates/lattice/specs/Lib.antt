@@ -1,3 +1,4 @@
 pub mod Keep
+pub mod Fronts
 pub mod Chains
 pub mod Graphs

@@ -11,7 +11,7 @@ use crate::refuse::bad_vertices;
 use crate::refuse::joined_twice;
 
 // The refusal's number, 0 for accepted, and how many edges are kept.
-pub(crate) struct Checked {
+pub struct Checked {
     pub refusal: usize,
     pub edges: usize,
 }
@@ -26,7 +26,7 @@ fn refused(number: usize) -> Checked
 }
 
 // Checks 1 to 5. Where none fits, the kept edges stand at the fronts of the three lists.
-pub(crate) fn build(
+pub fn build(
     n: usize,
     a: &[usize],
     b: &[usize],

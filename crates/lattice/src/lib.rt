@@ -1,5 +1,5 @@
 // The graph of a job: which jobs are refused, which edges are kept, and what follows from them.
-mod build;
+pub mod build;
 mod graph;
 mod keep;
 mod reach;
@@ -14,3 +14,8 @@ pub use graph::distance;
 pub use graph::n_components;
 pub use graph::spanning_forest;
 pub use graph::window;
+pub use reach::window_of;
+pub use refuse::bad_edges;
+pub use refuse::bad_lists;
+pub use refuse::bad_vertices;
+pub use refuse::is_outside;

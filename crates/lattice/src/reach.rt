@@ -18,7 +18,7 @@ fn longest(early: &[usize], late: &[usize]) -> usize
     most
 }
 
-pub(crate) fn window_of(floor: usize, early: &[usize], late: &[usize]) -> usize
+pub fn window_of(floor: usize, early: &[usize], late: &[usize]) -> usize
     requires { ⌜ Ordered (now early) (now late) ⌝ }
     ensures { λ r. ⌜ r ≡ windowOf floor (now (early .entry)) (now (late .entry)) ⌝ }
 {

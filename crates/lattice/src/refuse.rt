@@ -10,7 +10,7 @@ ghost use Rattle.checks.specs.Request.{outside, badEdge, oversized, sameEnds, j
 ghost use Rattle.lattice.specs.Chains.{LastAt, Chain, Heads};
 
 // 1. The vertex count is 0 or above 1,024.
-pub(crate) fn bad_vertices(n: usize) -> bool
+pub fn bad_vertices(n: usize) -> bool
     ensures { λ r. ⌜ r ≡ (eqb n 0 || ltb 1024 n) ⌝ }
 {
     if n == 0 {
@@ -20,7 +20,7 @@ pub(crate) fn bad_vertices(n: usize) -> bool
 }
 
 // 2. Lists of one kind differ in length, or there are over 4,096 edges or 256 pairs.
-pub(crate) fn bad_lists(a: usize, b: usize, m: usize, us: usize, vs: usize) -> bool
+pub fn bad_lists(a: usize, b: usize, m: usize, us: usize, vs: usize) -> bool
     ensures { λ r. ⌜ r ≡ (not (eqb a b) || not (eqb a m) || ltb 4096 a || not (eqb us vs) || ltb 256 us) ⌝ }
 {
     if a != b {
@@ -39,7 +39,7 @@ pub(crate) fn bad_lists(a: usize, b: usize, m: usize, us: usize, vs: usize) -> b
 }
 
 // An end is outside the graph.
-pub(crate) fn is_outside(n: usize, u: usize, v: usize) -> bool
+pub fn is_outside(n: usize, u: usize, v: usize) -> bool
     ensures { λ r. ⌜ r ≡ outside n u v ⌝ }
 {
     if n <= u {
@@ -58,7 +58,7 @@ fn bad_edge(n: usize, x: usize, y: usize) -> bool
 }
 
 // 3. An edge has equal ends or an end outside the graph.
-pub(crate) fn bad_edges(n: usize, a: &[usize], b: &[usize]) -> bool
+pub fn bad_edges(n: usize, a: &[usize], b: &[usize]) -> bool
     requires { ⌜ length (now b) ≡ length (now a) ⌝ }
     ensures { λ r. ⌜ r ≡ some (badEdge n (now (a .entry)) (now (b .entry))) (length (now (a .entry))) ⌝ }
 {

@@ -10,10 +10,10 @@ use lib.Ieee.{Float, nan}
 use lib.ListN.{length, getD}
 use borrow.Author.Tests.{ltb-false}
 use Rattle.vector.specs.Search as Search
-use Rattle.transfer.specs.Job.{Back, Manner, backEdges, stepOf}
-use Rattle.transfer.specs.Configuration.{edgesWith}
+use Rattle.transfer.specs.Job.{Back, Manner, backEdges, tooManyNear, stepOf}
+use Rattle.transfer.specs.Configuration.{edgesWith, numbered, jobOf}
 use Rattle.plan.specs.Layout.{leftEdge, named, stepIn, Vertex}
-use Rattle.plan.specs.Edges.{tooManyNear, numbered, jobOf, Steps}
+use Rattle.plan.specs.Edges.{Steps}
 use Rattle.plan.specs.Table.{entry, goesBack, firstOf, firstBack, Table, listed, nearIn, Rowed}
 use Rattle.plan.specs.Listed.{back-first, backs-listed, listed-ext, some-ext}
 
@@ -61,7 +61,7 @@ module _ (early late table : List ℕ) (n w : ℕ) (narrow : w ≤ 24) (tb : Tab
           rising = r .noted .rising;
         }
 
-    step-of : (x : List Float) (manner : Manner) (t : ℕ) → t < n → stepIn plan x t ≡ stepOf (jobOf n w early late x manner) t
+    step-of : (x : List Float) (manner : Manner) (t : ℕ) → t < n → stepIn plan x t ≡ stepOf (jobOf nan n w early late x manner) t
     step-of x manner t b =
         let f : ℕ → Float = λ e. getD x e nan in
         let l = ap (named f) (at-left t b) ∙ sym (back-first early late f t w) in

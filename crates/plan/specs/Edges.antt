@@ -1,14 +1,11 @@
--- The kept edges that a plan is made of, check 7, and what a plan of them says: the steps of the definition.
+-- The kept edges that a plan is made of, and what a plan of them says: the steps of the definition.
 use mathlib.Core.Path.{_≡_, _∙_}
-use mathlib.Core.Bool.{Bool}
 use mathlib.Core.List.{List}
-use Prim.Native.Nat.{ℕ, _+_, _-_, _≤_, _<_}
-use lib.Dec.{ltb}
+use Prim.Native.Nat.{ℕ, _+_, _≤_, _<_}
 use lib.Ieee.{Float, nan}
 use lib.ListN.{length, getD}
-use Rattle.vector.specs.Search.{some}
-use Rattle.transfer.specs.Job.{Edge, Job, Manner, backEdges, stepOf}
-use Rattle.transfer.specs.Configuration.{edgesWith}
+use Rattle.transfer.specs.Job.{Manner, stepOf}
+use Rattle.transfer.specs.Configuration.{jobOf}
 use Rattle.plan.specs.Layout.{stepIn, Vertex, SameStep, step-keep, vertex-keep}
 
 -- kept edges of a graph of n vertices, their ends in two lists, smaller end first, none longer than the window
@@ -21,28 +18,10 @@ pub record Edges (early late : List ℕ) (n w : ℕ) : Type 0 where
   pub inside : (e : ℕ) → e < length early → getD late e 0 < n
   pub reached : (e : ℕ) → e < length early → getD late e 0 ≤ getD early e 0 + w
 
--- Check 7: some vertex has over four back edges shorter than the window.
-unfoldable pub tooManyNear : {K : Type 0} → ℕ → ℕ → List (Edge K) → Bool
-unfolding some backEdges
-tooManyNear n w es = some (λ t. ltb 4 (length (backEdges es t 1 (w - 1)))) n
-
--- the edges alone: each has its number for a factor
-abbrev pub numbered : List ℕ → List ℕ → List (Edge ℕ)
-numbered early late = edgesWith early late (λ e. e)
-
--- the job of the edges with the factors x
-abbrev pub jobOf : ℕ → ℕ → List ℕ → List ℕ → List Float → Manner → Job Float
-jobOf n w early late x manner = record {
-  last = n - 1;
-  window = w;
-  edges = edgesWith early late (λ e. getD x e nan);
-  manner = manner;
-}
-
 -- What the plan says of each vertex is the definition's step there, whatever the factors, and can be read.
 pub record Steps (plan early late : List ℕ) (n w : ℕ) : Type 0 where
   pub vertex : (t : ℕ) → t < n → Vertex plan w (length early) t
-  pub step : (x : List Float) (manner : Manner) (t : ℕ) → t < n → stepIn plan x t ≡ stepOf (jobOf n w early late x manner) t
+  pub step : (x : List Float) (manner : Manner) (t : ℕ) → t < n → stepIn plan x t ≡ stepOf (jobOf nan n w early late x manner) t
 
 -- another plan that says the same of the edges
 pub steps-keep : (p q early late : List ℕ) (n w : ℕ) → ((t : ℕ) → SameStep p q t) → Steps p early late n w → Steps q early late n w

@@ -10,10 +10,9 @@ use lib.ListN.{length, getD}
 use borrow.Author.Tests.{ne-eqb}
 use Rattle.vector.specs.Search as Search
 use Rattle.vector.specs.Tabulate.{tabulate}
-use Rattle.transfer.specs.Job.{Edge, backEdge, prepend, backEdges}
+use Rattle.transfer.specs.Job.{Edge, backEdge, prepend, backEdges, tooManyNear}
 use Rattle.transfer.specs.Configuration.{edgesWith}
 use Rattle.plan.specs.Layout.{named}
-use Rattle.plan.specs.Edges.{tooManyNear}
 use Rattle.plan.specs.Table.{goesBack, firstOf, firstBack, listed}
 
 module _ {K : Type 0} where

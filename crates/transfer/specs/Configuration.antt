@@ -49,6 +49,19 @@ unfoldable pub edgesWith : {K : Type 0} → List ℕ → List ℕ → (ℕ → K
 unfolding tabulate
 edgesWith early late factor = tabulate (λ e. record { early = getD early e 0; late = getD late e 0; factor = factor e }) (length early)
 
+-- The edges alone: each has its number for a factor.
+abbrev pub numbered : List ℕ → List ℕ → List (Edge ℕ)
+numbered early late = edgesWith early late (λ e. e)
+
+-- The job of the kept edges with one factor each, of n vertices. No factor is lent past the list's end; `none` stands there.
+abbrev pub jobOf : {K : Type 0} → K → ℕ → ℕ → List ℕ → List ℕ → List K → Manner → Job K
+jobOf none n w early late lent manner = record {
+  last = n - 1;
+  window = w;
+  edges = edgesWith early late (λ e. getD lent e none);
+  manner = manner;
+}
+
 -- The kept edges at beta b, by the signs of a configuration. No factor is lent past the list's end; `none` stands there.
 unfoldable pub configured : {K : Type 0} → K → List ℕ → List ℕ → List K → ℕ → (ℕ → Bool) → List (Edge K)
 unfolding edgesWith

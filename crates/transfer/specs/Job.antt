@@ -3,9 +3,10 @@ use mathlib.Core.Bool.{Bool, cond, _&&_}
 use mathlib.Core.List.{List, [], _∷_}
 use mathlib.Core.Option.{Option, none, some}
 use Prim.Native.Nat.{ℕ, zero, suc, _+_, _-_, max}
-use lib.Dec.{eqb}
+use lib.Dec.{eqb, ltb}
 use lib.ListN.{length, getD}
 use Rattle.vector.specs.Most.{most}
+use Rattle.vector.specs.Search as Search
 
 -- A kept edge, its smaller end first, with the factor in use.
 pub record Edge (K : Type 0) : Type 0 where
@@ -54,6 +55,11 @@ unfoldable pub backEdges : {K : Type 0} → List (Edge K) → ℕ → ℕ → �
 unfolding backEdge prepend
 backEdges es t d zero = []
 backEdges es t d (suc n) = prepend d (backEdge es t d) (backEdges es t (suc d) n)
+
+-- Check 7: some vertex has over four back edges shorter than the window.
+unfoldable pub tooManyNear : {K : Type 0} → ℕ → ℕ → List (Edge K) → Bool
+unfolding Search.some backEdges
+tooManyNear n w es = Search.some (λ t. ltb 4 (length (backEdges es t 1 (w - 1)))) n
 
 -- What the step at a vertex reads: the left edge, at distance equal to the window, and the others, shorter than the window, shortest first.
 pub record Step (K : Type 0) : Type 0 where

@@ -3,7 +3,7 @@ use mathlib.Core.Bool.{false}
 use mathlib.Core.Path.{refl, sym, _∙_}
 use Rattle.checks.specs.Accepted.{lengths, low-count}
 use Rattle.lattice.proofs.Building.{room-for, early-part, late-part, early-fits, late-fits, few, of-kept, ends-low}
-use Rattle.lattice.proofs.Building.{not-built, front-is}
+use Rattle.lattice.proofs.Building.{not-built}
 use Rattle.checks.specs.First.{here, past, told}
 use Rattle.checks.specs.Request.{joinedTwice}
 use borrow.Author.Needs.{needs}

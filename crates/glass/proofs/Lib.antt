@@ -1,0 +1,6 @@
+-- Laws that the proofs share.
+mod Lists
+mod Calling
+mod Finishing
+mod Planning
+mod Running

@@ -1,0 +1,21 @@
+// How often a sweep is rescaled.
+ghost use mathlib.Core.Path.{_≡_};
+ghost use mathlib.Core.Bool.{cond};
+ghost use Rattle.transfer.specs.Job.{block, perElement};
+ghost use Rattle.glass.specs.Correlations.{mannerOf};
+
+// Every fourth step, or every step.
+pub enum Manner {
+    Block,
+    PerElement,
+}
+
+// Is it every step?
+pub(crate) fn is_each(manner: Manner) -> bool
+    ensures { λ r. ⌜ cond r perElement block ≡ mannerOf manner ⌝ }
+{
+    match manner {
+        Manner::Block => false,
+        Manner::PerElement => true,
+    }
+}

@@ -1,0 +1,133 @@
+-- The checks of a job one after the other, and what has passed where none refuses.
+use mathlib.Core.Path.{_≡_, refl, sym, ap, ap₂, _∙_, subst, subst₂}
+use mathlib.Core.Bool.{false}
+use mathlib.Core.List.{List}
+use Prim.Native.Nat.{ℕ, zero, suc, _-_, _≤_, _<_}
+use native.Mathlib.Omega.{arith}
+use lib.Ieee.{Float}
+use lib.ListN.{length, getD, take, length-map}
+use Rattle.vector.specs.Most.{most-above}
+use Rattle.transfer.specs.Job.{longest, windowOf, tooManyNear}
+use Rattle.transfer.specs.Configuration.{numbered}
+use Rattle.transfer.specs.Room.{room}
+use Rattle.checks.specs.declared.Answer.the-variants.{Number}
+use Rattle.checks.specs.Answers.{answered, number-is}
+use Rattle.checks.specs.Edges.{kept, earlyEnds, lateEnds, windowFrom}
+use Rattle.checks.specs.Request.{graphRequest, roomRequest, badLists}
+use Rattle.checks.specs.Refusal.{refusal, ofGraph, ofRoom}
+use Rattle.checks.specs.Later.{orElse}
+use Rattle.checks.specs.Accepted.{Accepted, kept-inside}
+use Rattle.checks.specs.AcceptedJob.{window-wide, accepted-job, job-lists, graph-alone, room-in-parts}
+use Rattle.lattice.specs.Keep.{Built}
+use Rattle.lattice.specs.Fronts.{front-early, front-late, early-part, few, of-kept, is-accepted}
+use Rattle.plan.specs.Edges.{Edges}
+use Rattle.refuse.specs.Checked.{KeptEdges, keptRefusal, CheckedKept, CheckedJob}
+
+-- ---- the kept edges
+
+window-reaches : (floor : ℕ) (early late : List ℕ) (e : ℕ) → e < length early → getD late e 0 - getD early e 0 ≤ windowOf floor early late
+unfolding windowOf longest
+window-reaches floor early late e l = omega (arith, most-above (λ i. getD late i 0 - getD early i 0) (length early) e l)
+
+-- none is longer than the window
+pub edges-of : (n floor : ℕ) (early late : List ℕ) (w : ℕ) → KeptEdges n early late → w ≡ windowOf floor early late → w ≤ 24 → Edges early late n w
+edges-of n floor early late w es q narrow = record {
+  few = es .few;
+  wide = omega (arith, q, window-wide floor early late);
+  narrow = narrow;
+  matched = sym (es .ordered .lengths);
+  ordered = λ e l. es .ordered .ends e l;
+  inside = λ e l. es .inside e l;
+  reached = λ e l. omega (arith, q, window-reaches floor early late e l);
+}
+
+-- of a graph that was accepted
+kept-edges : (n : ℕ) (a b : List ℕ) (m : List Float) → Accepted n a b m → KeptEdges n (earlyEnds (kept a b m)) (lateEnds (kept a b m))
+kept-edges n a b m ok =
+    let p = length-map (kept a b m) (λ e. e .early) in
+    let q = length-map (kept a b m) (λ e. e .late) in
+    let at : (e : ℕ) → e < length (earlyEnds (kept a b m))
+    → (getD (earlyEnds (kept a b m)) e 0 < getD (lateEnds (kept a b m)) e 0) × (getD (lateEnds (kept a b m)) e 0 < n) = λ e l.
+    kept-inside n a b m (ok .edges) e (omega (arith, p)) in
+    record { few = ok .few-vertices; ordered = record { lengths = q ∙ sym p; ends = λ e l. at e l .0 }; inside = λ e l. at e l .1 }
+
+-- at the fronts of the lists
+pub fronts-kept : {n : ℕ} {a b : List ℕ} {m : List Float} {r k : ℕ} {early early′ late late′ : List ℕ} {mag mag′ : List Float}
+    → Built n a b m r k early early′ late late′ mag mag′ → r ≡ 0 → KeptEdges n (take k early′) (take k late′)
+fronts-kept {n} {a} {b} {m} B z =
+    let W = B .written z in
+    subst₂ (KeptEdges n) (sym (front-early W)) (sym (front-late W)) (kept-edges n a b m (is-accepted B z))
+
+-- ---- the answer
+
+-- 6, 7 or 8 was found, at the window w
+pub kept-refused : {n floor q k w′ : ℕ} {early late us vs : List ℕ} (j w : ℕ) → q ≡ suc j → w ≡ windowOf floor early late
+    → suc j ≡ keptRefusal n w early late us vs → CheckedKept n floor early late us vs q k w′
+kept-refused {n} {early = early} {late} {us} {vs} j w e p h = record {
+  refusal = e ∙ h ∙ ap (λ (x : ℕ). keptRefusal n x early late us vs) p;
+  all = λ z. absurd (omega arith);
+  window = λ z. absurd (omega arith);
+}
+
+-- none of them
+pub kept-passed : {n floor w : ℕ} {early late us vs : List ℕ} → w ≡ windowOf floor early late → 0 ≡ keptRefusal n w early late us vs
+    → CheckedKept n floor early late us vs 0 (length early) w
+kept-passed {n} {early = early} {late} {us} {vs} p h = record {
+  refusal = h ∙ ap (λ (x : ℕ). keptRefusal n x early late us vs) p;
+  all = λ z. refl;
+  window = λ z. p;
+}
+
+-- 1 or 2 was found
+pub job-refused : {n floor q k w : ℕ} {a b : List ℕ} {m : List Float} {us vs early early′ late late′ : List ℕ} {mag mag′ : List Float} (j : ℕ) → q ≡ suc j
+    → suc j ≡ refusal ofRoom (roomRequest n floor a b m us vs) → CheckedJob n floor a b m us vs q k w early early′ late late′ mag mag′
+job-refused j e h = record { refusal = e ∙ h; ready = λ z. absurd (omega arith) }
+
+module _ (n floor : ℕ) (a b : List ℕ) (m : List Float) (us vs : List ℕ) (lists : badLists (roomRequest n floor a b m us vs) ≡ false) where
+  abbrev later : ℕ
+  later = keptRefusal n (windowFrom floor a b m) (earlyEnds (kept a b m)) (lateEnds (kept a b m)) us vs
+
+  room-is : refusal ofRoom (roomRequest n floor a b m us vs) ≡ orElse (refusal ofGraph (graphRequest n a b m false)) later
+  room-is = room-in-parts n floor a b m us vs ∙ ap (λ (k : ℕ). orElse k later) (graph-alone n floor a b m us vs lists)
+
+  -- the pairs' lists are of one length
+  pub matched : length vs ≡ length us
+  matched = sym (job-lists n floor a b m us vs lists .1)
+
+  -- the graph was refused
+  pub graph-refused : {k w : ℕ} {early early′ late late′ : List ℕ} {mag mag′ : List Float} (q r : ℕ) → q ≡ r
+      → r ≡ refusal ofGraph (graphRequest n a b m false) → (r ≡ 0 → ⊥) → CheckedJob n floor a b m us vs q k w early early′ late late′ mag mag′
+  graph-refused q zero e g z = absurd (z refl)
+  graph-refused q (suc r) e g z = record { refusal = e ∙ ap (λ (k : ℕ). orElse k later) g ∙ sym room-is; ready = λ p. absurd (omega arith) }
+
+  -- the graph was accepted, and its kept edges were checked
+  pub graph-accepted : {r k q j w : ℕ} {early early′ late late′ : List ℕ} {mag mag′ : List Float} → Built n a b m r k early early′ late late′ mag mag′ → r ≡ 0
+      → CheckedKept n floor (take k early′) (take k late′) us vs q j w → CheckedJob n floor a b m us vs q j w early early′ late late′ mag mag′
+  graph-accepted {w = w} B z C =
+      let W = B .written z in
+      let r = of-kept W (λ x y. keptRefusal n (windowOf floor x y) x y us vs) (C .refusal) ∙ ap (λ (k : ℕ). orElse k later) (sym z ∙ B .refusal) ∙ sym room-is in
+      record {
+        refusal = r;
+        ready = λ p.
+            let job = accepted-job n floor a b m us vs (sym r ∙ p) in
+            let window = of-kept W (windowOf floor) (C .window p) in
+            let all = C .all p ∙ sym (early-part W) in
+            record {
+              written = record { edges = all ∙ W .edges; earlies = W .earlies; lates = W .lates; mags = W .mags };
+              few-edges = omega (arith, all, few W (job .graph .lists));
+              window = window;
+              edges = edges-of n floor _ _ w (kept-edges n a b m (job .graph)) window (omega (arith, window, job .narrow));
+              near = subst (λ x. tooManyNear n x (numbered (earlyEnds (kept a b m)) (lateEnds (kept a b m))) ≡ false) (sym window) (job .near);
+              pairs = record { matched = job .matched; first = job .first-inside; second = job .second-inside };
+              passed = job;
+            };
+      }
+
+-- ---- the room
+
+pub room-answered : {n floor q k w : ℕ} {a b : List ℕ} {m : List Float} {us vs early early′ late late′ : List ℕ} {mag mag′ : List Float}
+    → CheckedJob n floor a b m us vs q k w early early′ late late′ mag mag′ → q ≡ 0 → (r : ℕ) → r ≡ room n w k us vs
+    → Number r ≡ answered (refusal ofRoom (roomRequest n floor a b m us vs)) (room n (windowFrom floor a b m) (length (kept a b m)) us vs)
+room-answered {n} {us = us} {vs} checked z r e =
+    let job = checked .ready z in
+    number-is _ _ _ _ (checked .refusal) z (e ∙ ap₂ (λ (x y : ℕ). room n x y us vs) (job .window) (job .written .edges))

@@ -1,0 +1,52 @@
+-- What is known of a job that the checks 1 to 8 have read.
+use mathlib.Core.Path.{_≡_}
+use mathlib.Core.Bool.{false, cond}
+use mathlib.Core.List.{List}
+use Prim.Native.Nat.{ℕ, _≤_, _<_}
+use lib.Dec.{ltb}
+use lib.Ieee.{Float}
+use lib.ListN.{length, getD}
+use Rattle.vector.specs.Search.{some}
+use Rattle.transfer.specs.Job.{windowOf, tooManyNear}
+use Rattle.transfer.specs.Configuration.{numbered}
+use Rattle.checks.specs.Edges.{kept, earlyEnds, lateEnds, windowFrom}
+use Rattle.checks.specs.Request.{roomRequest, badPair}
+use Rattle.checks.specs.Refusal as Refusal
+use Rattle.checks.specs.Refusal.{ofRoom}
+use Rattle.checks.specs.AcceptedJob.{AcceptedJob}
+use Rattle.lattice.specs.Keep.{Written, Ordered}
+use Rattle.plan.specs.Edges.{Edges}
+use Rattle.places.specs.Places.{Pairs}
+
+-- kept edges of a graph of n vertices, their ends in two lists, smaller end first
+pub record KeptEdges (n : ℕ) (early late : List ℕ) : Type 0 where
+  pub few : n ≤ 1024
+  pub ordered : Ordered early late
+  pub inside : (e : ℕ) → e < length early → getD late e 0 < n
+
+-- of the checks 6, 7 and 8 the first that fits, at window w
+abbrev pub keptRefusal : (n w : ℕ) → (early late us vs : List ℕ) → ℕ
+keptRefusal n w early late us vs =
+    cond (ltb 24 w) 6 (cond (tooManyNear n w (numbered early late)) 7 (cond (some (badPair false n us vs) (length us)) 8 0))
+
+pub record CheckedKept (n floor : ℕ) (early late us vs : List ℕ) (refused k w : ℕ) : Type 0 where
+  pub refusal : refused ≡ keptRefusal n (windowOf floor early late) early late us vs
+  pub all : refused ≡ 0 → k ≡ length early
+  pub window : refused ≡ 0 → w ≡ windowOf floor early late
+
+-- A job that no check refuses, with k kept edges at the fronts of three lists, and window w: a plan can be made of it.
+pub record ReadyJob (n floor : ℕ) (a b : List ℕ) (m : List Float) (us vs : List ℕ) (k w : ℕ) (early early′ late late′ : List ℕ) (mag mag′ : List Float)
+    : Type 0 where
+  pub written : Written a b m (length a) k early early′ late late′ mag mag′
+  pub few-edges : k ≤ 4096
+  pub window : w ≡ windowFrom floor a b m
+  pub edges : Edges (earlyEnds (kept a b m)) (lateEnds (kept a b m)) n w
+  pub near : tooManyNear n w (numbered (earlyEnds (kept a b m)) (lateEnds (kept a b m))) ≡ false
+  pub pairs : Pairs us vs n
+  pub passed : AcceptedJob n floor a b m us vs
+
+-- The first of the checks 1 to 8 that fits, and the job if there is none.
+pub record CheckedJob (n floor : ℕ) (a b : List ℕ) (m : List Float) (us vs : List ℕ) (refused k w : ℕ) (early early′ late late′ : List ℕ)
+    (mag mag′ : List Float) : Type 0 where
+  pub refusal : refused ≡ Refusal.refusal ofRoom (roomRequest n floor a b m us vs)
+  pub ready : refused ≡ 0 → ReadyJob n floor a b m us vs k w early early′ late late′ mag mag′

@@ -1,0 +1,102 @@
+// The checks that read a job's graph and pairs.
+ghost use mathlib.Core.Path.{_≡_};
+ghost use mathlib.Core.Bool.{false};
+ghost use Prim.Native.Nat.{_≤_};
+ghost use lib.ListN.{length};
+ghost use Rattle.vector.specs.Search.{some};
+ghost use Rattle.checks.specs.Request.{badPair};
+ghost use Rattle.refuse.specs.Checked.{KeptEdges, CheckedKept, CheckedJob};
+use lattice::bad_edges;
+use lattice::bad_lists;
+use lattice::bad_vertices;
+use lattice::build::build;
+use lattice::window_of;
+use plan::too_many_near;
+
+// The refusal's number, 0 for accepted; how many edges are kept, and the window.
+pub struct Job {
+    pub refusal: usize,
+    pub edges: usize,
+    pub window: usize,
+}
+
+fn refused(number: usize) -> Job
+    ensures { λ r. ⌜ r .refusal ≡ number ⌝ }
+{
+    Job {
+        refusal: number,
+        edges: 0,
+        window: 0,
+    }
+}
+
+// 8. A pair has equal ends or an end outside the graph: what 3 asks of an edge.
+fn bad_pairs(n: usize, us: &[usize], vs: &[usize]) -> bool
+    requires { ⌜ length (now vs) ≡ length (now us) ⌝ }
+    ensures { λ r. ⌜ r ≡ some (badPair false n (now (us .entry)) (now (vs .entry))) (length (now (us .entry))) ⌝ }
+{
+    bad_edges(n, us, vs)
+}
+
+// Checks 6 to 8, which read the kept edges and the pairs.
+fn check_kept(
+    n: usize,
+    floor: usize,
+    early: &[usize],
+    late: &[usize],
+    us: &[usize],
+    vs: &[usize],
+) -> Job
+    requires { ⌜ KeptEdges n (now early) (now late) × (length (now vs) ≡ length (now us)) ⌝ }
+    ensures { λ r. ⌜ CheckedKept n floor (now (early .entry)) (now (late .entry)) (now (us .entry)) (now (vs .entry))
+        (r .refusal) (r .edges) (r .window) ⌝ }
+{
+    let window = window_of(floor, early, late);
+    if 24 < window {
+        return refused(6);
+    }
+    if too_many_near(n, window, early, late) {
+        return refused(7);
+    }
+    if bad_pairs(n, us, vs) {
+        return refused(8);
+    }
+    Job {
+        refusal: 0,
+        edges: early.len(),
+        window,
+    }
+}
+
+// Checks 1 to 8. Where none fits, the kept edges stand at the fronts of the three lists.
+pub fn check_job(
+    n: usize,
+    floor: usize,
+    a: &[usize],
+    b: &[usize],
+    m: &[f64],
+    us: &[usize],
+    vs: &[usize],
+    early: &mut [usize],
+    late: &mut [usize],
+    mag: &mut [f64],
+) -> Job
+    requires { ⌜ (4096 ≤ length (now early)) × (4096 ≤ length (now late)) × (4096 ≤ length (now mag)) ⌝ }
+    ensures { λ r. ⌜ CheckedJob n floor (now (a .entry)) (now (b .entry)) (now (m .entry)) (now (us .entry)) (now (vs .entry))
+        (r .refusal) (r .edges) (r .window)
+        (now (early .entry)) (now (early .exit)) (now (late .entry)) (now (late .exit)) (now (mag .entry)) (now (mag .exit)) ⌝ }
+{
+    if bad_vertices(n) {
+        return refused(1);
+    }
+    if bad_lists(a.len(), b.len(), m.len(), us.len(), vs.len()) {
+        return refused(2);
+    }
+    let graph = build(n, a, b, m, early, late, mag);
+    let refusal = graph.refusal;
+    if refusal != 0 {
+        return refused(refusal);
+    }
+    let edges = graph.edges;
+    check_kept(n, floor, &early[..edges], &late[..edges], us, vs)
+}

@@ -1,0 +1,36 @@
+// The work memory that a caller is to lend.
+ghost use mathlib.Core.Path.{_≡_};
+ghost use lib.ListN.{length};
+ghost use Rattle.transfer.specs.Room.{room as roomOf};
+ghost use Rattle.checks.specs.Edges.{kept, windowFrom};
+ghost use Rattle.checks.specs.Request.{roomRequest};
+ghost use Rattle.checks.specs.Refusal.{refusal, ofRoom};
+ghost use Rattle.checks.specs.Answers.{answered};
+use crate::job::check_job;
+use checks::Answer;
+
+// The doubles of work memory that a job's pairs need.
+pub fn room(
+    n: usize,
+    floor: usize,
+    a: &[usize],
+    b: &[usize],
+    m: &[f64],
+    us: &[usize],
+    vs: &[usize],
+) -> Answer
+    ensures { λ r. ⌜ r ≡ answered
+        (refusal ofRoom (roomRequest n floor (now (a .entry)) (now (b .entry)) (now (m .entry)) (now (us .entry)) (now (vs .entry))))
+        (roomOf n (windowFrom floor (now (a .entry)) (now (b .entry)) (now (m .entry)))
+        (length (kept (now (a .entry)) (now (b .entry)) (now (m .entry)))) (now (us .entry)) (now (vs .entry))) ⌝ }
+{
+    let mut early = [0usize; 4096];
+    let mut late = [0usize; 4096];
+    let mut mag = [0.0f64; 4096];
+    let job = check_job(n, floor, a, b, m, us, vs, &mut early, &mut late, &mut mag);
+    let refusal = job.refusal;
+    if refusal != 0 {
+        return Answer::Refused(refusal);
+    }
+    Answer::Number(places::room(n, job.window, job.edges, us, vs))
+}
