@@ -25,7 +25,7 @@ use Rattle.refuse.specs.Checked.{ReadyJob, CheckedJob}
 use Rattle.answers.specs.Sound.{unsound}
 use Rattle.glass.specs.Correlations.{mannerOf, jobGiven, zeros, settled, cleared, Correlated}
 use Rattle.glass.specs.Passed.{Passed, Finished}
-use Rattle.glass.specs.declared.manner.Manner.{Manner}
+use Rattle.glass.specs.declared.Manner.{Manner}
 
 -- a refusal by a check that stands before 14 leaves the lists as they were
 settled-not : (r : ℕ) (new old : List Float) → (r ≡ 0 → ⊥) → (r ≡ 14 → ⊥) → old ≡ settled r new old

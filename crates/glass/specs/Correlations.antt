@@ -17,8 +17,8 @@ use Rattle.checks.specs.Edges.{kept, earlyEnds, lateEnds, windowFrom}
 use Rattle.checks.specs.Request.{correlationRequest}
 use Rattle.checks.specs.Refusal.{refusal, ofCorrelations}
 use Rattle.answers.specs.Sound.{unsound}
-use Rattle.glass.specs.declared.manner.Manner.{Manner}
-use Rattle.glass.specs.declared.manner.Manner.the-variants.{Block, PerElement}
+use Rattle.glass.specs.declared.Manner.{Manner}
+use Rattle.glass.specs.declared.Manner.the-variants.{Block, PerElement}
 
 -- The caller's manner is the definition's.
 abbrev pub mannerOf : Manner → Job.Manner

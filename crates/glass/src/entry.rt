@@ -1,8 +1,8 @@
 // The pair correlations of one configuration, for callers.
 ghost use Rattle.glass.specs.Correlations.{Correlated};
+use crate::Manner;
 use crate::job::answer_job;
-use crate::manner::Manner;
-use crate::manner::is_each;
+use crate::rescaling::is_each;
 use refuse::check_job;
 use refuse::check_lists;
 

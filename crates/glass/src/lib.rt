@@ -1,8 +1,13 @@
 // The pair correlations of one configuration: a job is checked, planned, swept and answered.
 mod entry;
 mod job;
-mod manner;
+mod rescaling;
 mod run;
 
 pub use entry::correlations;
-pub use manner::Manner;
+
+// How often a sweep is rescaled: every fourth step, or every step.
+pub enum Manner {
+    Block,
+    PerElement,
+}

@@ -1,16 +1,11 @@
-// How often a sweep is rescaled.
+// Which manner a caller asks for.
 ghost use mathlib.Core.Path.{_≡_};
 ghost use mathlib.Core.Bool.{cond};
 ghost use Rattle.transfer.specs.Job.{block, perElement};
 ghost use Rattle.glass.specs.Correlations.{mannerOf};
+use crate::Manner;
 
-// Every fourth step, or every step.
-pub enum Manner {
-    Block,
-    PerElement,
-}
-
-// Is it every step?
+// Is the sweep rescaled at every step?
 pub(crate) fn is_each(manner: Manner) -> bool
     ensures { λ r. ⌜ cond r perElement block ≡ mannerOf manner ⌝ }
 {

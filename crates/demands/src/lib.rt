@@ -1,0 +1,1 @@
+// No code: what the demands say of the entries, as theorems about their contracts.
