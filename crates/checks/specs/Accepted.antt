@@ -38,8 +38,11 @@ pub record Lengths (a b : List ℕ) (m : List Float) : Type 0 where
   pub magnitudes : length m ≡ length a
   pub few-edges : length a ≤ 4096
 
-pub edge-lengths : (a b : List ℕ) (m : List Float)
-    → (not (eqb (length a) (length b)) || not (eqb (length a) (length m)) || ltb 4096 (length a)) ≡ false → Lengths a b m
+-- what it asks of the edges
+abbrev pub badEdgeLists : List ℕ → List ℕ → List Float → Bool
+badEdgeLists a b m = not (eqb (length a) (length b)) || not (eqb (length a) (length m)) || ltb 4096 (length a)
+
+pub edge-lengths : (a b : List ℕ) (m : List Float) → badEdgeLists a b m ≡ false → Lengths a b m
 edge-lengths a b m h =
     let l3 = or-false _ _ h in
     let l2 = or-false _ _ (l3 .0) in

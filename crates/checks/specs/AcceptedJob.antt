@@ -1,6 +1,6 @@
 -- The checks of a job in parts, and what they give of a job that none of them refuses.
 use mathlib.Core.Path.{_≡_, refl, sym, ap, _∙_}
-use mathlib.Core.Bool.{Bool, true, false, cond, not, _||_, _&&_}
+use mathlib.Core.Bool.{Bool, true, false, cond, not, _&&_}
 use mathlib.Core.List.{List, [], _∷_}
 use mathlib.Core.Logic.{_⊎_, inl, inr}
 use Prim.Native.Nat.{ℕ, zero, suc, _*_, _≤_, _<_}
@@ -21,7 +21,7 @@ use Rattle.checks.specs.Request.{graphRequest, roomRequest, correlationR
 use Rattle.checks.specs.Refusal.{checks, among, refusal, ofGraph, ofRoom, ofLists, ofCorrelations}
 use Rattle.checks.specs.First.{unless, passed, checks-numbered}
 use Rattle.checks.specs.Later.{and-true, orElse, in-parts, is-among}
-use Rattle.checks.specs.Accepted.{low-count, some-count, edge-lengths, Accepted}
+use Rattle.checks.specs.Accepted.{low-count, some-count, badEdgeLists, edge-lengths, Accepted}
 
 -- ---- in parts
 
@@ -33,7 +33,7 @@ listsRefusal n w edges us vs factors results work =
 module _ (n floor : ℕ) (a b : List ℕ) (m : List Float) (us vs : List ℕ) where
   -- the lists that check 2 passes
   pub job-lists : badLists (roomRequest n floor a b m us vs) ≡ false
-      → ((not (eqb (length a) (length b)) || not (eqb (length a) (length m)) || ltb 4096 (length a)) ≡ false) × (length us ≡ length vs) × (length us ≤ 256)
+      → (badEdgeLists a b m ≡ false) × (length us ≡ length vs) × (length us ≤ 256)
   job-lists h =
       let lists = or-false _ _ h in
       let pairLists = or-false _ _ (lists .0) in
@@ -152,12 +152,13 @@ before-14 zero (suc y) t p q (inr h) = absurd (q h)
 before-14 (suc x) y t p q (inl h) = absurd (omega arith)
 before-14 (suc x) y t p q (inr h) = absurd (p h)
 
-pub record AcceptedCorrelations (n floor : ℕ) (a b : List ℕ) (m : List Float) (us vs : List ℕ) (factors : List Float) (results work : ℕ) : Type 0 where
+pub record AcceptedCorrelations (n floor : ℕ) (a b : List ℕ) (m : List Float) (us vs : List ℕ) (factors : List Float) (results work : ℕ)
+    : Type 0 where
   pub job : AcceptedJob n floor a b m us vs
   pub lists : AcceptedLists n (windowFrom floor a b m) (length (kept a b m)) us vs factors results work
 
-pub accepted-correlations : (n floor : ℕ) (a b : List ℕ) (m : List Float) (us vs : List ℕ) (factors : List Float) (results work : ℕ) (unsound : Bool) (r : ℕ)
-    → refusal ofCorrelations (correlationRequest n floor a b m us vs factors results work unsound) ≡ r → (r ≡ 0) ⊎ (r ≡ 14)
+pub accepted-correlations : (n floor : ℕ) (a b : List ℕ) (m : List Float) (us vs : List ℕ) (factors : List Float) (results work : ℕ)
+    (unsound : Bool) (r : ℕ) → refusal ofCorrelations (correlationRequest n floor a b m us vs factors results work unsound) ≡ r → (r ≡ 0) ⊎ (r ≡ 14)
     → AcceptedCorrelations n floor a b m us vs factors results work
 accepted-correlations n floor a b m us vs factors results work unsound r e h =
     let x = refusal ofRoom (roomRequest n floor a b m us vs) in

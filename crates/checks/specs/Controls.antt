@@ -76,32 +76,37 @@ pub four-near : fan 5 (0 ∷ []) (5 ∷ []) ≡ 0
 unfolding some keptOf eq le neg ofBits windowOf tooManyNear edgesWith
 four-near = refl
 
--- two vertices, the edge 0-1, the pair u-v, one factor: a room of 13
-abbrev single : ℕ → ℕ → Float → (results work : ℕ) → Bool → ℕ
-single u v x results work unsound =
-    refusal ofCorrelations (correlationRequest 2 0 (0 ∷ []) (1 ∷ []) (one ∷ []) (u ∷ []) (v ∷ []) (x ∷ []) results work unsound)
+-- two vertices, the edge 0-1, the pair u-v: a room of 13
+abbrev single : ℕ → ℕ → List Float → (results work : ℕ) → Bool → ℕ
+single u v factors results work unsound =
+    refusal ofCorrelations (correlationRequest 2 0 (0 ∷ []) (1 ∷ []) (one ∷ []) (u ∷ []) (v ∷ []) factors results work unsound)
 
 -- a pair with equal ends, and a factor that is no number
-pub first-8 : single 0 0 nan 1 13 false ≡ 8
+pub first-8 : single 0 0 (nan ∷ []) 1 13 false ≡ 8
 unfolding some keptOf eq le lt neg ofBits windowOf tooManyNear edgesWith
 first-8 = refl
 
 -- a factor that is not finite and above zero, and results of another length
-pub first-10 : (single 0 1 (fin false 0 (pos 0)) 2 0 false ≡ 10) × (single 0 1 (inf false) 2 0 false ≡ 10)
+pub first-10 : (single 0 1 (fin false 0 (pos 0) ∷ []) 2 0 false ≡ 10) × (single 0 1 (inf false ∷ []) 2 0 false ≡ 10)
 unfolding some keptOf eq le lt neg ofBits windowOf tooManyNear edgesWith
 first-10 = (refl, refl)
 
+-- one factor too few or too many, though all pass
+pub factor-each : (single 0 1 [] 2 0 false ≡ 10) × (single 0 1 (one ∷ one ∷ []) 2 0 false ≡ 10)
+unfolding some keptOf eq le lt neg ofBits windowOf tooManyNear edgesWith
+factor-each = (refl, refl)
+
 -- results of another length, and short work memory
-pub first-12 : single 0 1 one 2 12 true ≡ 12
+pub first-12 : single 0 1 (one ∷ []) 2 12 true ≡ 12
 unfolding some keptOf eq le lt neg ofBits windowOf tooManyNear edgesWith
 first-12 = refl
 
 -- short work memory, and a Z that is not finite and above zero
-pub first-13 : single 0 1 one 1 12 true ≡ 13
+pub first-13 : single 0 1 (one ∷ []) 1 12 true ≡ 13
 unfolding some keptOf eq le lt neg ofBits windowOf tooManyNear edgesWith room
 first-13 = refl
 
 -- such a Z, and none
-pub last-14 : (single 0 1 one 1 13 true ≡ 14) × (single 0 1 one 1 13 false ≡ 0)
+pub last-14 : (single 0 1 (one ∷ []) 1 13 true ≡ 14) × (single 0 1 (one ∷ []) 1 13 false ≡ 0)
 unfolding some keptOf eq le lt neg ofBits windowOf tooManyNear edgesWith room
 last-14 = (refl, refl)

@@ -3,7 +3,8 @@ use mathlib.Core.Bool.{Bool, false, cond, _||_, _&&_}
 use mathlib.Core.List.{List, [], _∷_}
 use Prim.Native.Nat.{ℕ}
 use lib.Dec.{eqb}
-use Rattle.checks.specs.Request.{Request, badVertices, badLists, badEdges, badMagnitudes, parallelEdges, wideWindow, manyNear, badPairs, badFactors, shortWork}
+use Rattle.checks.specs.Request.{Request, badVertices, badLists, badEdges, badMagnitudes, parallelEdges}
+use Rattle.checks.specs.Request.{wideWindow, manyNear, badPairs, badFactors, shortWork}
 
 -- a check of the requests of one kind
 pub record Check (A : Type 0) : Type 0 where

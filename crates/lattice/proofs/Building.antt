@@ -15,7 +15,8 @@ use Rattle.forest.specs.Paths.{Edges, Spans}
 use Rattle.distance.specs.Walks.{Distance}
 use Rattle.distance.specs.declared.Reach.{Reach}
 use Rattle.lattice.specs.Keep.{Written, Holds, Built}
-pub use Rattle.lattice.specs.Fronts.{front-early, front-late, early-part, late-part, early-fits, late-fits, few, of-kept, is-accepted, ordered-fronts}
+pub use Rattle.lattice.specs.Fronts.{front-early, front-late, early-part, late-part, early-fits, late-fits}
+pub use Rattle.lattice.specs.Fronts.{few, of-kept, is-accepted, ordered-fronts}
 
 -- a refusal's number is not 0, and then nothing is said of the lists
 pub not-built : {n : ℕ} {a b : List ℕ} {m : List Float} {r e : ℕ} {early early′ late late′ : List ℕ} {mag mag′ : List Float} (k : ℕ) → r ≡ suc k

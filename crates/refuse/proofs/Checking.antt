@@ -1,6 +1,6 @@
 -- The checks of a job one after the other, and what has passed where none refuses.
 use mathlib.Core.Path.{_≡_, refl, sym, ap, ap₂, _∙_, subst, subst₂}
-use mathlib.Core.Bool.{false}
+use mathlib.Core.Bool.{Bool, false}
 use mathlib.Core.List.{List}
 use Prim.Native.Nat.{ℕ, zero, suc, _-_, _≤_, _<_}
 use native.Mathlib.Omega.{arith}
@@ -15,6 +15,7 @@ use Rattle.checks.specs.Answers.{answered, number-is}
 use Rattle.checks.specs.Edges.{kept, earlyEnds, lateEnds, windowFrom}
 use Rattle.checks.specs.Request.{graphRequest, roomRequest, badLists}
 use Rattle.checks.specs.Refusal.{refusal, ofGraph, ofRoom}
+use Rattle.checks.specs.First.{told}
 use Rattle.checks.specs.Later.{orElse}
 use Rattle.checks.specs.Accepted.{Accepted, kept-inside}
 use Rattle.checks.specs.AcceptedJob.{window-wide, accepted-job, job-lists, graph-alone, room-in-parts}
@@ -79,20 +80,22 @@ kept-passed {n} {early = early} {late} {us} {vs} p h = record {
 }
 
 -- 1 or 2 was found
-pub job-refused : {n floor q k w : ℕ} {a b : List ℕ} {m : List Float} {us vs early early′ late late′ : List ℕ} {mag mag′ : List Float} (j : ℕ) → q ≡ suc j
-    → suc j ≡ refusal ofRoom (roomRequest n floor a b m us vs) → CheckedJob n floor a b m us vs q k w early early′ late late′ mag mag′
+pub job-refused : {n floor q k w : ℕ} {a b : List ℕ} {m : List Float} {us vs early early′ late late′ : List ℕ} {mag mag′ : List Float} (j : ℕ)
+    → q ≡ suc j → suc j ≡ refusal ofRoom (roomRequest n floor a b m us vs) → CheckedJob n floor a b m us vs q k w early early′ late late′ mag mag′
 job-refused j e h = record { refusal = e ∙ h; ready = λ z. absurd (omega arith) }
 
-module _ (n floor : ℕ) (a b : List ℕ) (m : List Float) (us vs : List ℕ) (lists : badLists (roomRequest n floor a b m us vs) ≡ false) where
+-- t was answered of the lists
+module _ (n floor : ℕ) (a b : List ℕ) (m : List Float) (us vs : List ℕ) (t : Bool) (test : t ≡ badLists (roomRequest n floor a b m us vs))
+    (passed : t ≡ false) where
   abbrev later : ℕ
   later = keptRefusal n (windowFrom floor a b m) (earlyEnds (kept a b m)) (lateEnds (kept a b m)) us vs
 
   room-is : refusal ofRoom (roomRequest n floor a b m us vs) ≡ orElse (refusal ofGraph (graphRequest n a b m false)) later
-  room-is = room-in-parts n floor a b m us vs ∙ ap (λ (k : ℕ). orElse k later) (graph-alone n floor a b m us vs lists)
+  room-is = room-in-parts n floor a b m us vs ∙ ap (λ (k : ℕ). orElse k later) (graph-alone n floor a b m us vs (told test passed))
 
   -- the pairs' lists are of one length
   pub matched : length vs ≡ length us
-  matched = sym (job-lists n floor a b m us vs lists .1)
+  matched = sym (job-lists n floor a b m us vs (told test passed) .1)
 
   -- the graph was refused
   pub graph-refused : {k w : ℕ} {early early′ late late′ : List ℕ} {mag mag′ : List Float} (q r : ℕ) → q ≡ r
@@ -101,11 +104,13 @@ module _ (n floor : ℕ) (a b : List ℕ) (m : List Float) (us vs : List ℕ) (l
   graph-refused q (suc r) e g z = record { refusal = e ∙ ap (λ (k : ℕ). orElse k later) g ∙ sym room-is; ready = λ p. absurd (omega arith) }
 
   -- the graph was accepted, and its kept edges were checked
-  pub graph-accepted : {r k q j w : ℕ} {early early′ late late′ : List ℕ} {mag mag′ : List Float} → Built n a b m r k early early′ late late′ mag mag′ → r ≡ 0
+  pub graph-accepted : {r k q j w : ℕ} {early early′ late late′ : List ℕ} {mag mag′ : List Float}
+      → Built n a b m r k early early′ late late′ mag mag′ → r ≡ 0
       → CheckedKept n floor (take k early′) (take k late′) us vs q j w → CheckedJob n floor a b m us vs q j w early early′ late late′ mag mag′
   graph-accepted {w = w} B z C =
       let W = B .written z in
-      let r = of-kept W (λ x y. keptRefusal n (windowOf floor x y) x y us vs) (C .refusal) ∙ ap (λ (k : ℕ). orElse k later) (sym z ∙ B .refusal) ∙ sym room-is in
+      let e = of-kept W (λ x y. keptRefusal n (windowOf floor x y) x y us vs) (C .refusal) in
+      let r = e ∙ ap (λ (k : ℕ). orElse k later) (sym z ∙ B .refusal) ∙ sym room-is in
       record {
         refusal = r;
         ready = λ p.

@@ -29,14 +29,15 @@ abbrev pub keptRefusal : (n w : ℕ) → (early late us vs : List ℕ) → ℕ
 keptRefusal n w early late us vs =
     cond (ltb 24 w) 6 (cond (tooManyNear n w (numbered early late)) 7 (cond (some (badPair false n us vs) (length us)) 8 0))
 
+-- the kept edges and the pairs were checked; where none of these fits, all edges count and the window is theirs
 pub record CheckedKept (n floor : ℕ) (early late us vs : List ℕ) (refused k w : ℕ) : Type 0 where
   pub refusal : refused ≡ keptRefusal n (windowOf floor early late) early late us vs
   pub all : refused ≡ 0 → k ≡ length early
   pub window : refused ≡ 0 → w ≡ windowOf floor early late
 
 -- A job that no check refuses, with k kept edges at the fronts of three lists, and window w: a plan can be made of it.
-pub record ReadyJob (n floor : ℕ) (a b : List ℕ) (m : List Float) (us vs : List ℕ) (k w : ℕ) (early early′ late late′ : List ℕ) (mag mag′ : List Float)
-    : Type 0 where
+pub record ReadyJob (n floor : ℕ) (a b : List ℕ) (m : List Float) (us vs : List ℕ) (k w : ℕ) (early early′ late late′ : List ℕ)
+    (mag mag′ : List Float) : Type 0 where
   pub written : Written a b m (length a) k early early′ late late′ mag mag′
   pub few-edges : k ≤ 4096
   pub window : w ≡ windowFrom floor a b m

@@ -14,18 +14,23 @@ refused-requires : tie.Need-refused-requires
 refused-requires c κs = search needs
 
 returns : tie.Need-returns
-returns c = kept-refused 5 _ (c .refused .ensures) (c .before .before .window-of .ensures) (here _ _ _ (lt-ltb 24 _ (c .before .if1 .taken)))
+returns c =
+    let found = c .before .before .window-of .ensures in
+    kept-refused 5 _ (c .refused .ensures) found (here _ _ _ (lt-ltb 24 _ (c .before .if1 .taken)))
 
 too-many-near-requires : tie.Need-too-many-near-requires
-too-many-near-requires c κs = edges-of _ _ _ _ _ (c .before .before .before .before .before .before .pre .0) (c .before .window-of .ensures) (c .if1 .left)
+too-many-near-requires c κs =
+    let start = c .before .before .before .before .before .before in
+    edges-of _ _ _ _ _ (start .pre .0) (c .before .window-of .ensures) (c .if1 .left)
 
 refused-requires-2 : tie.Need-refused-requires-2
 refused-requires-2 c κs = search needs
 
 returns-2 : tie.Need-returns-2
 returns-2 c =
-    kept-refused 6 _ (c .refused2 .ensures) (c .before .before .before .before .window-of .ensures)
-    (past _ _ _ _ (le-ltb 24 _ (c .before .before .before .if1 .left)) (here _ _ _ (told (c .before .before .too-many-near .ensures) (c .before .if2 .taken))))
+    let narrow = c .before .before .before in
+    kept-refused 6 _ (c .refused2 .ensures) (narrow .before .window-of .ensures)
+    (past _ _ _ _ (le-ltb 24 _ (narrow .if1 .left)) (here _ _ _ (told (c .before .before .too-many-near .ensures) (c .before .if2 .taken))))
 
 bad-pairs-requires : tie.Need-bad-pairs-requires
 bad-pairs-requires c κs = search needs
@@ -35,15 +40,21 @@ refused-requires-3 c κs = search needs
 
 returns-3 : tie.Need-returns-3
 returns-3 c =
-    kept-refused 7 _ (c .refused3 .ensures) (c .before .before .before .before .before .before .window-of .ensures)
-    (past _ _ _ _ (le-ltb 24 _ (c .before .before .before .before .before .if1 .left))
-    (past _ _ _ _ (told (c .before .before .before .before .too-many-near .ensures) (c .before .before .before .if2 .left)) (here _ _ _ (told (c .before .before .bad-pairs .ensures) (c .before .if3 .taken)))))
+    let near = c .before .before .before in
+    let narrow = near .before .before in
+    kept-refused 7 _ (c .refused3 .ensures) (narrow .before .window-of .ensures)
+    (past _ _ _ _ (le-ltb 24 _ (narrow .if1 .left))
+    (past _ _ _ _ (told (near .before .too-many-near .ensures) (near .if2 .left))
+    (here _ _ _ (told (c .before .before .bad-pairs .ensures) (c .before .if3 .taken)))))
 
 returns-4 : tie.Need-returns-4
 returns-4 c =
-    kept-passed (c .before .before .before .before .before .window-of .ensures)
-    (past _ _ _ _ (le-ltb 24 _ (c .before .before .before .before .if1 .left))
-    (past _ _ _ _ (told (c .before .before .before .too-many-near .ensures) (c .before .before .if2 .left)) (past _ _ _ _ (told (c .before .bad-pairs .ensures) (c .if3 .left)) refl)))
+    let near = c .before .before in
+    let narrow = near .before .before in
+    kept-passed (narrow .before .window-of .ensures)
+    (past _ _ _ _ (le-ltb 24 _ (narrow .if1 .left))
+    (past _ _ _ _ (told (near .before .too-many-near .ensures) (near .if2 .left))
+    (past _ _ _ _ (told (c .before .bad-pairs .ensures) (c .if3 .left)) refl)))
 
 pub check-kept-spec : {M : Type 1} → statement M
 check-kept-spec =

@@ -21,13 +21,17 @@ room-requires c κs = search needs
 
 returns-3 : tie.Need-returns-3
 returns-3 c =
-    past _ _ _ _ (told (c .before .before .before .before .bad-factors .ensures) (c .before .before .before .if1 .left))
-    (past _ _ _ _ (ap not (eq-eqb _ _ (c .before .before .if2 .left))) (here _ _ _ (lt-ltb _ _ (rw (c .before .room .ensures) at (c .if3 .taken)))))
+    let fitting = c .before .before in
+    let factors = fitting .before in
+    past _ _ _ _ (told (factors .before .bad-factors .ensures) (factors .if1 .left))
+    (past _ _ _ _ (ap not (eq-eqb _ _ (fitting .if2 .left))) (here _ _ _ (lt-ltb _ _ (rw (c .before .room .ensures) at (c .if3 .taken)))))
 
 returns-4 : tie.Need-returns-4
 returns-4 c =
-    past _ _ _ _ (told (c .before .before .before .before .bad-factors .ensures) (c .before .before .before .if1 .left))
-    (past _ _ _ _ (ap not (eq-eqb _ _ (c .before .before .if2 .left))) (past _ _ _ _ (le-ltb _ _ (rw (c .before .room .ensures) at (c .if3 .left))) refl))
+    let fitting = c .before .before in
+    let factors = fitting .before in
+    past _ _ _ _ (told (factors .before .bad-factors .ensures) (factors .if1 .left))
+    (past _ _ _ _ (ap not (eq-eqb _ _ (fitting .if2 .left))) (past _ _ _ _ (le-ltb _ _ (rw (c .before .room .ensures) at (c .if3 .left))) refl))
 
 pub check-lists-spec : {M : Type 1} → statement M
 check-lists-spec =

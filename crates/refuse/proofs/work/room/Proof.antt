@@ -21,7 +21,9 @@ returns : tie.Need-returns
 returns c = refused-is _ _ _ (c .before .before .before .before .check-job .ensures .refusal) (c .if1 .taken)
 
 room-requires : tie.Need-room-requires
-room-requires c κs = let job = c .before .before .before .before .check-job .ensures .ready (c .if1 .left) in (job .pairs, job .edges .few, job .edges .narrow, job .few-edges)
+room-requires c κs =
+    let job = c .before .before .before .before .check-job .ensures .ready (c .if1 .left) in
+    (job .pairs, job .edges .few, job .edges .narrow, job .few-edges)
 
 returns-2 : tie.Need-returns-2
 returns-2 c = room-answered (c .before .before .before .before .before .check-job .ensures) (c .before .if1 .left) _ (c .room .ensures)
