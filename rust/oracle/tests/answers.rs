@@ -13,6 +13,7 @@ fn the_stored_lists_are_the_originals_answers() {
         ("strip_edges", "replay_strip/data/edges.bin"),
         ("dilutions", "replay_strip/data/dilutions.bin"),
         ("strip_refusals", "replay_strip/data/refusals.bin"),
+        ("correlations", "replay_glass/data/correlations.bin"),
         ("sweeps", "transfer/specs/Original.antt"),
     ] {
         let made = Command::new(env!("CARGO_BIN_EXE_answers")).arg(list).output().expect("answers runs");

@@ -8,24 +8,30 @@
 //!     cargo run --release --offline --bin answers -- strip_edges > ../crates/replay_strip/data/edges.bin
 //!     cargo run --release --offline --bin answers -- dilutions > ../crates/replay_strip/data/dilutions.bin
 //!     cargo run --release --offline --bin answers -- strip_refusals > ../crates/replay_strip/data/refusals.bin
+//!     cargo run --release --offline --bin answers -- correlations > ../crates/replay_glass/data/correlations.bin
 //!     cargo run --release --offline --bin answers -- sweeps > ../crates/transfer/specs/Original.antt
 
+mod correlation_jobs;
+mod correlation_refusals;
+mod correlations;
 mod generators;
 mod graphs;
 mod hash;
+mod model;
 mod strips;
 mod sweeps;
 
 use std::io::Write;
 use std::process::ExitCode;
 
-const LISTS: [(&str, fn() -> Vec<u8>); 7] = [
+const LISTS: [(&str, fn() -> Vec<u8>); 8] = [
     ("generators", || words(generators::generators())),
     ("graphs", || words(graphs::graphs())),
     ("strips", || words(strips::strips())),
     ("strip_edges", || words(strips::strip_edges())),
     ("dilutions", || words(strips::dilutions())),
     ("strip_refusals", || words(strips::strip_refusals())),
+    ("correlations", || words(correlations::correlations())),
     ("sweeps", || sweeps::sweeps().into_bytes()),
 ];
 

@@ -6,7 +6,7 @@ use oracle::lattice::{Kind, Strip};
 const KINDS: [Kind; 3] = [Kind::Square, Kind::Tri, Kind::Honey];
 
 /// Strips of every kind, free and periodic, whose sides pass `wanted`; width before length.
-fn all_strips(wanted: impl Fn(usize, usize) -> bool) -> Vec<Strip> {
+pub fn all_strips(wanted: impl Fn(usize, usize) -> bool) -> Vec<Strip> {
     let mut list = Vec::new();
     for w in 1..=1024usize {
         for l in (1..=1024 / w).filter(|&l| wanted(w, l)) {
@@ -20,7 +20,7 @@ fn all_strips(wanted: impl Fn(usize, usize) -> bool) -> Vec<Strip> {
     list
 }
 
-fn odd_cylinder(s: &Strip) -> bool {
+pub fn odd_cylinder(s: &Strip) -> bool {
     s.kind == Kind::Honey && s.periodic && s.w % 2 == 1
 }
 

@@ -1,0 +1,245 @@
+// One job: its lists are loaded, the call is made, and what it answers and leaves in the lent lists is compared.
+ghost use Prim.Native.Nat.{_≤_};
+use crate::doubles::are_cleared;
+use crate::doubles::are_stored;
+use crate::doubles::fill;
+use crate::doubles::load;
+use checks::Answer;
+use glass::Manner;
+use stored::at;
+use stored::load_numbers;
+use stored::word;
+
+// Refusals' numbers, and 0.
+pub(crate) const NUMBERS: usize = 19;
+// More than a call takes.
+const EDGES: usize = 4100;
+
+const PAIRS: usize = 260;
+// A refusal's number, told from a room.
+const REFUSED: u64 = 0x1_0000_0000;
+// The words that a record begins with, by their place.
+const FLOOR: usize = 1;
+
+const A_COUNT: usize = 2;
+
+const B_COUNT: usize = 3;
+
+const M_COUNT: usize = 4;
+
+const US_COUNT: usize = 5;
+
+const VS_COUNT: usize = 6;
+
+const FACTORS: usize = 7;
+
+const PER_ELEMENT: usize = 8;
+
+const RESULTS: usize = 9;
+
+// what results and work memory hold before the call
+const BEFORE: usize = 10;
+
+// how much work memory is lent
+const LENT: usize = 11;
+
+// the call's number
+const NUMBER: usize = 12;
+
+// how much of the memory is +0.0 after it
+const CLEARED: usize = 13;
+
+const ROOM: usize = 14;
+
+// the lists in the order of their lengths, then the results after the call
+const LISTS: usize = 15;
+
+pub(crate) struct Counted {
+    pub same: usize,
+    pub all: usize,
+    pub left: usize,
+}
+
+struct Replayed {
+    same: bool,
+    next: usize,
+}
+
+fn number_at(list: &[u8], place: usize) -> usize {
+    word(list, place) as usize
+}
+
+// A length of the record, no more than a buffer has.
+fn length_at(list: &[u8], place: usize, most: usize) -> usize
+    ensures { λ r. ⌜ r ≤ most ⌝ }
+{
+    let k = number_at(list, place);
+    if k < most { k } else { most }
+}
+
+fn manner_of(per_element: u64) -> Manner {
+    if per_element == 1 {
+        return Manner::PerElement;
+    }
+    Manner::Block
+}
+
+fn room_word(room: Answer) -> u64 {
+    match room {
+        Answer::Number(k) => k as u64,
+        Answer::Refused(k) => std::num::wrapping_add_u64(REFUSED, k as u64),
+    }
+}
+
+// Fills results and work memory with what they hold before the call, and calls.
+fn call(
+    list: &[u8],
+    start: usize,
+    a: &[usize],
+    b: &[usize],
+    m: &[f64],
+    us: &[usize],
+    vs: &[usize],
+    factors: &[f64],
+    results: &mut [f64],
+    memory: &mut [f64],
+) -> usize {
+    let n = number_at(list, start);
+    let floor = number_at(list, at(start, FLOOR));
+    let manner = manner_of(word(list, at(start, PER_ELEMENT)));
+    fill(list, at(start, BEFORE), results);
+    fill(list, at(start, BEFORE), memory);
+    glass::correlations(n, floor, a, b, m, us, vs, factors, manner, results, memory)
+}
+
+// Whether the number, the results, which are stored at `place`, and the work memory are what they should be.
+fn agrees(
+    list: &[u8],
+    start: usize,
+    place: usize,
+    number: usize,
+    results: &[f64],
+    memory: &[f64],
+) -> bool {
+    let cleared = number_at(list, at(start, CLEARED));
+    let before = word(list, at(start, BEFORE));
+    (number == number_at(list, at(start, NUMBER)))
+        & are_stored(results, list, place)
+        & are_cleared(memory, cleared, before)
+}
+
+fn room_agrees(
+    list: &[u8],
+    start: usize,
+    a: &[usize],
+    b: &[usize],
+    m: &[f64],
+    us: &[usize],
+    vs: &[usize],
+) -> bool {
+    let n = number_at(list, start);
+    let floor = number_at(list, at(start, FLOOR));
+    room_word(refuse::room(n, floor, a, b, m, us, vs)) == word(list, at(start, ROOM))
+}
+
+// Loads the factors, which begin at `place`, and lends results and work memory.
+fn replay_pairs(
+    list: &[u8],
+    start: usize,
+    place: usize,
+    a: &[usize],
+    b: &[usize],
+    m: &[f64],
+    us: &[usize],
+    vs: &[usize],
+    work: &mut [f64],
+) -> Replayed {
+    let mut first = [0.0f64; EDGES];
+    let mut second = [0.0f64; PAIRS];
+    let k = length_at(list, at(start, FACTORS), EDGES);
+    let l = length_at(list, at(start, RESULTS), PAIRS);
+    let lent = length_at(list, at(start, LENT), work.len());
+    let factors = &mut first[..k];
+    let results = &mut second[..l];
+    let memory = &mut work[..lent];
+    let answers = at(place, k);
+    load(list, place, factors);
+    let number = call(list, start, a, b, m, us, vs, factors, results, memory);
+    Replayed {
+        same: agrees(list, start, answers, number, results, memory),
+        next: at(answers, l),
+    }
+}
+
+// Loads the pairs, which begin at `place`.
+fn replay_edges(
+    list: &[u8],
+    start: usize,
+    place: usize,
+    a: &[usize],
+    b: &[usize],
+    m: &[f64],
+    work: &mut [f64],
+) -> Replayed {
+    let mut first = [0usize; PAIRS];
+    let mut second = [0usize; PAIRS];
+    let k = length_at(list, at(start, US_COUNT), PAIRS);
+    let l = length_at(list, at(start, VS_COUNT), PAIRS);
+    let us = &mut first[..k];
+    let vs = &mut second[..l];
+    let others = at(place, k);
+    load_numbers(list, place, us);
+    load_numbers(list, others, vs);
+    let r = replay_pairs(list, start, at(others, l), a, b, m, us, vs, work);
+    Replayed {
+        same: r.same & room_agrees(list, start, a, b, m, us, vs),
+        next: r.next,
+    }
+}
+
+fn replay(list: &[u8], start: usize, work: &mut [f64]) -> Replayed {
+    let mut first = [0usize; EDGES];
+    let mut second = [0usize; EDGES];
+    let mut third = [0.0f64; EDGES];
+    let k = length_at(list, at(start, A_COUNT), EDGES);
+    let l = length_at(list, at(start, B_COUNT), EDGES);
+    let j = length_at(list, at(start, M_COUNT), EDGES);
+    let a = &mut first[..k];
+    let b = &mut second[..l];
+    let m = &mut third[..j];
+    let ones = at(start, LISTS);
+    let others = at(ones, k);
+    let magnitudes = at(others, l);
+    load_numbers(list, ones, a);
+    load_numbers(list, others, b);
+    load(list, magnitudes, m);
+    replay_edges(list, start, at(magnitudes, j), a, b, m, work)
+}
+
+fn count(counts: &mut [usize; NUMBERS], number: usize) {
+    if number < NUMBERS {
+        counts[number] = std::num::wrapping_add_usize(counts[number], 1);
+    }
+}
+
+// The first word is the number of jobs. Those that agree are counted by their refusal's number.
+pub(crate) fn replay_all(list: &[u8], work: &mut [f64], counts: &mut [usize; NUMBERS]) -> Counted {
+    let all = number_at(list, 0);
+    let mut same: usize = 0;
+    let mut p: usize = 8;
+    let mut left = all;
+    while left > 0 {
+        let r = replay(list, p, work);
+        if r.same {
+            same = std::num::wrapping_add_usize(same, 1);
+            count(counts, number_at(list, at(p, NUMBER)));
+        }
+        p = r.next;
+        left -= 1;
+    }
+    Counted {
+        same,
+        all,
+        left: std::num::wrapping_sub_usize(list.len(), p),
+    }
+}

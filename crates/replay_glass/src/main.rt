@@ -1,0 +1,68 @@
+// Replays the original's correlations. data/correlations.bin is words: the number of jobs, and a record for each, which job.rt reads. `answers
+// correlations` of rust/oracle made it: the results are the original's, the refusals' numbers and the room from document 01.
+mod doubles;
+mod job;
+
+use job::NUMBERS;
+use libc::STDOUT_FILENO;
+
+fn print_number(n: usize) {
+    io::print_decimal(STDOUT_FILENO, n as u64);
+}
+
+fn print_count(number: usize, count: usize) {
+    if count > 0 {
+        io::write_all(STDOUT_FILENO, b" ");
+        print_number(number);
+        io::write_all(STDOUT_FILENO, b": ");
+        print_number(count);
+    }
+}
+
+// How many jobs agree of each refusal's number; 0 is accepted.
+fn print_counts(counts: &[usize; NUMBERS]) {
+    io::write_all(STDOUT_FILENO, b"accepted: ");
+    print_number(counts[0]);
+    io::write_all(STDOUT_FILENO, b"; refused by");
+    let mut k: usize = 1;
+    while k < NUMBERS {
+        print_count(k, counts[k]);
+        k += 1;
+    }
+    io::write_all(STDOUT_FILENO, b"\n");
+}
+
+fn report(list: &[u8], work: &mut [f64]) {
+    let mut counts = [0usize; NUMBERS];
+    let counted = job::replay_all(list, work, &mut counts);
+    print_number(counted.same);
+    io::write_all(STDOUT_FILENO, b" of ");
+    print_number(counted.all);
+    io::write_all(STDOUT_FILENO, b" jobs agree; bytes left over: ");
+    print_number(counted.left);
+    io::write_all(STDOUT_FILENO, b"\n");
+    print_counts(&counts);
+}
+
+fn read(fd: i32, list: &mut [u8], work: &mut [f64]) {
+    let n = io::read_full(fd, list);
+    report(&list[..n], work);
+}
+
+// The arrays' types have their lengths, so that nothing counts their elements.
+fn read_all(fd: i32, list: &mut [u8; 1000000], work: &mut [f64; 131072]) {
+    read(fd, list, work)
+}
+
+fn main() {
+    let path = b"correlations.bin";
+    let fd = os::open_read(path);
+    if fd < 0 {
+        os::fail(path);
+        return;
+    }
+    let mut list = [0u8; 1000000];
+    let mut work = [0.0f64; 131072];
+    read_all(fd, &mut list, &mut work);
+    libc::close(fd);
+}
