@@ -9,11 +9,14 @@
 //!     cargo run --release --offline --bin answers -- dilutions > ../crates/replay_strip/data/dilutions.bin
 //!     cargo run --release --offline --bin answers -- strip_refusals > ../crates/replay_strip/data/refusals.bin
 //!     cargo run --release --offline --bin answers -- correlations > ../crates/replay_glass/data/correlations.bin
+//!     cargo run --release --offline --bin answers -- estimates > ../crates/replay_estimate/data/estimates.bin
+//!     cargo run --release --offline --bin answers -- roots > ../crates/replay_estimate/data/roots.bin
 //!     cargo run --release --offline --bin answers -- sweeps > ../crates/transfer/specs/Original.antt
 
 mod correlation_jobs;
 mod correlation_refusals;
 mod correlations;
+mod estimates;
 mod generators;
 mod graphs;
 mod hash;
@@ -24,7 +27,7 @@ mod sweeps;
 use std::io::Write;
 use std::process::ExitCode;
 
-const LISTS: [(&str, fn() -> Vec<u8>); 8] = [
+const LISTS: [(&str, fn() -> Vec<u8>); 10] = [
     ("generators", || words(generators::generators())),
     ("graphs", || words(graphs::graphs())),
     ("strips", || words(strips::strips())),
@@ -32,6 +35,8 @@ const LISTS: [(&str, fn() -> Vec<u8>); 8] = [
     ("dilutions", || words(strips::dilutions())),
     ("strip_refusals", || words(strips::strip_refusals())),
     ("correlations", || words(correlations::correlations())),
+    ("estimates", || words(estimates::estimates())),
+    ("roots", || words(estimates::roots())),
     ("sweeps", || sweeps::sweeps().into_bytes()),
 ];
 

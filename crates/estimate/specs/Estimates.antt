@@ -1,0 +1,55 @@
+-- What an estimate is, from the count of configurations and the sums of squares and of fourth powers: 01's number or values in each case.
+-- Each operation is rounded once, in the order written.
+use Prim.Native.Nat.{ℕ, _^_}
+use mathlib.Core.Bool.{Bool, not, _&&_, _||_, cond}
+use lib.IntN.{pos}
+use lib.Dec.{ltb, eqb}
+use lib.Ieee.{Float, binary64, lt, le, ofInt, ofBits}
+use Rattle.transfer.specs.Arithmetic.{Ops}
+use Rattle.transfer.specs.Rounded.{ieee}
+use Rattle.root.specs.Sqrt.{sqrt}
+use Rattle.estimate.specs.declared.answer.Estimate.{Estimate}
+use Rattle.estimate.specs.declared.answer.Estimate.the-variants.{Estimated, TooFew, Refused}
+open Ops ieee using (_⊖_, _⊗_, _⊘_)
+
+infixl 60 _⊖_
+infixl 70 _⊗_
+infixl 70 _⊘_
+-- +0.0 and 1.0, by their bits
+abbrev pub +0·0 : Float
++0·0 = ofBits binary64 0
+
+abbrev pub +1·0 : Float
++1·0 = ofBits binary64 0x3ff0_0000_0000_0000
+
+-- the count as a double, which is exact up to 2 ^ 53
+abbrev pub number : ℕ → Float
+number count = ofInt binary64 (pos count)
+
+abbrev pub meanOf : Float → Float → Float
+meanOf n squares = squares ⊘ n
+
+abbrev pub varianceOf : Float → Float → Float → Float
+varianceOf n squares fourths = (fourths ⊘ n ⊖ meanOf n squares ⊗ meanOf n squares) ⊗ n ⊘ (n ⊖ +1·0)
+
+-- what is not above zero, -0.0 too, counts as +0.0
+abbrev pub atLeastZero : Float → Float
+atLeastZero v = cond (lt +0·0 v) v +0·0
+
+abbrev pub errorOf : Float → Float → Float → Float
+errorOf n squares fourths = sqrt binary64 (atLeastZero (varianceOf n squares fourths) ⊘ n)
+
+-- 0 ≤ fourth powers ≤ squares ≤ count; a NaN fails it
+abbrev pub inOrder : Float → Float → Float → Bool
+inOrder n squares fourths = le +0·0 fourths && le fourths squares && le squares n
+
+-- check 18
+abbrev pub refuses : ℕ → Float → Float → Bool
+refuses count squares fourths = eqb count 0 || ltb (2 ^ 53) count || not (inOrder (number count) squares fourths)
+
+unfoldable pub estimateOf : ℕ → Float → Float → Estimate
+estimateOf count squares fourths =
+    let n = number count in
+    cond (refuses count squares fourths) (Refused 18)
+    (cond (eqb count 1) (TooFew (meanOf n squares))
+    (Estimated (record { mean = meanOf n squares; error = errorOf n squares fourths })))

@@ -1,0 +1,114 @@
+// Replays the original's estimates, and square roots by the machine. `answers estimates` and `answers roots` of rust/oracle made the lists in data/:
+// a count, both sums and the estimate; a pattern and its root.
+ghost use Prim.Native.Nat.{_≤_, _<_};
+use estimate::Estimate;
+use libc::STDOUT_FILENO;
+
+// bytes of a record of each list
+const ESTIMATE: usize = 8 * 6;
+
+const ROOT: usize = 8 * 2;
+
+// Word i of the record at `at`.
+fn word(list: &[u8], at: usize, i: usize) -> u64
+    requires { ⌜ i < 6 ⌝ }
+{
+    stored::word(list, std::num::wrapping_add_usize(at, i * 8))
+}
+
+// A double from its bits; one NaN for every NaN's.
+fn double_of(bits: u64) -> f64 {
+    if 0x7ff0_0000_0000_0000 < bits % 0x8000_0000_0000_0000 {
+        return 0.0 / 0.0;
+    }
+    stored::float_of(bits)
+}
+
+// The case, 0 for an estimate, 1 for too few or the refusal's number; the mean and the error, 0 where there is none.
+struct Told {
+    case: u64,
+    mean: u64,
+    error: u64,
+}
+
+fn words_of(e: Estimate) -> Told {
+    match e {
+        Estimate::Estimated(m) => Told {
+            case: 0,
+            mean: stored::bits_of(m.mean),
+            error: stored::bits_of(m.error),
+        },
+        Estimate::TooFew(mean) => Told {
+            case: 1,
+            mean: stored::bits_of(mean),
+            error: 0,
+        },
+        Estimate::Refused(k) => Told {
+            case: k as u64,
+            mean: 0,
+            error: 0,
+        },
+    }
+}
+
+fn replay_estimate(list: &[u8], at: usize) -> bool {
+    let squares = double_of(word(list, at, 1));
+    let fourths = double_of(word(list, at, 2));
+    let t = words_of(estimate::estimate(word(list, at, 0) as usize, squares, fourths));
+    (t.case == word(list, at, 3)) & (t.mean == word(list, at, 4)) & (t.error == word(list, at, 5))
+}
+
+fn replay_root(list: &[u8], at: usize) -> bool {
+    stored::bits_of(root::sqrt(double_of(word(list, at, 0)))) == word(list, at, 1)
+}
+
+fn replay(size: usize, list: &[u8], at: usize) -> bool {
+    if size == ESTIMATE {
+        return replay_estimate(list, at);
+    }
+    replay_root(list, at)
+}
+
+fn count_same(size: usize, list: &[u8]) -> usize
+    requires { ⌜ (0 < size) × (size ≤ 48) ⌝ }
+{
+    let mut count: usize = 0;
+    let mut at: usize = 0;
+    while at < list.len() {
+        if replay(size, list, at) {
+            count += 1;
+        }
+        at += size;
+    }
+    count
+}
+
+fn print_number(n: usize) {
+    io::print_decimal(STDOUT_FILENO, n as u64);
+}
+
+fn report(size: usize, path: &[u8], what: &[u8])
+    requires { ⌜ (0 < size) × (size ≤ 48) ⌝ }
+{
+    let fd = os::open_read(path);
+    if fd < 0 {
+        os::fail(path);
+        return;
+    }
+    let mut list = [0u8; 98304];
+    let n = io::read_full(fd, &mut list);
+    libc::close(fd);
+    print_number(count_same(size, &list[..n]));
+    io::write_all(STDOUT_FILENO, b" of ");
+    print_number(n / size);
+    io::write_all(STDOUT_FILENO, what);
+}
+
+fn main() {
+    report(
+        ESTIMATE,
+        b"estimates.bin",
+        b" estimates agree, refused ones among them\n",
+    );
+    report(ROOT, b"roots.bin", b" square roots agree\n");
+}

@@ -1,0 +1,5 @@
+-- Laws that the proofs share.
+mod Digits
+mod Placing
+mod Answer
+mod Cases
