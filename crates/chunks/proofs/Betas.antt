@@ -1,0 +1,117 @@
+-- The betas of one configuration, one after another.
+use mathlib.Core.Path.{_≡_, refl, sym, ap, _∙_}
+use mathlib.Core.Bool.{Bool, true, false, not}
+use mathlib.Core.List.{List, [], _++_, append-nil}
+use mathlib.Core.Logic.{inr}
+use Prim.Native.Nat.{ℕ, zero, suc, _+_, _*_, _/_, _%_, _≤_, _<_}
+use native.Mathlib.Nat.{zero-add, zero-mul, add-zero, suc-mul, mul-add-div-right, mul-add-mod-self-right, mod-eq-of-lt, div-eq-of-lt}
+use native.Mathlib.Numerals.{add-one}
+use native.Mathlib.Omega.{arith}
+use lib.Ieee.{Float, nan, binary64, add}
+use lib.ListN.{length, getD, take, drop, drop-of-length-le}
+use Rattle.vector.specs.Part.{put, put-out, fill-none, fill-run, fill-length}
+use Rattle.vector.specs.Search.{some, some-at}
+use Rattle.vector.specs.Search as Search
+use Rattle.vector.specs.Tabulate.{tabulate, tabulate-length, tabulate-at}
+use Rattle.transfer.specs.Job.{Job}
+use Rattle.transfer.specs.Rounded.{ieee}
+use Rattle.transfer.specs.Sweep as S
+use Rattle.transfer.specs.Totals.{square, fourth}
+use Rattle.answers.specs.Sound.{unsound, Outcome}
+use Rattle.chunks.specs.Powers.{addedAt, addedTo, correlationAt, AddedPowers}
+use Rattle.chunks.specs.SoFar.{partly, SoFar}
+
+-- ---- lists
+
+pub partly-none : (l : List Float) (m : ℕ) (term : ℕ → Float) → m ≡ 0 → l ≡ partly l m term
+partly-none l m term e = rw e (fill-none l 0 _)
+
+-- a block of terms more
+pub partly-more : (l v v′ : List Float) (m n : ℕ) (term block : ℕ → Float) → v ≡ partly l m term → v′ ≡ addedAt v m n block → m + n ≤ length l
+    → ((i : ℕ) → i < n → block i ≡ term (m + i)) → v′ ≡ partly l (m + n) term
+partly-more l v v′ m n term block p q h same =
+    let F : ℕ → Float = λ k. add binary64 (getD l k nan) (term k) in
+    let G : ℕ → Float = λ i. add binary64 (getD v (m + i) nan) (block i) in
+    let t = tabulate-length F m in
+    let z : 0 + m ≡ m = zero-add m in
+    let old : (i : ℕ) → getD v (m + i) nan ≡ getD l (m + i) nan =
+    λ i. ap (λ (y : List Float). getD y (m + i) nan) p ∙ put-out l 0 (tabulate F m) (omega arith) (m + i) nan (inr (omega arith)) in
+    q ∙ ap (λ (y : List Float). put y m (tabulate G n)) p
+    ∙ ap (λ (k : ℕ). put (put l 0 (tabulate F m)) k (tabulate G n)) (sym z)
+    ∙ fill-run l 0 F G m n (omega arith) (λ i b. rw (old i, same i b))
+
+pub partly-all : (l : List Float) (n : ℕ) (term : ℕ → Float) → n ≡ length l → partly l n term ≡ addedTo l n term
+unfolding put
+partly-all l n term e =
+    let F : ℕ → Float = λ k. add binary64 (getD l k nan) (term k) in
+    let t = tabulate-length F n in
+    ap (λ (y : List Float). tabulate F n ++ y) (drop-of-length-le l {i = 0 + length (tabulate F n)} (omega arith)) ∙ append-nil (tabulate F n)
+
+-- ---- one beta more
+
+module _ (J : ℕ → Job Float) (us vs : List ℕ) where
+  -- pair i of beta b
+  numbered : (b i : ℕ) → i < length us → S.answer ieee (J b) (getD us i 0) (getD vs i 0) ≡ correlationAt J us vs (b * length us + i)
+  numbered b i l =
+      let some : 0 < length us = omega arith in
+      let d : (b * length us + i) / length us ≡ b = mul-add-div-right some b i ∙ ap (λ (k : ℕ). b + k) (div-eq-of-lt l) ∙ add-zero b in
+      let m : (b * length us + i) % length us ≡ i = mul-add-mod-self-right b (length us) i ∙ mod-eq-of-lt l in
+      rw (d, m)
+
+  -- the results of beta b are its correlations
+  results-at : (b : ℕ) (c : List Float) → c ≡ S.answers ieee (J b) us vs → (i : ℕ) → i < length us → getD c i nan ≡ correlationAt J us vs (b * length us + i)
+  unfolding S.answers
+  results-at b c e i l =
+      ap (λ (y : List Float). getD y i nan) e
+      ∙ tabulate-at (λ j. S.answer ieee (J b) (getD us j 0) (getD vs j 0)) (length us) i nan l ∙ numbered b i l
+
+  module _ (squares₀ squares fourths₀ fourths c : List Float) (b : ℕ) (g : SoFar J us vs b squares₀ squares fourths₀ fourths) (sound : Bool)
+      (o : Outcome (J b) us vs c sound) where
+    -- a beta that did not pass
+    pub some-unsound : (betas : ℕ) → b < betas → sound ≡ false → false ≡ not (some (λ i. unsound (J i) us vs) betas)
+    some-unsound betas l e =
+        let u : unsound (J b) us vs ≡ true = turned sound (unsound (J b) us vs) (o .told) e in
+        rw (some-at (λ i. unsound (J i) us vs) betas b l u)
+      where
+        turned : (s u : Bool) → s ≡ not u → s ≡ false → u ≡ true
+        turned s true p q = refl
+        turned s false p q = sym q ∙ p
+
+    -- one that did
+    pub beta-more : (squares′ fourths′ : List Float) → sound ≡ true → length c ≡ length us
+        → b * length us + length us ≤ length squares₀ → b * length us + length us ≤ length fourths₀
+        → squares′ ≡ addedAt squares (b * length us) (length c) (λ p. square ieee (getD c p nan))
+        → fourths′ ≡ addedAt fourths (b * length us) (length c) (λ p. fourth ieee (getD c p nan))
+        → SoFar J us vs (b + 1) squares₀ squares′ fourths₀ fourths′
+    beta-more squares′ fourths′ e long fits fits′ p q =
+        let m : b * length us + length us ≡ (b + 1) * length us = omega arith in
+        let at = results-at b c (o .values e) in
+        let square-is : (i : ℕ) → i < length us → square ieee (getD c i nan) ≡ square ieee (correlationAt J us vs (b * length us + i)) =
+        λ i l. ap (square ieee) (at i l) in
+        let fourth-is : (i : ℕ) → i < length us → fourth ieee (getD c i nan) ≡ fourth ieee (correlationAt J us vs (b * length us + i)) =
+        λ i l. ap (fourth ieee) (at i l) in
+        record {
+          sound = Search.miss (λ i. unsound (J i) us vs) b (g .sound) (not sound) (turned sound (unsound (J b) us vs) (o .told)) (ap not e);
+          squared = rw m at (partly-more squares₀ squares squares′ (b * length us) (length us) _ _ (g .squared) (rw long at p) fits square-is);
+          fourthed = rw m at (partly-more fourths₀ fourths fourths′ (b * length us) (length us) _ _ (g .fourthed) (rw long at q) fits′ fourth-is);
+        }
+      where
+        turned : (s u : Bool) → s ≡ not u → not s ≡ u
+        turned true true r = sym r
+        turned true false r = refl
+        turned false true r = refl
+        turned false false r = sym r
+
+  -- no beta yet, and all of them
+  pub none-yet : (squares fourths : List Float) → SoFar J us vs 0 squares squares fourths fourths
+  none-yet squares fourths = record {
+    sound = Search.start (λ i. unsound (J i) us vs);
+    squared = partly-none squares _ _ (zero-mul (length us));
+    fourthed = partly-none fourths _ _ (zero-mul (length us));
+  }
+
+  pub all-betas : (betas : ℕ) (squares₀ squares fourths₀ fourths : List Float) → length squares₀ ≡ betas * length us → length fourths₀ ≡ betas * length us
+      → SoFar J us vs betas squares₀ squares fourths₀ fourths
+      → (true ≡ not (some (λ i. unsound (J i) us vs) betas)) × AddedPowers (correlationAt J us vs) (betas * length us) squares₀ squares fourths₀ fourths
+  all-betas betas squares₀ squares fourths₀ fourths p q g =
+      (sym (ap not (g .sound)), record { squared = g .squared ∙ partly-all squares₀ _ _ (sym p); fourthed = g .fourthed ∙ partly-all fourths₀ _ _ (sym q) })

@@ -1,0 +1,4 @@
+-- Laws that the proofs share.
+mod Adding
+mod Betas
+mod Staging

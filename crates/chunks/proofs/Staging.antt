@@ -1,0 +1,53 @@
+-- One configuration at one beta: what the sweeps left and the pairs were told, of the job whose factors were laid.
+use mathlib.Core.Path.{_≡_, refl, sym, ap, _∙_, subst}
+use mathlib.Core.Bool.{Bool}
+use mathlib.Core.List.{List}
+use Prim.Native.Nat.{ℕ, _+_, _*_, _≤_, _<_}
+use native.Mathlib.Nat.{mul-le-mul-right}
+use native.Mathlib.Omega.{arith}
+use lib.Ieee.{Float, nan}
+use lib.ListN.{length, getD, drop, length-drop}
+use lib.Seq.{ext-getD, getD-drop}
+use Rattle.vector.specs.Part.{put, part, part-at, part-put, put-length}
+use Rattle.transfer.specs.Job.{Job}
+use Rattle.vertex.specs.Ready.{Ready, PlanOf, Swept}
+use Rattle.sweeps.specs.Kept.{SameFrom}
+use Rattle.answers.specs.Sound.{Outcome}
+use Rattle.chunks.specs.Stage.{Stage, Lent}
+
+-- a list laid at another's end is what lies there
+pub laid-last : (d x : List Float) (at : ℕ) → at + length x ≡ length d → drop at (put d at x) ≡ x
+laid-last d x at e =
+    let fits : at + length x ≤ length d = omega arith in
+    let l = put-length d at x fits in
+    ext-getD nan (drop at (put d at x)) x (length-drop at (put d at x) ∙ omega arith)
+    (λ i b.
+    let b′ : i < length x = omega (arith, length-drop at (put d at x)) in
+    getD-drop at (put d at x) i nan ∙ sym (part-at (put d at x) at (length x) i nan b′) ∙ ap (λ (y : List Float). getD y i nan) (part-put d at x fits))
+
+module _ (plan us vs : List ℕ) (x r r₁ r₂ results : List Float) (n w scales : ℕ) (each sound : Bool)
+    (laid : r₁ ≡ put r (scales + n) x) (ends : scales + n + length x ≡ length r) (same : SameFrom r₁ r₂ (scales + n))
+    (swept : (J : Job Float) → PlanOf J plan (drop (scales + n) r₁) n w each → Swept J plan r₂ n w scales)
+    (told : (J : Job Float) (each : Bool) → PlanOf J plan (drop (scales + n) r₂) n w each → Swept J plan r₂ n w scales → Outcome J us vs results sound) where
+  pub told-of : (J : Job Float) → PlanOf J plan x n w each → Outcome J us vs results sound
+  told-of J of =
+      let e : drop (scales + n) r₁ ≡ x = ap (drop (scales + n)) laid ∙ laid-last r x (scales + n) ends in
+      let of₁ : PlanOf J plan (drop (scales + n) r₁) n w each = rw e of in
+      told J each (rw (same .tail) of₁) (swept J of₁)
+
+-- lists that kept their lengths
+pub stage-keep : {plan us vs order : List ℕ} {m n w scales end results end′ results′ : ℕ} → Stage plan us vs order m n w scales end results
+    → end′ ≡ end → results′ ≡ results → Stage plan us vs order m n w scales end′ results′
+stage-keep g p q = rw (p, q) g
+
+-- the factors of the first betas
+pub lent-first : {lent m betas : ℕ} (b : ℕ) → Lent lent m betas → b < betas → Lent lent m (b + 1)
+lent-first {lent} {m} {betas} b g l =
+    let h : (b + 1) * m ≤ betas * m = mul-le-mul-right m (omega arith) in
+    let e = g .enough in
+    let f = g .few in
+    record { enough = omega arith; few = omega arith }
+
+-- beta b has its own part of the sums
+pub part-of : (b betas np : ℕ) → b < betas → b * np + np ≤ betas * np
+part-of b betas np l = let h : (b + 1) * np ≤ betas * np = mul-le-mul-right np (omega arith) in omega arith

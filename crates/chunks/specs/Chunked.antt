@@ -1,0 +1,69 @@
+-- Sums over chunks: the sums of each chunk, from zero, added chunk by chunk. U i j says of configuration j of chunk i whether one of its Z
+-- is not finite and above zero, c i j k is its correlation at k.
+use mathlib.Core.Path.{_≡_, refl, sym, ap, _∙_}
+use mathlib.Core.Bool.{Bool, true, false, not}
+use mathlib.Core.List.{List}
+use Prim.Native.Nat.{ℕ, _+_, _<_}
+use lib.Ieee.{Float, nan, binary64, add}
+use lib.ListN.{length, getD}
+use Rattle.vector.specs.Search as Search
+use Rattle.vector.specs.Search.{some, some-at}
+use Rattle.vector.specs.Tabulate.{tabulate, tabulate-at, tabulate-ext}
+use Rattle.transfer.specs.Arithmetic.{sum}
+use Rattle.transfer.specs.Rounded.{ieee}
+use Rattle.transfer.specs.Totals.{square, fourth}
+use Rattle.chunks.specs.Powers.{addedTo}
+use Rattle.chunks.specs.Sums.{sumsOf, sums-add, sums-none, Sums}
+
+-- Lists of n sums each: those of a chunk, and the totals.
+pub record Lists (n part-squares part-fourths squares fourths : ℕ) : Type 0 where
+  pub part-squared : part-squares ≡ n
+  pub part-fourthed : part-fourths ≡ n
+  pub squared : squares ≡ n
+  pub fourthed : fourths ≡ n
+
+-- The sum of a power over the `size` configurations of chunk i, at k.
+abbrev pub chunkSum : (Float → Float) → (ℕ → ℕ → ℕ → Float) → (size i k : ℕ) → Float
+chunkSum power c size i k = sum ieee size (λ j. power (c i j k))
+
+-- The first i chunks passed, and are added.
+pub record Chunked (U : ℕ → ℕ → Bool) (c : ℕ → ℕ → ℕ → Float) (size i n : ℕ) (squares fourths : List Float) : Type 0 where
+  pub none : some (λ k. some (U k) size) i ≡ false
+  pub squared : squares ≡ sumsOf (chunkSum (square ieee) c size) i n
+  pub fourthed : fourths ≡ sumsOf (chunkSum (fourth ieee) c size) i n
+
+module _ (U : ℕ → ℕ → Bool) (c : ℕ → ℕ → ℕ → Float) (size n : ℕ) where
+  pub chunked-none : (z : Float) (squares fourths : List Float) → z ≡ ieee .𝟘 → squares ≡ tabulate (λ _. z) n → fourths ≡ tabulate (λ _. z) n
+      → Chunked U c size 0 n squares fourths
+  chunked-none z squares fourths e p q =
+      record { none = Search.start _; squared = sums-none _ n z squares e p; fourthed = sums-none _ n z fourths e q }
+
+  -- a list of a chunk's sums, added
+  adds : (power : Float → Float) (i : ℕ) (part total : List Float) → part ≡ sumsOf (λ j k. power (c i j k)) size n
+      → addedTo total n (λ k. getD part k nan) ≡ addedTo total n (chunkSum power c size i)
+  adds power i part total p =
+      tabulate-ext _ _ n
+      (λ k b. ap (λ (x : Float). add binary64 (getD total k nan) x)
+      (ap (λ (y : List Float). getD y k nan) p ∙ tabulate-at (λ k. sum ieee size (λ j. power (c i j k))) n k nan b))
+
+  module _ (i : ℕ) (squares fourths : List Float) (g : Chunked U c size i n squares fourths) (r : Bool) (told : r ≡ not (some (U i) size)) where
+    pub chunked-more : (p q squares′ fourths′ : List Float) → r ≡ true → Sums (c i) size n p q
+        → squares′ ≡ addedTo squares n (λ k. getD p k nan) → fourths′ ≡ addedTo fourths n (λ k. getD q k nan) → Chunked U c size (i + 1) n squares′ fourths′
+    chunked-more p q squares′ fourths′ e s a b = record {
+      none = Search.miss (λ k. some (U k) size) i (g .none) (not r) (turned r _ told) (ap not e);
+      squared = a ∙ adds (square ieee) i p squares (s .squared) ∙ sums-add (chunkSum (square ieee) c size) i n squares (g .squared);
+      fourthed = b ∙ adds (fourth ieee) i q fourths (s .fourthed) ∙ sums-add (chunkSum (fourth ieee) c size) i n fourths (g .fourthed);
+    }
+      where
+        turned : (s u : Bool) → s ≡ not u → not s ≡ u
+        turned true true p = sym p
+        turned true false p = refl
+        turned false true p = refl
+        turned false false p = sym p
+
+    pub not-chunked : (chunks : ℕ) → i < chunks → r ≡ false → false ≡ not (some (λ k. some (U k) size) chunks)
+    not-chunked chunks l e = sym (ap not (some-at (λ k. some (U k) size) chunks i l (turned r _ told e)))
+      where
+        turned : (s u : Bool) → s ≡ not u → s ≡ false → u ≡ true
+        turned s true p q = refl
+        turned s false p q = sym q ∙ p

@@ -1,0 +1,33 @@
+-- What a loop over configurations needs of its lists: sums that begin at zero, lists that kept their lengths, and signs that were made.
+use mathlib.Core.Path.{_≡_, refl, sym, ap, _∙_, subst}
+use mathlib.Core.Bool.{Bool}
+use mathlib.Core.List.{List, _++_, append-nil}
+use Prim.Native.Nat.{ℕ, _+_, _≤_, _<_}
+use native.Mathlib.Omega.{arith}
+use lib.Ieee.{Float}
+use lib.ListN.{length, drop, drop-of-length-le}
+use Rattle.vector.specs.Part.{put}
+use Rattle.vector.specs.Tabulate.{tabulate, tabulate-length}
+use Rattle.transfer.specs.Job.{Job}
+use Rattle.chunks.specs.Signed.{PlanOfAll}
+use Rattle.chunks.specs.Stage.{Stage, Lent}
+
+-- a whole list filled
+pub put-all : (l s : List Float) → length s ≡ length l → put l 0 s ≡ s
+unfolding put
+put-all l s e = ap (λ (y : List Float). s ++ y) (drop-of-length-le l {i = 0 + length s} (omega arith)) ∙ append-nil s
+
+pub filled : (l v : List Float) (z : Float) (n k : ℕ) → n ≡ length l → n ≡ k → v ≡ put l 0 (tabulate (λ _. z) n) → v ≡ tabulate (λ _. z) k
+filled l v z n k e f p = p ∙ put-all l (tabulate (λ _. z) n) (tabulate-length (λ _. z) n ∙ e) ∙ ap (tabulate (λ _. z)) f
+
+pub stage-with : {plan us vs order : List ℕ} {m n w scales end results m′ end′ results′ : ℕ} → Stage plan us vs order m n w scales end results
+    → m′ ≡ m → end′ ≡ end → results′ ≡ results → Stage plan us vs order m′ n w scales end′ results′
+stage-with g o p q = rw (o, p, q) g
+
+pub lent-with : {lent m betas m′ : ℕ} → Lent lent m betas → m′ ≡ m → Lent lent m′ betas
+lent-with g o = rw o g
+
+-- the signs that were made are those of m edges that a rule gives
+pub signed-of : (J : ℕ → Job Float) (plan : List ℕ) (lent : List Float) (minus : ℕ → Bool) (signs : List Bool) (m betas n w : ℕ) (each : Bool)
+    → signs ≡ tabulate minus m → PlanOfAll J plan lent m (tabulate minus m) betas n w each → PlanOfAll J plan lent (length signs) signs betas n w each
+signed-of J plan lent minus signs m betas n w each q of = rw (q, tabulate-length) of

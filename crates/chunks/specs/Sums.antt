@@ -1,0 +1,75 @@
+-- The sums of squares and fourth powers over some configurations, for every beta and pair.
+use mathlib.Core.Path.{_≡_, refl, sym, ap, _∙_}
+use mathlib.Core.Bool.{Bool, true, false, not}
+use mathlib.Core.List.{List}
+use Prim.Native.Nat.{ℕ, zero, suc, _+_, _<_}
+use native.Mathlib.Numerals.{add-one}
+use lib.Ieee.{Float, nan, binary64, add}
+use lib.ListN.{length, getD}
+use Rattle.vector.specs.Search as Search
+use Rattle.vector.specs.Search.{some, some-at}
+use Rattle.vector.specs.Tabulate.{tabulate, tabulate-length, tabulate-at, tabulate-ext}
+use Rattle.transfer.specs.Arithmetic.{sum}
+use Rattle.transfer.specs.Rounded.{ieee}
+use Rattle.transfer.specs.Totals.{square, fourth}
+use Rattle.chunks.specs.Powers.{addedTo, AddedPowers}
+
+-- n sums of the first j terms that a rule gives, from zero.
+abbrev pub sumsOf : (ℕ → ℕ → Float) → (j n : ℕ) → List Float
+sumsOf term j n = tabulate (λ k. sum ieee j (λ i. term i k)) n
+
+-- The powers of the first j configurations' correlations, summed from zero.
+pub record Sums (c : ℕ → ℕ → Float) (j n : ℕ) (squares fourths : List Float) : Type 0 where
+  pub squared : squares ≡ sumsOf (λ i k. square ieee (c i k)) j n
+  pub fourthed : fourths ≡ sumsOf (λ i k. fourth ieee (c i k)) j n
+
+-- one term more
+pub sums-add : (term : ℕ → ℕ → Float) (j n : ℕ) (l : List Float) → l ≡ sumsOf term j n → addedTo l n (term j) ≡ sumsOf term (j + 1) n
+unfolding sum
+sums-add term j n l e =
+    tabulate-ext _ _ n
+    (λ k b. rw add-one
+    (ap (λ (x : Float). add binary64 x (term j k)) (ap (λ (y : List Float). getD y k nan) e ∙ tabulate-at (λ i. sum ieee j (λ i′. term i′ i)) n k nan b)))
+
+pub sums-more : (c : ℕ → ℕ → Float) (j n : ℕ) (squares squares′ fourths fourths′ : List Float) → Sums c j n squares fourths
+    → AddedPowers (c j) n squares squares′ fourths fourths′ → Sums c (j + 1) n squares′ fourths′
+sums-more c j n squares squares′ fourths fourths′ g a = record {
+  squared = a .squared ∙ sums-add (λ i k. square ieee (c i k)) j n squares (g .squared);
+  fourthed = a .fourthed ∙ sums-add (λ i k. fourth ieee (c i k)) j n fourths (g .fourthed);
+}
+
+-- none yet: a list of zeros
+pub sums-none : (term : ℕ → ℕ → Float) (n : ℕ) (z : Float) (l : List Float) → z ≡ ieee .𝟘 → l ≡ tabulate (λ _. z) n → l ≡ sumsOf term 0 n
+unfolding sum
+sums-none term n z l e p = p ∙ tabulate-ext _ _ n (λ k b. e)
+
+-- ---- a run through configurations: U says of each whether one of its Z is not finite and above zero
+
+-- The first j configurations passed, and are summed.
+pub record Passed (U : ℕ → Bool) (c : ℕ → ℕ → Float) (j n : ℕ) (squares fourths : List Float) : Type 0 where
+  pub none : some U j ≡ false
+  pub sums : Sums c j n squares fourths
+
+module _ (U : ℕ → Bool) (c : ℕ → ℕ → Float) (n : ℕ) where
+  pub passed-none : (z : Float) (squares fourths : List Float) → z ≡ ieee .𝟘 → squares ≡ tabulate (λ _. z) n → fourths ≡ tabulate (λ _. z) n
+      → Passed U c 0 n squares fourths
+  passed-none z squares fourths e p q =
+      record { none = Search.start U; sums = record { squared = sums-none _ n z squares e p; fourthed = sums-none _ n z fourths e q } }
+
+  module _ (j : ℕ) (squares fourths : List Float) (g : Passed U c j n squares fourths) (r : Bool) (told : r ≡ not (U j)) where
+    pub passed-more : (squares′ fourths′ : List Float) → r ≡ true → AddedPowers (c j) n squares squares′ fourths fourths′ → Passed U c (j + 1) n squares′ fourths′
+    passed-more squares′ fourths′ e a =
+        record { none = Search.miss U j (g .none) (not r) (turned r (U j) told) (ap not e); sums = sums-more c j n squares squares′ fourths fourths′ (g .sums) a }
+      where
+        turned : (s u : Bool) → s ≡ not u → not s ≡ u
+        turned true true p = sym p
+        turned true false p = refl
+        turned false true p = refl
+        turned false false p = sym p
+
+    pub not-passed : (size : ℕ) → j < size → r ≡ false → false ≡ not (some U size)
+    not-passed size l e = sym (ap not (some-at U size j l (turned r (U j) told e)))
+      where
+        turned : (s u : Bool) → s ≡ not u → s ≡ false → u ≡ true
+        turned s true p q = refl
+        turned s false p q = sym q ∙ p

@@ -1,0 +1,95 @@
+// One configuration: its correlations at every beta, and their powers.
+ghost use mathlib.Core.Path.{_≡_};
+ghost use mathlib.Core.Bool.{true, not};
+ghost use Prim.Native.Nat.{ℕ, _+_, _*_, _≤_};
+ghost use lib.Ieee.{Float};
+ghost use lib.ListN.{length};
+ghost use Rattle.vector.specs.Search.{some};
+ghost use Rattle.transfer.specs.Job.{Job};
+ghost use Rattle.vertex.specs.Ready.{PlanOf};
+ghost use Rattle.answers.specs.Sound.{unsound, Outcome};
+ghost use Rattle.chunks.specs.Signed.{signedFactors, PlanOfAll};
+ghost use Rattle.chunks.specs.Powers.{correlationAt, AddedPowers};
+ghost use Rattle.chunks.specs.Stage.{Stage, Lent};
+use crate::powers::add_powers;
+use crate::signed::lay_signed;
+use answers::answer_pairs;
+use sweeps::sweep;
+
+// The correlations at beta b, with these signs. Answers whether every pair's Z is finite and above zero.
+fn answer_signed(
+    room: &mut [f64],
+    plan: &[usize],
+    n: usize,
+    w: usize,
+    scales: usize,
+    each: bool,
+    us: &[usize],
+    vs: &[usize],
+    order: &[usize],
+    lent: &[f64],
+    b: usize,
+    signs: &[bool],
+    c: &mut [f64],
+) -> bool
+    requires { ⌜ Stage (now plan) (now us) (now vs) (now order) (length (now signs)) n w scales (length (now room)) (length (now c))
+        × Lent (length (now lent)) (length (now signs)) (b + 1) ⌝ }
+    ensures { λ r. ⌜ ((J : Job Float) → PlanOf J (now (plan .entry)) (signedFactors (now (lent .entry)) (length (now (signs .entry))) b (now (signs .entry))) n w each
+        → Outcome J (now (us .entry)) (now (vs .entry)) (now (c .exit)) r) ⌝ }
+{
+    lay_signed(room, scales + n, lent, b, signs);
+    sweep(room, plan, n, w, scales, each);
+    answer_pairs(room, plan, n, w, scales, us, vs, order, c)
+}
+
+// Adds the powers of a configuration's correlations, at the first `betas` betas, to a chunk's sums. Answers whether every Z was finite and
+// above zero; at the first that is not it stops.
+pub fn add_configuration(
+    room: &mut [f64],
+    plan: &[usize],
+    n: usize,
+    w: usize,
+    scales: usize,
+    each: bool,
+    us: &[usize],
+    vs: &[usize],
+    order: &[usize],
+    lent: &[f64],
+    betas: usize,
+    signs: &[bool],
+    c: &mut [f64],
+    squares: &mut [f64],
+    fourths: &mut [f64],
+) -> bool
+    requires { ⌜ Stage (now plan) (now us) (now vs) (now order) (length (now signs)) n w scales (length (now room)) (length (now c))
+        × Lent (length (now lent)) (length (now signs)) betas
+        × (length (now squares) ≡ betas * length (now us)) × (length (now fourths) ≡ betas * length (now us)) ⌝ }
+    ensures { λ r. ⌜ ((J : ℕ → Job Float) → PlanOfAll J (now (plan .entry)) (now (lent .entry)) (length (now (signs .entry))) (now (signs .entry)) betas n w each
+        → (r ≡ not (some (λ b. unsound (J b) (now (us .entry)) (now (vs .entry))) betas))
+        × (r ≡ true → AddedPowers (correlationAt J (now (us .entry)) (now (vs .entry))) (betas * length (now (us .entry)))
+        (now (squares .entry)) (now (squares .exit)) (now (fourths .entry)) (now (fourths .exit)))) ⌝ }
+{
+    let mut b = 0usize;
+    while b < betas {
+        if !answer_signed(
+            room,
+            plan,
+            n,
+            w,
+            scales,
+            each,
+            us,
+            vs,
+            order,
+            lent,
+            b,
+            signs,
+            c,
+        ) {
+            return false;
+        }
+        add_powers(squares, fourths, b * us.len(), c);
+        b += 1;
+    }
+    true
+}

@@ -1,0 +1,7 @@
+// The sums of a chunk: squares and fourth powers of the correlations of its configurations, for every beta and pair.
+mod configuration;
+mod powers;
+mod signed;
+
+pub use configuration::add_configuration;
+pub use powers::add_sums;

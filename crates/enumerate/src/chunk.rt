@@ -1,0 +1,76 @@
+// One chunk of configurations.
+ghost use mathlib.Core.Path.{_≡_};
+ghost use mathlib.Core.Bool.{true, not};
+ghost use Prim.Native.Nat.{ℕ, _+_, _*_, _≤_};
+ghost use lib.Ieee.{Float};
+ghost use lib.ListN.{length};
+ghost use Rattle.vector.specs.Search.{some};
+ghost use Rattle.transfer.specs.Job.{Job};
+ghost use Rattle.answers.specs.Sound.{unsound};
+ghost use Rattle.chunks.specs.Powers.{correlationAt};
+ghost use Rattle.chunks.specs.Stage.{Stage, Lent};
+ghost use Rattle.chunks.specs.Sums.{Sums};
+ghost use Rattle.enumerate.specs.Configurations.{Enumerates, PlanOfEach};
+use chunks::add_configuration;
+use signs::enumerated_signs;
+use sweep::fill;
+
+// The sums of `size` configurations from number `first` on, from zero. Answers whether every Z was finite and above zero; at the first
+// that is not it stops.
+pub fn enumerated_chunk(
+    room: &mut [f64],
+    plan: &[usize],
+    n: usize,
+    w: usize,
+    scales: usize,
+    each: bool,
+    us: &[usize],
+    vs: &[usize],
+    order: &[usize],
+    lent: &[f64],
+    betas: usize,
+    tree: &[bool],
+    signs: &mut [bool],
+    first: usize,
+    size: usize,
+    c: &mut [f64],
+    squares: &mut [f64],
+    fourths: &mut [f64],
+) -> bool
+    requires { ⌜ Stage (now plan) (now us) (now vs) (now order) (length (now tree)) n w scales (length (now room)) (length (now c))
+        × Lent (length (now lent)) (length (now tree)) betas × Enumerates (now tree) (length (now signs)) first size
+        × (length (now squares) ≡ betas * length (now us)) × (length (now fourths) ≡ betas * length (now us)) ⌝ }
+    ensures { λ r. ⌜ ((J : ℕ → ℕ → Job Float) → PlanOfEach J (now (plan .entry)) (now (lent .entry)) (now (tree .entry)) betas n w each
+        → (r ≡ not (some (λ j. some (λ b. unsound (J (first + j) b) (now (us .entry)) (now (vs .entry))) betas) size))
+        × (r ≡ true → Sums (λ j. correlationAt (J (first + j)) (now (us .entry)) (now (vs .entry))) size (betas * length (now (us .entry)))
+        (now (squares .exit)) (now (fourths .exit)))) ⌝ }
+{
+    let sums = squares.len();
+    fill(squares, 0, sums, 0.0);
+    fill(fourths, 0, sums, 0.0);
+    let mut j = 0usize;
+    while j < size {
+        enumerated_signs(signs, tree, first + j);
+        if !add_configuration(
+            room,
+            plan,
+            n,
+            w,
+            scales,
+            each,
+            us,
+            vs,
+            order,
+            lent,
+            betas,
+            signs,
+            c,
+            squares,
+            fourths,
+        ) {
+            return false;
+        }
+        j += 1;
+    }
+    true
+}

@@ -1,0 +1,40 @@
+-- The signs of samples, and which jobs a sampling is of.
+use mathlib.Core.Path.{_≡_}
+use mathlib.Core.Bool.{Bool}
+use mathlib.Core.List.{List}
+use Prim.Native.Nat.{ℕ, _*_, _≤_}
+use lib.Ieee.{Float}
+use lib.ListN.{length}
+use Rattle.rng.specs.Xoshiro.{streamed}
+use Rattle.vector.specs.Search.{some}
+use Rattle.vector.specs.Tabulate.{tabulate}
+use Rattle.transfer.specs.Job.{Job}
+use Rattle.transfer.specs.Configuration.{sampledMinus, drawn, wordsPerSample}
+use Rattle.answers.specs.Sound.{unsound}
+use Rattle.chunks.specs.Signed.{PlanOfAll}
+use Rattle.chunks.specs.Powers.{correlationAt}
+use Rattle.chunks.specs.Sums.{Passed}
+
+-- The signs of a chunk's sample, of m edges.
+abbrev pub signsOf : (seed m chunk sample : ℕ) → List Bool
+signsOf seed m chunk sample = tabulate (sampledMinus seed m chunk sample) m
+
+-- The plan is of each sample's job at each beta, in one chunk, and in all of them.
+abbrev pub PlanOfSamples : (ℕ → ℕ → Job Float) → List ℕ → List Float → (m seed chunk betas n w : ℕ) → Bool → Type 0
+PlanOfSamples J plan lent m seed chunk betas n w each = (j : ℕ) → PlanOfAll (J j) plan lent m (signsOf seed m chunk j) betas n w each
+
+abbrev pub PlanOfChunks : (ℕ → ℕ → ℕ → Job Float) → List ℕ → List Float → (m seed betas n w : ℕ) → Bool → Type 0
+PlanOfChunks J plan lent m seed betas n w each = (i : ℕ) → PlanOfSamples (J i) plan lent m seed i betas n w each
+
+-- Before sample j of a chunk: its words begin where the generator stands.
+pub record Sampling (plan us vs : List ℕ) (lent : List Float) (seed chunk betas n w : ℕ) (each : Bool) (state : List ℕ) (j samples : ℕ)
+    (room₀ room : List Float) (signs₀ signs : List Bool) (c₀ c squares₀ squares fourths₀ fourths : List Float) : Type 0 where
+  pub below : j ≤ samples
+  pub generator : state ≡ drawn (streamed seed chunk) (j * wordsPerSample (length signs₀))
+  pub rooms : length room ≡ length room₀
+  pub marks : length signs ≡ length signs₀
+  pub results : length c ≡ length c₀
+  pub squareds : length squares ≡ length squares₀
+  pub fourthds : length fourths ≡ length fourths₀
+  pub passed : (J : ℕ → ℕ → Job Float) → PlanOfSamples J plan lent (length signs₀) seed chunk betas n w each
+      → Passed (λ i. some (λ b. unsound (J i b) us vs) betas) (λ i. correlationAt (J i) us vs) j (betas * length us) squares fourths

@@ -1,0 +1,4 @@
+-- Laws that the proofs share.
+mod Bits
+mod Filling
+mod Sampling

@@ -1,0 +1,21 @@
+use mathlib.Core.Path.{refl}
+use borrow.Author.Needs.{needs}
+use Rattle.signs.proofs.numbered.is_minus.Statement.{statement}
+use Rattle.signs.proofs.numbered.is_minus.Tie as tie
+use Rattle.signs.proofs.numbered.is_minus.Reads as reads
+use Rattle.signs.proofs.numbered.is_minus.Lts as lts
+
+-- src/numbered.rt:16:9
+returns : tie.Need-returns
+returns c = search needs
+
+-- src/numbered.rt:18:6
+shr-result : tie.Need-shr-result
+shr-result c = search needs
+
+-- src/numbered.rt:11:1
+returns-2 : tie.Need-returns-2
+returns-2 c = rw (c .if1 .left)
+
+pub is-minus-spec : {M : Type 1} → statement M
+is-minus-spec = tie.close (tie.spec returns shr-result returns-2)
