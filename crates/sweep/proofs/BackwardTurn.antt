@@ -1,10 +1,13 @@
 -- What the loops of a backward step know on their way, and that the step is the definition's.
 use mathlib.Core.Path.{_≡_, refl, sym, ap, _∙_}
 use mathlib.Core.List.{List}
+use mathlib.Core.Logic.{dite}
 use Prim.Native.Nat.{ℕ, _+_, _*_, _-_, _%_, _^_, _≤_, _<_}
 use native.Mathlib.Nat.{add-mod-left, mod-eq-of-lt}
+use native.Mathlib.Decide.{decLt}
 use native.Mathlib.Omega.{arith}
 use lib.ListN.{length, getD, set}
+use lib.Seq.{set-comm}
 use lib.Ieee.{Float, nan}
 use borrow.Author.Tests.{lt-ltb, le-ltb}
 use Rattle.vector.specs.Power.{pow-double}
@@ -48,14 +51,14 @@ module _ (x y p₀ q₀ p₁ q₁ : Float) (s lo hi n : ℕ) (d v : List Float) 
       rw (k0, k1, e) (both-one d lo hi lower upper i _ _ (omega arith) (omega (arith, fh .to)) (rw (t, u)) (rw (t, u)))
 
   -- two pairs, at an even i
-  pub two-turn : v ≡ filled i → i + 1 < n → i % 2 ≡ 0
+  in-turn : v ≡ filled i → i + 1 < n → i % 2 ≡ 0
       → set (set (set (set v
       (lo + i) (mix x y p₀ q₀ (getD v (s + 2 * i) nan) (getD v (s + (2 * i + 1)) nan)))
       (hi + i) (mix y x p₀ q₀ (getD v (s + 2 * i) nan) (getD v (s + (2 * i + 1)) nan)))
       (lo + (i + 1)) (mix x y p₁ q₁ (getD v (s + (2 * i + 2)) nan) (getD v (s + (2 * i + 3)) nan)))
       (hi + (i + 1)) (mix y x p₁ q₁ (getD v (s + (2 * i + 2)) nan) (getD v (s + (2 * i + 3)) nan)) ≡ filled (i + 2)
   unfolding backwardRule
-  two-turn e h ev =
+  in-turn e h ev =
       let k0 = kept e (omega arith) (2 * i) (omega arith) in
       let k1 = kept e (omega arith) (2 * i + 1) (omega arith) in
       let k2 = kept e (omega arith) (2 * i + 2) (omega arith) in
@@ -74,6 +77,27 @@ module _ (x y p₀ q₀ p₁ q₁ : Float) (s lo hi n : ℕ) (d v : List Float) 
       let e3 : mix y x p₁ q₁ (getD v (s + (2 * i + 2)) nan) (getD v (s + (2 * i + 3)) nan) ≡ upper (i + 1) = rw (k2, k3, g2, g3, c, f) in
       rw (e0, e1, e2, e3, e, both-one d lo hi lower upper i (lower i) (upper i) (omega arith) (omega (arith, fh .to)) refl refl, g4)
       (both-one d lo hi lower upper (i + 1) (lower (i + 1)) (upper (i + 1)) (omega arith) (omega (arith, fh .to)) refl refl)
+
+  -- the same, the stores of each half one after the other
+  pub two-turn : v ≡ filled i → i + 1 < n → i % 2 ≡ 0
+      → set (set (set (set v
+      (lo + i) (mix x y p₀ q₀ (getD v (s + 2 * i) nan) (getD v (s + 2 * i + 1) nan)))
+      (lo + i + 1) (mix x y p₁ q₁ (getD v (s + 2 * i + 2) nan) (getD v (s + 2 * i + 3) nan)))
+      (hi + i) (mix y x p₀ q₀ (getD v (s + 2 * i) nan) (getD v (s + 2 * i + 1) nan)))
+      (hi + i + 1) (mix y x p₁ q₁ (getD v (s + 2 * i + 2) nan) (getD v (s + 2 * i + 3) nan)) ≡ filled (i + 2)
+  two-turn e h ev =
+      let f1 : s + 2 * i + 1 ≡ s + (2 * i + 1) = omega arith in
+      let f2 : s + 2 * i + 2 ≡ s + (2 * i + 2) = omega arith in
+      let f3 : s + 2 * i + 3 ≡ s + (2 * i + 3) = omega arith in
+      let l1 : lo + i + 1 ≡ lo + (i + 1) = omega arith in
+      let h1 : hi + i + 1 ≡ hi + (i + 1) = omega arith in
+      let ne : lo + (i + 1) ≡ hi + i → ⊥ = λ z. omega arith in
+      rw (f1, f2, f3, l1, h1)
+      (let A = mix x y p₀ q₀ (getD v (s + 2 * i) nan) (getD v (s + (2 * i + 1)) nan) in
+      let B = mix y x p₀ q₀ (getD v (s + 2 * i) nan) (getD v (s + (2 * i + 1)) nan) in
+      let C = mix x y p₁ q₁ (getD v (s + (2 * i + 2)) nan) (getD v (s + (2 * i + 3)) nan) in
+      let D = mix y x p₁ q₁ (getD v (s + (2 * i + 2)) nan) (getD v (s + (2 * i + 3)) nan) in
+      ap (λ (l : List Float). set l (hi + (i + 1)) D) (set-comm (set v (lo + i) A) (lo + (i + 1)) (hi + i) C B ne) ∙ in-turn e h ev)
 
 -- a block's run reads apart from what it writes
 pub piece-apart : {l : List ℕ} {n low e h half size k : ℕ} → AtBlock l n low e h half size k → (len src dst : ℕ)
@@ -166,3 +190,7 @@ module _ (s : Step Float) (sc : Float) (t : Tables) (a : Tabled s sc t) (w : ℕ
       let f : ℕ → Float = S.backwardAt ieee w s sc (before w d src) in
       both-together d dst (dst + half) (made (t .ep) (t .em)) (made (t .em) (t .ep)) f half refl (omega arith) low-entry high-entry
       ∙ ap (λ (n : ℕ). put d dst (tabulate f n)) (sym z)
+
+-- a block of an odd number of pairs has one pattern
+pub odd-block : {P : Type 0} (low n : ℕ) → ((low ≡ 0 → ⊥) → n % 2 ≡ 0) → (low ≡ 0 → P) → n % 2 ≡ 1 → P
+odd-block low n two one odd = dite (decLt 0 low) (λ l. absurd (omega (arith, two (λ z. omega arith)))) (λ l. one (omega arith))

@@ -28,9 +28,9 @@ module _ (x y p₀ q₀ p₁ q₁ : Float) (a b o n : ℕ) (d v : List Float) wh
       → v ≡ put d o (tabulate rule (2 * i)) → i + 1 < n → i % 2 ≡ 0
       → set (set (set (set v
       (o + 2 * i) (blend x y p₀ (getD v (a + i) nan) (getD v (b + i) nan)))
-      (o + (2 * i + 1)) (blend y x q₀ (getD v (a + i) nan) (getD v (b + i) nan)))
-      (o + (2 * i + 2)) (blend x y p₁ (getD v (a + (i + 1)) nan) (getD v (b + (i + 1)) nan)))
-      (o + (2 * i + 3)) (blend y x q₁ (getD v (a + (i + 1)) nan) (getD v (b + (i + 1)) nan))
+      (o + 2 * i + 1) (blend y x q₀ (getD v (a + i) nan) (getD v (b + i) nan)))
+      (o + 2 * i + 2) (blend x y p₁ (getD v (a + i + 1) nan) (getD v (b + i + 1) nan)))
+      (o + 2 * i + 3) (blend y x q₁ (getD v (a + i + 1) nan) (getD v (b + i + 1) nan))
       ≡ put d o (tabulate rule (2 * (i + 2)))
   run-turn i fa fb e h ev =
       let at-a : (j : ℕ) → j < n → getD v (a + j) nan ≡ getD d (a + j) nan =
@@ -48,7 +48,12 @@ module _ (x y p₀ q₀ p₁ q₁ : Float) (a b o n : ℕ) (d v : List Float) wh
       rw (at-a (i + 1) h, at-b (i + 1) h, rule-odd x y _ _ _ _ (2 * i + 2 + 1) (i + 1) (omega arith), turn-odd q₀ q₁ (i + 1) o′) in
       let g : 2 * i + 3 ≡ 2 * i + 2 + 1 = omega arith in
       let g′ : 2 * (i + 2) ≡ 2 * i + 2 + 2 = omega arith in
-      rw (e0, e1, e2, e3, e, fill-two d o rule (2 * i) _ _ (omega (arith, fa .to)) refl refl, g, g′)
+      let f1 : o + 2 * i + 1 ≡ o + (2 * i + 1) = omega arith in
+      let f2 : o + 2 * i + 2 ≡ o + (2 * i + 2) = omega arith in
+      let f3 : o + 2 * i + 3 ≡ o + (2 * i + 3) = omega arith in
+      let fa1 : a + i + 1 ≡ a + (i + 1) = omega arith in
+      let fb1 : b + i + 1 ≡ b + (i + 1) = omega arith in
+      rw (f1, f2, f3, fa1, fb1, e0, e1, e2, e3, e, fill-two d o rule (2 * i) _ _ (omega (arith, fa .to)) refl refl, g, g′)
       (fill-two d o rule (2 * i + 2) _ _ (omega (arith, fa .to)) refl refl)
 
 -- the only pair of a step with window 1

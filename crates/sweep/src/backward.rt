@@ -43,7 +43,7 @@ fn backward_one(
     }
 }
 
-// A run of two patterns in turn, two pairs a turn.
+// A run of two patterns in turn, two pairs a turn. Neighbours are stored one after the other, so that their stores are one.
 fn backward_run(
     v: &mut [f64],
     s: usize,
@@ -65,18 +65,18 @@ fn backward_run(
     let mut i = 0usize;
     while i < n {
         let s0 = v[s + 2 * i] * p0;
-        let t0 = v[s + (2 * i + 1)] * q0;
-        let s1 = v[s + (2 * i + 2)] * p1;
-        let t1 = v[s + (2 * i + 3)] * q1;
+        let t0 = v[s + 2 * i + 1] * q0;
+        let s1 = v[s + 2 * i + 2] * p1;
+        let t1 = v[s + 2 * i + 3] * q1;
         v[lo + i] = x * s0 + y * t0;
+        v[lo + i + 1] = x * s1 + y * t1;
         v[hi + i] = y * s0 + x * t0;
-        v[lo + (i + 1)] = x * s1 + y * t1;
-        v[hi + (i + 1)] = y * s1 + x * t1;
+        v[hi + i + 1] = y * s1 + x * t1;
         i += 2;
     }
 }
 
-// A run, by the loop that is quicker: where low is 0 the two patterns are one.
+// A run: two pairs a turn where they are even in number, which they are but for window 1.
 fn backward_piece(
     v: &mut [f64],
     s: usize,
@@ -85,19 +85,18 @@ fn backward_piece(
     n: usize,
     x: f64,
     y: f64,
-    low: usize,
     p0: f64,
     q0: f64,
     p1: f64,
     q1: f64,
 )
     requires { ⌜ (lo + n ≤ hi) × Apart (length (now v)) s (2 * n) lo n × Apart (length (now v)) s (2 * n) hi n ⌝ }
-    requires { ⌜ (low ≡ 0 → (p1 ≡ p0) × (q1 ≡ q0)) × ((low ≡ 0 → ⊥) → n % 2 ≡ 0) ⌝ }
+    requires { ⌜ (n % 2 ≡ 1 → (p1 ≡ p0) × (q1 ≡ q0)) ⌝ }
     ensures { λ _. ⌜ now (v .exit) ≡ both (now (v .entry)) lo hi
         (backwardRule x y (inTurn p0 p1) (inTurn q0 q1) (entries (now (v .entry)) s))
         (backwardRule y x (inTurn p0 p1) (inTurn q0 q1) (entries (now (v .entry)) s)) n ⌝ }
 {
-    if low == 0 {
+    if n % 2 == 1 {
         backward_one(v, s, lo, hi, n, x, y, p0, q0);
     } else {
         backward_run(v, s, lo, hi, n, x, y, p0, q0, p1, q1);
@@ -145,7 +144,6 @@ fn backward_blocks(
             size,
             ep,
             em,
-            low,
             p0,
             q0,
             p1,

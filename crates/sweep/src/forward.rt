@@ -52,12 +52,12 @@ fn forward_run(
     while i < n {
         let a0 = v[a + i];
         let b0 = v[b + i];
-        let a1 = v[a + (i + 1)];
-        let b1 = v[b + (i + 1)];
+        let a1 = v[a + i + 1];
+        let b1 = v[b + i + 1];
         v[o + 2 * i] = (x * a0 + y * b0) * p0;
-        v[o + (2 * i + 1)] = (y * a0 + x * b0) * q0;
-        v[o + (2 * i + 2)] = (x * a1 + y * b1) * p1;
-        v[o + (2 * i + 3)] = (y * a1 + x * b1) * q1;
+        v[o + 2 * i + 1] = (y * a0 + x * b0) * q0;
+        v[o + 2 * i + 2] = (x * a1 + y * b1) * p1;
+        v[o + 2 * i + 3] = (y * a1 + x * b1) * q1;
         i += 2;
     }
 }

@@ -6,7 +6,7 @@ use native.Mathlib.Omega.{arith}
 use lib.ListN.{length}
 use Rattle.vector.specs.Part.{Apart, both, both-none}
 use Rattle.sweep.specs.Rule.{entries, weights, backwardRule}
-use Rattle.sweep.proofs.BackwardTurn.{piece-apart, piece-turn}
+use Rattle.sweep.proofs.BackwardTurn.{odd-block, piece-apart, piece-turn}
 use Rattle.sweep.proofs.Patterns.{Blocks, AtBlock, blocks-of, first-block, next-block, block-size, block-two, block-ends, block-16}
 use Rattle.sweep.proofs.backward.backward_blocks.Statement.{statement}
 use Rattle.sweep.proofs.backward.backward_blocks.Tie as tie
@@ -97,7 +97,7 @@ backward-piece-requires c κs =
     let turn = c .before .before .before .before .before .before in
     let i = turn .before .loop .inv in
     let f = piece-apart (i .2) _ _ _ (i .1) (turn .loop-test .taken) in
-    ((f .0, rw (i .0) (f .1), rw (i .0) (f .2)), ((λ z. (rw (z, add-zero), rw (z, add-zero))), block-two (i .2)))
+    ((f .0, rw (i .0) (f .1), rw (i .0) (f .2)), odd-block _ _ (block-two (i .2)) (λ z. (rw (z, add-zero), rw (z, add-zero))))
 
 add-k : tie.Need-add-k Inv-loop μ-loop
 add-k c =

@@ -1,3 +1,6 @@
+use Prim.Native.Nat.{_%_}
+use mathlib.Core.Path.{_≡_}
+use native.Mathlib.Omega.{arith}
 -- Where the two patterns are one, a run of one is a run of two in turn.
 use borrow.Author.Needs.{needs}
 use Rattle.sweep.proofs.backward.backward_piece.Statement.{statement}
@@ -7,7 +10,7 @@ backward-one-requires : tie.Need-backward-one-requires
 backward-one-requires c κs = search needs
 
 backward-run-requires : tie.Need-backward-run-requires
-backward-run-requires c κs = let p = c .before .before .before .pre in (p .1 .1 (c .before .if1 .left), p .0 .0, p .0 .1, p .0 .2)
+backward-run-requires c κs = let p = c .before .before .before .pre in let e : c .before .before .before .args .n % 2 ≡ 0 = omega arith in (e, p .0 .0, p .0 .1, p .0 .2)
 
 same-length : tie.Need-same-length
 same-length c = search needs
@@ -15,7 +18,7 @@ same-length c = search needs
 returns : tie.Need-returns
 returns c =
     let test = c .before .before .before .before in
-    let z = test .before .before .pre .1 .0 (test .if1 .taken) in
+    let z = test .before .before .pre .1 (omega arith) in
     rw (z .0, z .1) (c .before .before .backward-one .ensures)
 
 same-length-2 : tie.Need-same-length-2

@@ -1,4 +1,3 @@
--- The first i entries of both halves are filled; a turn fills two more of each.
 use mathlib.Core.Path.{_≡_, refl}
 use Prim.Native.Nat.{_+_, _-_, _%_, _≤_, _<_}
 use native.Mathlib.Omega.{arith}
@@ -8,6 +7,8 @@ use Rattle.sweep.specs.Rule.{entries, inTurn, mix, backwardRule}
 use Rattle.sweep.proofs.BackwardTurn.{two-turn}
 use Rattle.sweep.proofs.backward.backward_run.Statement.{statement}
 use Rattle.sweep.proofs.backward.backward_run.Tie as tie
+
+-- The first i entries of both halves are filled; a turn fills two more of each.
 
 abbrev Inv-loop : tie.InvT-loop
 Inv-loop v₀ s lo hi n x y p0 q0 p1 q1 i₀ v i =
@@ -94,14 +95,14 @@ slice-write-v c = omega arith
 add-v-2 : tie.Need-add-v-2 Inv-loop μ-loop
 add-v-2 c = omega arith
 
+add-v-3 : tie.Need-add-v-3 Inv-loop μ-loop
+add-v-3 c = omega arith
+
 mul-v-2 : tie.Need-mul-v-2 Inv-loop μ-loop
 mul-v-2 c = omega arith
 
 slice-write-v-2 : tie.Need-slice-write-v-2 Inv-loop μ-loop
-slice-write-v-2 c = simp length-set (omega arith)
-
-add-v-3 : tie.Need-add-v-3 Inv-loop μ-loop
-add-v-3 c = omega arith
+slice-write-v-2 c = simp length-set (omega (arith, next (c .before .before .before .before)))
 
 add-v-4 : tie.Need-add-v-4 Inv-loop μ-loop
 add-v-4 c = omega arith
@@ -110,7 +111,7 @@ mul-v-3 : tie.Need-mul-v-3 Inv-loop μ-loop
 mul-v-3 c = omega arith
 
 slice-write-v-3 : tie.Need-slice-write-v-3 Inv-loop μ-loop
-slice-write-v-3 c = simp length-set (omega arith)
+slice-write-v-3 c = simp length-set (omega (arith, next (c .before .before .before .before)))
 
 add-v-5 : tie.Need-add-v-5 Inv-loop μ-loop
 add-v-5 c = omega arith
@@ -178,9 +179,9 @@ backward-run-spec =
     mul-v
     slice-write-v
     add-v-2
+    add-v-3
     mul-v-2
     slice-write-v-2
-    add-v-3
     add-v-4
     mul-v-3
     slice-write-v-3

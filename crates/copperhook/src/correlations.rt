@@ -1,0 +1,48 @@
+// The pair correlations of one configuration, with the manner as a number.
+ghost use mathlib.Core.Path.{_≡_};
+ghost use Rattle.glass.specs.Correlations.{Correlated};
+ghost use Rattle.copperhook.specs.Manners.{mannerNumbered};
+use glass::Manner;
+
+// 0 is per element and any other number block, so that no number is a bad manner.
+fn manner_numbered(number: usize) -> Manner
+    ensures { λ r. ⌜ r ≡ mannerNumbered number ⌝ }
+{
+    if number == 0 {
+        return Manner::PerElement;
+    }
+    Manner::Block
+}
+
+// As `glass::correlations`.
+#[no_mangle]
+pub extern "C" fn copperhook_correlations(
+    n: usize,
+    floor: usize,
+    a: &[usize],
+    b: &[usize],
+    m: &[f64],
+    us: &[usize],
+    vs: &[usize],
+    factors: &[f64],
+    manner: usize,
+    results: &mut [f64],
+    work: &mut [f64],
+) -> usize
+    ensures { λ r. ⌜ Correlated n floor (now (a .entry)) (now (b .entry)) (now (m .entry)) (now (us .entry)) (now (vs .entry))
+        (now (factors .entry)) (mannerNumbered manner) r (now (results .entry)) (now (results .exit)) (now (work .entry)) (now (work .exit)) ⌝ }
+{
+    glass::correlations(
+        n,
+        floor,
+        a,
+        b,
+        m,
+        us,
+        vs,
+        factors,
+        manner_numbered(manner),
+        results,
+        work,
+    )
+}

@@ -1,0 +1,37 @@
+// The work memory that a caller is to lend, through a reference.
+ghost use mathlib.Core.Path.{_≡_};
+ghost use lib.ListN.{length};
+ghost use Rattle.transfer.specs.Room.{room as roomOf};
+ghost use Rattle.checks.specs.Edges.{kept, windowFrom};
+ghost use Rattle.checks.specs.Request.{roomRequest};
+ghost use Rattle.checks.specs.Refusal.{refusal, ofRoom};
+ghost use Rattle.checks.specs.Answers.{left};
+use checks::Answer;
+
+// As `refuse::room`, the number of doubles in `room`; where the call is refused, that keeps what it held.
+#[no_mangle]
+pub extern "C" fn copperhook_room(
+    n: usize,
+    floor: usize,
+    a: &[usize],
+    b: &[usize],
+    m: &[f64],
+    us: &[usize],
+    vs: &[usize],
+    room: &mut usize,
+) -> usize
+    ensures { λ r. ⌜ r ≡ refusal ofRoom (roomRequest n floor (now (a .entry)) (now (b .entry)) (now (m .entry)) (now (us .entry)) (now (vs .entry))) ⌝ }
+    ensures { λ r. ⌜ now (room .exit) ≡ left r
+        (roomOf n (windowFrom floor (now (a .entry)) (now (b .entry)) (now (m .entry)))
+        (length (kept (now (a .entry)) (now (b .entry)) (now (m .entry)))) (now (us .entry)) (now (vs .entry)))
+        (now (room .entry)) ⌝ }
+{
+    let answer = refuse::room(n, floor, a, b, m, us, vs);
+    match answer {
+        Answer::Number(doubles) => {
+            *room = doubles;
+            0
+        }
+        Answer::Refused(number) => number,
+    }
+}

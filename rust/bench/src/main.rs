@@ -1,0 +1,316 @@
+//! Copperhook's time beside the original's: the same jobs, in one run, both built for release.
+//!
+//!     rust/bench/run [--quick | --width N]
+//!
+//! proves what is needed, builds the archive and runs this. `--quick` stops at width 10; `--width N` measures one width alone, from 1 to 24,
+//! and tells how much memory a job's room is.
+//!
+//! The original's plan and work memory are made once, outside the timed loop, as its callers do. Ours checks and plans in every call and
+//! clears its room. The original takes the exponentials of the couplings inside, ours is lent factors: the last column adds to ours the time
+//! of these exponentials. Each job's bits are compared first. A time is the least of several rounds, in which the sides take turns.
+mod clock;
+mod ours;
+
+use clock::{least_times, Rounds};
+use oracle::glass::{correlations, Plan};
+use oracle::lattice::{Graph, Kind, Strip};
+use oracle::rng::Rng;
+use ours::Lists;
+use std::hint::black_box;
+use std::ops::RangeInclusive;
+
+const KINDS: [Kind; 3] = [Kind::Square, Kind::Tri, Kind::Honey];
+
+/// How often a sweep is rescaled, as the original's FDK_SLOW and as our number.
+#[derive(Clone, Copy)]
+struct Manner {
+    name: &'static str,
+    slow: &'static str,
+    number: usize,
+}
+
+const BLOCK: Manner = Manner { name: "block", slow: "0", number: 1 };
+const EACH: Manner = Manner { name: "each", slow: "1", number: 0 };
+const MANNERS: [Manner; 2] = [BLOCK, EACH];
+
+/// About how many entries a sweep steps over: a call then takes up to some hundred milliseconds.
+const ENTRIES: usize = 40_000_000;
+
+/// The strip of this width with as many columns as give these entries, three at least, and 1,024 vertices at most.
+fn strip_of(kind: Kind, w: usize, periodic: bool) -> Option<Strip> {
+    if kind == Kind::Honey && periodic && w % 2 != 0 {
+        return None;
+    }
+    let window = if kind == Kind::Tri && periodic { w + 1 } else { w };
+    if window > 24 {
+        return None;
+    }
+    let l = (ENTRIES / (w << window)).clamp(3, 1024 / w);
+    Some(Strip { kind, w, l, periodic })
+}
+
+/// A strip with its standard pairs and couplings of either sign, as each side takes it.
+struct Job {
+    strip: Strip,
+    raw: Vec<(usize, usize, f64)>,
+    graph: Graph,
+    pairs: Vec<(usize, usize)>,
+    lists: Lists,
+    couplings: Vec<f64>,
+    factors: Vec<f64>,
+}
+
+impl Job {
+    fn new(strip: Strip) -> Job {
+        let raw = strip.raw_edges();
+        let graph = Graph::new(strip.n(), &raw);
+        let pairs: Vec<(usize, usize)> = strip.pairs().iter().map(|p| (p.1, p.2)).collect();
+        let lists = Lists::new(strip.n(), &raw, &pairs);
+        let mut rng = Rng::new(7);
+        let couplings: Vec<f64> = graph
+            .mag
+            .iter()
+            .map(|m| {
+                let size = m * (0.25 + 0.5 * rng.uniform());
+                let minus = rng.next_u64() % 2 != 0;
+                if minus {
+                    -size
+                } else {
+                    size
+                }
+            })
+            .collect();
+        let factors = couplings.iter().map(|x| x.exp()).collect();
+        Job { strip, raw, graph, pairs, lists, couplings, factors }
+    }
+
+    /// The original's plan, which reads its manner from the environment.
+    fn plan(&self, manner: Manner) -> Plan {
+        std::env::set_var("FDK_SLOW", manner.slow);
+        Plan::new(&self.graph, &self.pairs)
+    }
+
+    fn room(&self) -> usize {
+        let mut room = 0;
+        let refused = self.lists.room(&mut room);
+        assert_eq!(refused, 0, "the room of this strip is refused");
+        room
+    }
+}
+
+/// Seconds of one call of the original, of ours, and of the exponentials.
+struct Times {
+    original: f64,
+    ours: f64,
+    exponentials: f64,
+}
+
+fn measure(job: &Job, manner: Manner, rounds: &Rounds) -> Times {
+    let plan = job.plan(manner);
+    let mut memory = plan.work();
+    let mut theirs = vec![0.0; job.pairs.len()];
+    let mut results = vec![0.0; job.pairs.len()];
+    let mut work = vec![0.0; job.room()];
+
+    correlations(&plan, &job.couplings, &mut memory, &mut theirs);
+    let refused = job.lists.correlations(&job.factors, manner.number, &mut results, &mut work);
+    assert_eq!(refused, 0, "this strip is refused");
+    for (i, (x, y)) in theirs.iter().zip(&results).enumerate() {
+        assert_eq!(x.to_bits(), y.to_bits(), "pair {i} differs: the original has {x}, ours is {y}");
+    }
+
+    let times = least_times(
+        rounds,
+        &mut [
+            &mut || correlations(black_box(&plan), black_box(&job.couplings), &mut memory, &mut theirs),
+            &mut || {
+                black_box(job.lists.correlations(black_box(&job.factors), manner.number, &mut results, &mut work));
+            },
+        ],
+    );
+    Times { original: times[0], ours: times[1], exponentials: exponentials(job) }
+}
+
+fn exponentials(job: &Job) -> f64 {
+    let mut factors = job.factors.clone();
+    let mut take = || {
+        for (x, coupling) in factors.iter_mut().zip(black_box(&job.couplings)) {
+            *x = coupling.exp();
+        }
+        black_box(&mut factors);
+    };
+    least_times(&Rounds { least: 9, round: 0.0005, total: 0.0 }, &mut [&mut take])[0]
+}
+
+/// The ratios of some jobs, and the worst of them.
+#[derive(Default)]
+struct Ratios {
+    ratios: Vec<f64>,
+    worst: Option<(f64, String)>,
+}
+
+impl Ratios {
+    fn add(&mut self, ratio: f64, job: &Job) {
+        self.ratios.push(ratio);
+        if self.worst.as_ref().map_or(true, |w| ratio > w.0) {
+            let s = &job.strip;
+            self.worst = Some((ratio, format!("{} {} {} x {}", s.kind.name(), s.bc(), s.w, s.l)));
+        }
+    }
+
+    fn print(&self, name: &str) {
+        if let Some((worst, job)) = &self.worst {
+            let count = self.ratios.len();
+            let mean = (self.ratios.iter().map(|r| r.ln()).sum::<f64>() / count as f64).exp();
+            let above = self.ratios.iter().filter(|&&r| r > 1.0).count();
+            println!("{name}: {count} jobs, geometric mean {mean:.3}, worst {worst:.3} ({job}), {above} above 1.0");
+        }
+    }
+}
+
+fn print_job(job: &Job, manner: Manner, times: &Times) {
+    let s = &job.strip;
+    println!(
+        "| {} | {} | {} | {} | {} | {} | {} | {} | {:.3} | {:.3} | {:.3} | {:.3} |",
+        s.kind.name(),
+        s.bc(),
+        s.w,
+        s.l,
+        job.graph.win,
+        s.n(),
+        job.pairs.len(),
+        manner.name,
+        1e3 * times.original,
+        1e3 * times.ours,
+        times.ours / times.original,
+        (times.ours + times.exponentials) / times.original,
+    );
+}
+
+/// The jobs of these widths, one line for each manner, and their means.
+fn print_sheet(widths: RangeInclusive<usize>, rounds: &Rounds, tell_room: bool) {
+    println!("| kind | boundary | width | columns | window | vertices | pairs | manner | original, ms | ours, ms | ratio | with exp |");
+    println!("|---|---|---|---|---|---|---|---|---|---|---|---|");
+    let mut wide: [Ratios; 2] = Default::default();
+    let mut narrow: [Ratios; 2] = Default::default();
+    for w in widths {
+        for kind in KINDS {
+            for periodic in [false, true] {
+                let Some(strip) = strip_of(kind, w, periodic) else { continue };
+                let job = Job::new(strip);
+                if tell_room {
+                    println!("room: {} doubles, {:.1} MB", job.room(), 8e-6 * job.room() as f64);
+                }
+                for (m, manner) in MANNERS.into_iter().enumerate() {
+                    let times = measure(&job, manner, rounds);
+                    print_job(&job, manner, &times);
+                    let ratios = if job.graph.win >= 8 { &mut wide } else { &mut narrow };
+                    ratios[m].add(times.ours / times.original, &job);
+                }
+            }
+        }
+    }
+    println!();
+    for (m, manner) in MANNERS.iter().enumerate() {
+        wide[m].print(&format!("windows of 8 and more, {}", manner.name));
+        narrow[m].print(&format!("windows below 8, {}", manner.name));
+    }
+}
+
+/// What a call costs before its sweeps, on strips of about a thousand vertices.
+fn print_checks() {
+    println!();
+    println!("Checks and plan, in microseconds: the original's Graph::new and Plan::new; our room; our correlations refused by 13, after every check.");
+    println!("Then all of one call from the edges on: the original's graph, plan, work memory and correlations; our correlations.");
+    println!();
+    println!("| strip | graph and plan | room | ratio | refused by 13 | ratio | original, all | ours, all | ratio |");
+    println!("|---|---|---|---|---|---|---|---|---|");
+    for (w, l) in [(4, 256), (8, 128), (16, 64)] {
+        for kind in KINDS {
+            let job = Job::new(Strip { kind, w, l, periodic: false });
+            let before = before_the_sweeps(&job);
+            let all = from_the_edges(&job);
+            println!(
+                "| {} {w} x {l} | {:.1} | {:.1} | {:.2} | {:.1} | {:.2} | {:.1} | {:.1} | {:.2} |",
+                kind.name(),
+                1e6 * before[0],
+                1e6 * before[1],
+                before[1] / before[0],
+                1e6 * before[2],
+                before[2] / before[0],
+                1e6 * all[0],
+                1e6 * all[1],
+                all[1] / all[0],
+            );
+        }
+    }
+}
+
+fn before_the_sweeps(job: &Job) -> Vec<f64> {
+    std::env::set_var("FDK_SLOW", BLOCK.slow);
+    let mut results = vec![0.0; job.pairs.len()];
+    least_times(
+        &Rounds { least: 20, round: 0.003, total: 0.5 },
+        &mut [
+            &mut || {
+                let graph = Graph::new(job.graph.n, black_box(&job.raw));
+                black_box(Plan::new(&graph, black_box(&job.pairs)));
+            },
+            &mut || {
+                black_box(job.room());
+            },
+            &mut || {
+                let refused = job.lists.correlations(black_box(&job.factors), BLOCK.number, &mut results, &mut []);
+                assert_eq!(refused, 13);
+            },
+        ],
+    )
+}
+
+fn from_the_edges(job: &Job) -> Vec<f64> {
+    std::env::set_var("FDK_SLOW", BLOCK.slow);
+    let mut theirs = vec![0.0; job.pairs.len()];
+    let mut results = vec![0.0; job.pairs.len()];
+    let mut work = vec![0.0; job.room()];
+    least_times(
+        &Rounds { least: 5, round: 0.003, total: 0.5 },
+        &mut [
+            &mut || {
+                let graph = Graph::new(job.graph.n, black_box(&job.raw));
+                let plan = Plan::new(&graph, black_box(&job.pairs));
+                correlations(&plan, black_box(&job.couplings), &mut plan.work(), &mut theirs);
+            },
+            &mut || {
+                black_box(job.lists.correlations(black_box(&job.factors), BLOCK.number, &mut results, &mut work));
+            },
+        ],
+    )
+}
+
+fn main() {
+    let words: Vec<String> = std::env::args().skip(1).collect();
+    let words: Vec<&str> = words.iter().map(String::as_str).collect();
+    let rounds = Rounds { least: 5, round: 0.003, total: 0.8 };
+    println!("Copperhook from {}", env!("ARCHIVE"));
+    println!();
+    match words[..] {
+        [] => {
+            print_sheet(4..=20, &rounds, false);
+            print_checks();
+        }
+        ["--quick"] => {
+            print_sheet(4..=10, &rounds, false);
+            print_checks();
+        }
+        ["--width", w] => match w.parse::<usize>() {
+            Ok(w) if (1..=24).contains(&w) => print_sheet(w..=w, &Rounds { least: 3, ..rounds }, true),
+            _ => usage(),
+        },
+        _ => usage(),
+    }
+}
+
+fn usage() -> ! {
+    eprintln!("usage: rust/bench/run [--quick | --width N], N from 1 to 24");
+    std::process::exit(2);
+}
