@@ -5,13 +5,16 @@ use mathlib.Core.List.{List, [], _∷_}
 use Prim.Native.Nat.{ℕ}
 use lib.IntN.{pos}
 use lib.Ieee.{Float, nan, inf, fin, eq, le, lt, neg, ofBits}
+use lib.ListN.{replicate}
 use Rattle.vector.specs.Search.{some}
 use Rattle.transfer.specs.Job.{windowOf, tooManyNear}
 use Rattle.transfer.specs.Configuration.{edgesWith}
 use Rattle.transfer.specs.Room.{room}
 use Rattle.checks.specs.Edges.{keptOf}
 use Rattle.checks.specs.Request.{graphRequest, distanceRequest, roomRequest, correlationRequest}
+use Rattle.checks.specs.Request.{couplingRequest, enumerationRequest, samplingRequest, mostCounted, mostStored}
 use Rattle.checks.specs.Refusal.{refusal, ofGraph, ofGraphWithBuffers, ofDistance, ofRoom, ofCorrelations}
+use Rattle.checks.specs.Refusal.{ofCouplings, ofEnumeration, ofSampling}
 
 abbrev one : Float
 one = fin false 1 (pos 0)
@@ -110,3 +113,76 @@ first-13 = refl
 pub last-14 : (single 0 1 (one ∷ []) 1 13 true ≡ 14) × (single 0 1 (one ∷ []) 1 13 false ≡ 0)
 unfolding some keptOf eq le lt neg ofBits windowOf tooManyNear edgesWith room
 last-14 = (refl, refl)
+
+-- ---- betas
+
+-- one vertex, and so many betas
+abbrev coupled : List Float → Bool → ℕ
+coupled betas misfit = refusal ofCouplings (couplingRequest 1 [] [] [] betas misfit)
+
+-- 65 betas, one not finite; 64 pass
+pub betas-65 : (coupled (inf false ∷ replicate 64 one) true ≡ 2) × (coupled (replicate 64 one) true ≡ 12)
+unfolding some keptOf le neg ofBits
+betas-65 = (refl, refl)
+
+-- a beta of 1,025, two edges between the same vertices, and a buffer that does not fit; with a beta of -1,024 the edges are next
+abbrev twice : ℕ → Float → ℕ
+twice u beta = refusal ofCouplings (couplingRequest 2 (u ∷ 1 ∷ []) (1 ∷ 0 ∷ []) (one ∷ one ∷ []) (one ∷ beta ∷ []) true)
+
+pub beta-1025 : (twice 0 (fin false 1025 (pos 0)) ≡ 4) × (twice 0 (fin true 1024 (pos 0)) ≡ 5)
+unfolding some keptOf eq le neg ofBits
+beta-1025 = (refl, refl)
+
+-- an edge with equal ends comes before a beta
+pub beta-behind-3 : twice 1 nan ≡ 3
+unfolding some
+beta-behind-3 = refl
+
+-- ---- totals: two vertices, the edge 0-1, the pair 0-1, one beta: two factors, and a room of 13
+
+abbrev counted : (free most : ℕ) → List Float → (misfit : Bool) → (work : ℕ) → ℕ
+counted free most factors misfit work =
+    refusal ofEnumeration
+    (enumerationRequest 2 0 (0 ∷ []) (1 ∷ []) (one ∷ []) (0 ∷ []) (1 ∷ []) (one ∷ []) factors free most misfit work false)
+
+-- 35 free edges, and factors too few; 34 pass for totals, 24 for stored correlations
+pub first-9 : (counted 35 mostCounted [] true 0 ≡ 9) × (counted 25 mostStored [] true 0 ≡ 9)
+unfolding some keptOf eq le neg ofBits windowOf tooManyNear edgesWith
+first-9 = (refl, refl)
+
+pub free-34 : (counted 34 mostCounted (one ∷ one ∷ []) false 13 ≡ 0) × (counted 24 mostStored (one ∷ one ∷ []) false 13 ≡ 0)
+unfolding some keptOf eq le lt neg ofBits windowOf tooManyNear edgesWith room
+free-34 = (refl, refl)
+
+-- one factor a kept edge is too few: each sign has its own
+pub factor-signs : counted 0 mostCounted (one ∷ []) true 0 ≡ 10
+unfolding some keptOf eq le lt neg ofBits windowOf tooManyNear edgesWith
+factor-signs = refl
+
+abbrev drawn : (start end samples : ℕ) → List Float → (misfit : Bool) → (work : ℕ) → ℕ
+drawn start end samples factors misfit work =
+    refusal ofSampling
+    (samplingRequest 2 0 (0 ∷ []) (1 ∷ []) (one ∷ []) (0 ∷ []) (1 ∷ []) (one ∷ []) factors start end samples misfit work false)
+
+-- a bad factor, and too many samples; these, and a buffer that does not fit; such a buffer, and short work memory
+pub first-11 : (drawn 0 65537 65536 (one ∷ nan ∷ []) true 0 ≡ 10) × (drawn 0 65537 65536 (one ∷ one ∷ []) true 0 ≡ 11)
+    × (drawn 0 65536 65536 (one ∷ one ∷ []) true 0 ≡ 12)
+unfolding some keptOf eq le lt neg ofBits windowOf tooManyNear edgesWith
+first-11 = (refl, refl, refl)
+
+-- 2^32 samples pass, one more does not, though they be in one chunk; the chunks count from their start
+pub samples-over : (drawn 7 8 4294967296 (one ∷ one ∷ []) false 13 ≡ 0) × (drawn 7 8 4294967297 (one ∷ one ∷ []) false 13 ≡ 11)
+    × (drawn 1 4294967297 1 (one ∷ one ∷ []) false 13 ≡ 0) × (drawn 0 4294967297 1 (one ∷ one ∷ []) false 13 ≡ 11)
+unfolding some keptOf eq le lt neg ofBits windowOf tooManyNear edgesWith room
+samples-over = (refl, refl, refl, refl)
+
+-- a product that 64 bits do not hold
+pub samples-far : drawn 0 4294967296 4294967296 (one ∷ one ∷ []) false 13 ≡ 11
+unfolding some keptOf eq le lt neg ofBits windowOf tooManyNear edgesWith
+samples-far = refl
+
+-- an end that isn't above the start, and chunks without samples
+pub no-chunk : (drawn 8 8 4294967297 (one ∷ one ∷ []) false 13 ≡ 0) × (drawn 9 8 4294967297 (one ∷ one ∷ []) false 13 ≡ 0)
+    × (drawn 0 18446744073709551615 0 (one ∷ one ∷ []) false 13 ≡ 0)
+unfolding some keptOf eq le lt neg ofBits windowOf tooManyNear edgesWith room
+no-chunk = (refl, refl, refl)

@@ -7,4 +7,5 @@ pub mod First
 pub mod Accepted
 pub mod Later
 pub mod AcceptedJob
+pub mod AcceptedTotals
 pub mod StripRequest

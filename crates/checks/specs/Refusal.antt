@@ -3,8 +3,8 @@ use mathlib.Core.Bool.{Bool, false, cond, _||_, _&&_}
 use mathlib.Core.List.{List, [], _∷_}
 use Prim.Native.Nat.{ℕ}
 use lib.Dec.{eqb}
-use Rattle.checks.specs.Request.{Request, badVertices, badLists, badEdges, badMagnitudes, parallelEdges}
-use Rattle.checks.specs.Request.{wideWindow, manyNear, badPairs, badFactors, shortWork}
+use Rattle.checks.specs.Request.{Request, badVertices, badLists, badEdges, badSizes, parallelEdges}
+use Rattle.checks.specs.Request.{wideWindow, manyNear, badPairs, manyFree, badFactors, manySamples, shortWork}
 
 -- a check of the requests of one kind
 pub record Check (A : Type 0) : Type 0 where
@@ -19,12 +19,14 @@ checks =
     check 1 badVertices
     ∷ check 2 badLists
     ∷ check 3 badEdges
-    ∷ check 4 badMagnitudes
+    ∷ check 4 badSizes
     ∷ check 5 parallelEdges
     ∷ check 6 wideWindow
     ∷ check 7 manyNear
     ∷ check 8 badPairs
+    ∷ check 9 manyFree
     ∷ check 10 badFactors
+    ∷ check 11 manySamples
     ∷ check 12 (λ r. r .misfit)
     ∷ check 13 shortWork
     ∷ check 14 (λ r. r .unsound)
@@ -61,3 +63,19 @@ ofLists = 10 ∷ 12 ∷ 13 ∷ []
 
 abbrev pub ofCorrelations : List ℕ
 ofCorrelations = 1 ∷ 2 ∷ 3 ∷ 4 ∷ 5 ∷ 6 ∷ 7 ∷ 8 ∷ 10 ∷ 12 ∷ 13 ∷ 14 ∷ []
+
+abbrev pub ofCouplings : List ℕ
+ofCouplings = ofGraphWithBuffers
+
+-- behind those of `room` for totals: sampling has no limit of free edges, and enumeration no chunks to ask of
+abbrev pub ofEnumerationLists : List ℕ
+ofEnumerationLists = 9 ∷ 10 ∷ 12 ∷ 13 ∷ []
+
+abbrev pub ofSamplingLists : List ℕ
+ofSamplingLists = 10 ∷ 11 ∷ 12 ∷ 13 ∷ []
+
+abbrev pub ofEnumeration : List ℕ
+ofEnumeration = 1 ∷ 2 ∷ 3 ∷ 4 ∷ 5 ∷ 6 ∷ 7 ∷ 8 ∷ 9 ∷ 10 ∷ 12 ∷ 13 ∷ 14 ∷ []
+
+abbrev pub ofSampling : List ℕ
+ofSampling = 1 ∷ 2 ∷ 3 ∷ 4 ∷ 5 ∷ 6 ∷ 7 ∷ 8 ∷ 10 ∷ 11 ∷ 12 ∷ 13 ∷ 14 ∷ []

@@ -1,7 +1,7 @@
 -- What a call is given, as far as the checks read it, and each check's own test in the words of document 01.
 use mathlib.Core.Bool.{Bool, true, false, not, _||_, _&&_}
 use mathlib.Core.List.{List, [], _∷_}
-use Prim.Native.Nat.{ℕ}
+use Prim.Native.Nat.{ℕ, _-_, _*_}
 use lib.Dec.{eqb, ltb, leb}
 use lib.Ieee.{Float, nan, inf, binary64, le, lt, neg, ofBits}
 use lib.ListN.{length, getD}
@@ -10,6 +10,33 @@ use Rattle.transfer.specs.Job.{tooManyNear}
 use Rattle.transfer.specs.Configuration.{numbered}
 use Rattle.transfer.specs.Room as Room
 use Rattle.checks.specs.Edges.{Kept, kept, earlyEnds, lateEnds, windowFrom}
+
+-- Which signs of the free edges a call goes through: all of them, or chunks of drawn ones.
+pub record Configurations : Type 0 where
+  -- how many free edges there are, and how many there may be
+  pub free : ℕ
+  pub most : ℕ
+  -- the chunks from one number up to another, and how many samples each has
+  pub start : ℕ
+  pub end : ℕ
+  pub samples : ℕ
+
+-- none: the caller's factors are of one configuration
+abbrev pub single : Configurations
+single = record { free = 0; most = 0; start = 0; end = 0; samples = 0 }
+
+abbrev pub enumerated : (free most : ℕ) → Configurations
+enumerated free most = record { free = free; most = most; start = 0; end = 0; samples = 0 }
+
+abbrev pub sampled : (start end samples : ℕ) → Configurations
+sampled start end samples = record { free = 0; most = 0; start = start; end = end; samples = samples }
+
+-- the most free edges of enumerated totals, and of stored correlations
+abbrev pub mostCounted : ℕ
+mostCounted = 34
+
+abbrev pub mostStored : ℕ
+mostStored = 24
 
 -- A part that a call does not have is empty.
 pub record Request : Type 0 where
@@ -24,6 +51,8 @@ pub record Request : Type 0 where
   pub firsts : List ℕ
   pub seconds : List ℕ
   pub equalEnds : Bool
+  pub betas : List Float
+  pub configurations : Configurations
   -- the lent factors, and how many there should be
   pub factors : List Float
   pub factorCount : ℕ
@@ -34,9 +63,9 @@ pub record Request : Type 0 where
   -- whether some pair's Z is not finite and above zero
   pub unsound : Bool
 
--- The request of a call that is given a graph alone.
-abbrev pub graphRequest : ℕ → List ℕ → List ℕ → List Float → Bool → Request
-graphRequest n a b m misfit = record {
+-- The request of `couplings`: a graph and betas.
+abbrev pub couplingRequest : ℕ → List ℕ → List ℕ → (m betas : List Float) → Bool → Request
+couplingRequest n a b m betas misfit = record {
   vertices = n;
   ones = a;
   others = b;
@@ -45,12 +74,18 @@ graphRequest n a b m misfit = record {
   firsts = [];
   seconds = [];
   equalEnds = false;
+  betas = betas;
+  configurations = single;
   factors = [];
   factorCount = 0;
   misfit = misfit;
   work = 0;
   unsound = false;
 }
+
+-- The request of a call that is given a graph alone.
+abbrev pub graphRequest : ℕ → List ℕ → List ℕ → List Float → Bool → Request
+graphRequest n a b m misfit = couplingRequest n a b m [] misfit
 
 -- The request of `distance`: a graph and one pair, whose ends may be equal.
 abbrev pub distanceRequest : ℕ → List ℕ → List ℕ → List Float → ℕ → ℕ → Request
@@ -63,6 +98,8 @@ distanceRequest n a b m u v = record {
   firsts = u ∷ [];
   seconds = v ∷ [];
   equalEnds = true;
+  betas = [];
+  configurations = single;
   factors = [];
   factorCount = 0;
   misfit = false;
@@ -70,27 +107,34 @@ distanceRequest n a b m u v = record {
   unsound = false;
 }
 
--- The request of `room`: a graph, the floor of its window, and pairs.
+-- What the checks 1 to 8 read of a call for totals: a graph, the floor of its window, pairs, and betas.
+abbrev pub jobRequest : (n floor : ℕ) → (a b : List ℕ) → List Float → (us vs : List ℕ) → List Float → Request
+jobRequest n floor a b m us vs betas = record {
+  vertices = n;
+  ones = a;
+  others = b;
+  magnitudes = m;
+  floor = floor;
+  firsts = us;
+  seconds = vs;
+  equalEnds = false;
+  betas = betas;
+  configurations = single;
+  factors = [];
+  factorCount = 0;
+  misfit = false;
+  work = 0;
+  unsound = false;
+}
+
+-- The request of `room`: a job without betas.
 abbrev pub roomRequest : ℕ → ℕ → List ℕ → List ℕ → List Float → List ℕ → List ℕ → Request
-roomRequest n floor a b m us vs = record {
-  vertices = n;
-  ones = a;
-  others = b;
-  magnitudes = m;
-  floor = floor;
-  firsts = us;
-  seconds = vs;
-  equalEnds = false;
-  factors = [];
-  factorCount = 0;
-  misfit = false;
-  work = 0;
-  unsound = false;
-}
+roomRequest n floor a b m us vs = jobRequest n floor a b m us vs []
 
--- The request of `correlations`: besides, one factor for each kept edge, one result for each pair, and work memory.
-abbrev pub correlationRequest : (n floor : ℕ) → List ℕ → List ℕ → List Float → List ℕ → List ℕ → List Float → (results work : ℕ) → Bool → Request
-correlationRequest n floor a b m us vs factors results work unsound = record {
+-- The request of a call that sweeps: besides a job, which configurations it sweeps, so many factors, result buffers, and work memory.
+abbrev pub sweepRequest : (n floor : ℕ) → (a b : List ℕ) → List Float → (us vs : List ℕ) → List Float → Configurations
+    → List Float → (count : ℕ) → (misfit : Bool) → (work : ℕ) → Bool → Request
+sweepRequest n floor a b m us vs betas configurations factors count misfit work unsound = record {
   vertices = n;
   ones = a;
   others = b;
@@ -99,25 +143,52 @@ correlationRequest n floor a b m us vs factors results work unsound = record {
   firsts = us;
   seconds = vs;
   equalEnds = false;
+  betas = betas;
+  configurations = configurations;
   factors = factors;
-  factorCount = length (kept a b m);
-  misfit = not (eqb results (length us));
+  factorCount = count;
+  misfit = misfit;
   work = work;
   unsound = unsound;
 }
+
+-- The request of `correlations`: one factor for each kept edge, one result for each pair.
+abbrev pub correlationRequest : (n floor : ℕ) → List ℕ → List ℕ → List Float → List ℕ → List ℕ → List Float → (results work : ℕ) → Bool → Request
+correlationRequest n floor a b m us vs factors results work unsound =
+    sweepRequest n floor a b m us vs [] single factors (length (kept a b m)) (not (eqb results (length us))) work unsound
+
+-- the factors of a call for totals: for each beta and kept edge two, one a sign
+abbrev pub signedFactors : (betas edges : ℕ) → ℕ
+signedFactors betas edges = 2 * (betas * edges)
+
+-- The request of a call that goes through every configuration, of so many free edges where so many are the most.
+abbrev pub enumerationRequest : (n floor : ℕ) → (a b : List ℕ) → List Float → (us vs : List ℕ) → (betas factors : List Float)
+    → (free most : ℕ) → (misfit : Bool) → (work : ℕ) → Bool → Request
+enumerationRequest n floor a b m us vs betas factors free most misfit work unsound =
+    sweepRequest n floor a b m us vs betas (enumerated free most) factors (signedFactors (length betas) (length (kept a b m))) misfit work unsound
+
+-- The request of `sample`: chunks of drawn configurations.
+abbrev pub samplingRequest : (n floor : ℕ) → (a b : List ℕ) → List Float → (us vs : List ℕ) → (betas factors : List Float)
+    → (start end samples : ℕ) → (misfit : Bool) → (work : ℕ) → Bool → Request
+samplingRequest n floor a b m us vs betas factors start end samples misfit work unsound =
+    sweepRequest n floor a b m us vs betas (sampled start end samples) factors (signedFactors (length betas) (length (kept a b m))) misfit work
+    unsound
 
 -- 1. The vertex count is 0 or above 1,024.
 abbrev pub badVertices : Request → Bool
 badVertices r = eqb (r .vertices) 0 || ltb 1024 (r .vertices)
 
--- 2. Lists of one kind differ in length, or there are over 4,096 edges or 256 pairs.
-abbrev pub badLists : Request → Bool
-badLists r =
+-- 2. Lists of one kind differ in length, or there are over 4,096 edges, 256 pairs or 64 betas.
+abbrev pub badLengths : Request → Bool
+badLengths r =
     not (eqb (length (r .ones)) (length (r .others)))
     || not (eqb (length (r .ones)) (length (r .magnitudes)))
     || ltb 4096 (length (r .ones))
     || not (eqb (length (r .firsts)) (length (r .seconds)))
     || ltb 256 (length (r .firsts))
+
+abbrev pub badLists : Request → Bool
+badLists r = ltb 64 (length (r .betas)) || badLengths r
 
 -- An end is outside a graph of n vertices.
 abbrev pub outside : ℕ → ℕ → ℕ → Bool
@@ -130,7 +201,7 @@ badEdge n a b e = eqb (getD a e 0) (getD b e 0) || outside n (getD a e 0) (getD 
 abbrev pub badEdges : Request → Bool
 badEdges r = some (badEdge (r .vertices) (r .ones) (r .others)) (length (r .ones))
 
--- 4. A magnitude isn't finite, or its size is above 1,024: it is not from -1,024 to 1,024.
+-- 4. A magnitude or beta isn't finite, or its size is above 1,024: it is not from -1,024 to 1,024.
 abbrev pub limit : Float
 limit = ofBits binary64 0x4090_0000_0000_0000
 
@@ -139,6 +210,13 @@ oversized x = not (le (neg limit) x && le x limit)
 
 abbrev pub badMagnitudes : Request → Bool
 badMagnitudes r = some (λ e. oversized (getD (r .magnitudes) e nan)) (length (r .magnitudes))
+
+abbrev pub badBetas : List Float → Bool
+badBetas [] = false
+badBetas (beta ∷ betas) = oversized beta || badBetas betas
+
+abbrev pub badSizes : Request → Bool
+badSizes r = badBetas (r .betas) || badMagnitudes r
 
 -- 5. Two kept edges join the same vertices.
 abbrev pub sameEnds : List ℕ → List ℕ → ℕ → ℕ → Bool
@@ -171,6 +249,10 @@ badPair equal n us vs p = (not equal && eqb (getD us p 0) (getD vs p 0)) || outs
 abbrev pub badPairs : Request → Bool
 badPairs r = some (badPair (r .equalEnds) (r .vertices) (r .firsts) (r .seconds)) (length (r .firsts))
 
+-- 9. Free edges exceed 34 for enumerated totals or 24 for stored correlations.
+abbrev pub manyFree : Request → Bool
+manyFree r = ltb (r .configurations .most) (r .configurations .free)
+
 -- Finite and above zero.
 abbrev pub passes : Float → Bool
 passes x = lt (ofBits binary64 0) x && lt x (inf false)
@@ -181,6 +263,13 @@ badFactorList factors count = not (eqb (length factors) count) || some (λ e. no
 
 abbrev pub badFactors : Request → Bool
 badFactors r = badFactorList (r .factors) (r .factorCount)
+
+-- 11. End above start, and chunks times samples per chunk exceed 2^32.
+abbrev pub tooManyChunks : (start end samples : ℕ) → Bool
+tooManyChunks start end samples = ltb start end && ltb 4294967296 ((end - start) * samples)
+
+abbrev pub manySamples : Request → Bool
+manySamples r = tooManyChunks (r .configurations .start) (r .configurations .end) (r .configurations .samples)
 
 -- 13. Work memory is shorter than the room.
 abbrev pub shortWork : Request → Bool

@@ -17,5 +17,6 @@ pub use graph::window;
 pub use reach::window_of;
 pub use refuse::bad_edges;
 pub use refuse::bad_lists;
+pub use refuse::bad_magnitudes;
 pub use refuse::bad_vertices;
 pub use refuse::is_outside;

@@ -84,7 +84,7 @@ fn is_oversized(x: f64) -> bool
 }
 
 // 4. A magnitude isn't finite, or its size is above 1,024.
-pub(crate) fn bad_magnitudes(m: &[f64]) -> bool
+pub fn bad_magnitudes(m: &[f64]) -> bool
     ensures { λ r. ⌜ r ≡ some (λ e. oversized (getD (now (m .entry)) e nan)) (length (now (m .entry))) ⌝ }
 {
     let mut i: usize = 0;

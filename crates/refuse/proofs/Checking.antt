@@ -1,11 +1,14 @@
 -- The checks of a job one after the other, and what has passed where none refuses.
 use mathlib.Core.Path.{_≡_, refl, sym, ap, ap₂, _∙_, subst, subst₂}
-use mathlib.Core.Bool.{Bool, false}
-use mathlib.Core.List.{List}
-use Prim.Native.Nat.{ℕ, zero, suc, _-_, _≤_, _<_}
+use mathlib.Core.Bool.{Bool, true, false, cond, not}
+use mathlib.Core.List.{List, []}
+use Prim.Native.Nat.{ℕ, zero, suc, _-_, _*_, _≤_, _<_}
+use native.Mathlib.Nat.{mul-le-mul}
 use native.Mathlib.Omega.{arith}
+use lib.Dec.{eqb}
 use lib.Ieee.{Float}
 use lib.ListN.{length, getD, take, length-map}
+use borrow.Author.Tests.{eq-eqb, ne-eqb, lt-ltb, le-ltb}
 use Rattle.vector.specs.Most.{most-above}
 use Rattle.transfer.specs.Job.{longest, windowOf, tooManyNear}
 use Rattle.transfer.specs.Configuration.{numbered}
@@ -13,16 +16,17 @@ use Rattle.transfer.specs.Room.{room}
 use Rattle.checks.specs.declared.Answer.the-variants.{Number}
 use Rattle.checks.specs.Answers.{answered, number-is}
 use Rattle.checks.specs.Edges.{kept, earlyEnds, lateEnds, windowFrom}
-use Rattle.checks.specs.Request.{graphRequest, roomRequest, badLists}
-use Rattle.checks.specs.Refusal.{refusal, ofGraph, ofRoom}
+use Rattle.checks.specs.Request.{couplingRequest, graphRequest, jobRequest, roomRequest, badVertices, badLengths, badLists, badBetas}
+use Rattle.checks.specs.Refusal.{refusal, ofGraph, ofCouplings, ofRoom}
 use Rattle.checks.specs.First.{told}
-use Rattle.checks.specs.Later.{orElse}
+use Rattle.checks.specs.Later.{orElse, Then, refused-before, refused-here, refused-not}
 use Rattle.checks.specs.Accepted.{Accepted, kept-inside}
-use Rattle.checks.specs.AcceptedJob.{window-wide, accepted-job, job-lists, graph-alone, room-in-parts}
+use Rattle.checks.specs.AcceptedJob.{window-wide, accepted-graph, accepted-with, withBetas, job-lists, graph-alone, job-in-parts}
+use Rattle.checks.specs.AcceptedTotals.{couplings-in-parts}
 use Rattle.lattice.specs.Keep.{Built}
 use Rattle.lattice.specs.Fronts.{front-early, front-late, early-part, few, of-kept, is-accepted}
 use Rattle.plan.specs.Edges.{Edges}
-use Rattle.refuse.specs.Checked.{KeptEdges, keptRefusal, CheckedKept, CheckedJob}
+use Rattle.refuse.specs.Checked.{KeptEdges, keptRefusal, CheckedGraph, CheckedCouplings, CheckedKept, CheckedJob, CheckedWithBetas}
 
 -- ---- the kept edges
 
@@ -79,42 +83,75 @@ kept-passed {n} {early = early} {late} {us} {vs} p h = record {
   window = λ z. p;
 }
 
--- 1 or 2 was found
-pub job-refused : {n floor q k w : ℕ} {a b : List ℕ} {m : List Float} {us vs early early′ late late′ : List ℕ} {mag mag′ : List Float} (j : ℕ)
-    → q ≡ suc j → suc j ≡ refusal ofRoom (roomRequest n floor a b m us vs) → CheckedJob n floor a b m us vs q k w early early′ late late′ mag mag′
-job-refused j e h = record { refusal = e ∙ h; ready = λ z. absurd (omega arith) }
+-- 1 to 4 was found
+pub graph-refused : {n q k : ℕ} {a b : List ℕ} {m : List Float} {us vs : List ℕ} {betas : List Float} {early early′ late late′ : List ℕ}
+    {mag mag′ : List Float} (j : ℕ) → q ≡ suc j → suc j ≡ refusal ofGraph (jobRequest n 0 a b m us vs betas)
+    → CheckedGraph n a b m us vs betas q k early early′ late late′ mag mag′
+graph-refused j e h = record { refusal = e ∙ h; matched = λ z. absurd (omega arith); built = λ z. absurd (omega arith) }
 
--- t was answered of the lists
-module _ (n floor : ℕ) (a b : List ℕ) (m : List Float) (us vs : List ℕ) (t : Bool) (test : t ≡ badLists (roomRequest n floor a b m us vs))
-    (passed : t ≡ false) where
+-- over 64 betas, which 2 refuses
+pub many-betas : (n : ℕ) (a b : List ℕ) (m : List Float) (us vs : List ℕ) (betas : List Float) → 64 < length betas
+    → badLists (jobRequest n 0 a b m us vs betas) ≡ true
+many-betas n a b m us vs betas h = rw (lt-ltb 64 (length betas) h)
+
+-- t was answered of the other lists
+pub other-lists : (n : ℕ) (a b : List ℕ) (m : List Float) (us vs : List ℕ) (betas : List Float) → length betas ≤ 64 → (t r : Bool)
+    → t ≡ badLengths (roomRequest n 0 a b m us vs) → t ≡ r → badLists (jobRequest n 0 a b m us vs betas) ≡ r
+other-lists n a b m us vs betas h t r test e = rw (le-ltb 64 (length betas) h) (told test e)
+
+-- the graph that 1 and 2 pass was built, and r was answered
+module _ (n : ℕ) (a b : List ℕ) (m : List Float) (us vs : List ℕ) (betas : List Float) (vertices : badVertices (graphRequest n a b m false) ≡ false)
+    (lists : badLists (jobRequest n 0 a b m us vs betas) ≡ false) {r k : ℕ} {early early′ late late′ : List ℕ} {mag mag′ : List Float}
+    (B : Built n a b m r k early early′ late late′ mag mag′) where
+  with-betas : (x : ℕ) (bad : Bool) → x ≡ withBetas bad r → badBetas betas ≡ bad → x ≡ refusal ofGraph (jobRequest n 0 a b m us vs betas)
+  with-betas x bad e t =
+      e ∙ ap₂ withBetas (sym t) (B .refusal) ∙ sym (graph-alone n 0 a b m us vs betas vertices lists)
+
+  -- 3 comes before a bad beta
+  pub ends-refused : {q e : ℕ} → q ≡ 3 → r ≡ 3 → CheckedGraph n a b m us vs betas q e early early′ late late′ mag mag′
+  ends-refused p z = graph-refused 2 p (with-betas 3 (badBetas betas) (ap (withBetas (badBetas betas)) (sym z)) refl)
+
+  pub betas-refused : {q e : ℕ} → q ≡ 4 → (r ≡ 3 → ⊥) → badBetas betas ≡ true → CheckedGraph n a b m us vs betas q e early early′ late late′ mag mag′
+  betas-refused p z t = graph-refused 3 p (with-betas 4 true (rw (ne-eqb r 3 z)) t)
+
+  -- the betas pass
+  pub graph-answered : (r ≡ 3 → ⊥) → badBetas betas ≡ false → CheckedGraph n a b m us vs betas r k early early′ late late′ mag mag′
+  graph-answered z t = record {
+    refusal = with-betas r false (rw (ne-eqb r 3 z)) t;
+    matched = λ o. sym (job-lists n 0 a b m us vs betas lists .1);
+    built = λ o. B;
+  }
+
+-- the graph with its betas was checked
+module _ (n floor : ℕ) (a b : List ℕ) (m : List Float) (us vs : List ℕ) (betas : List Float) {r k : ℕ} {early early′ late late′ : List ℕ}
+    {mag mag′ : List Float} (G : CheckedGraph n a b m us vs betas r k early early′ late late′ mag mag′) where
   abbrev later : ℕ
   later = keptRefusal n (windowFrom floor a b m) (earlyEnds (kept a b m)) (lateEnds (kept a b m)) us vs
 
-  room-is : refusal ofRoom (roomRequest n floor a b m us vs) ≡ orElse (refusal ofGraph (graphRequest n a b m false)) later
-  room-is = room-in-parts n floor a b m us vs ∙ ap (λ (k : ℕ). orElse k later) (graph-alone n floor a b m us vs (told test passed))
+  job-is : refusal ofRoom (jobRequest n floor a b m us vs betas) ≡ orElse r later
+  job-is = job-in-parts n floor a b m us vs betas ∙ ap (λ (k : ℕ). orElse k later) (sym (G .refusal))
 
-  -- the pairs' lists are of one length
-  pub matched : length vs ≡ length us
-  matched = sym (job-lists n floor a b m us vs (told test passed) .1)
+  -- and refused
+  pub job-refused : {k′ w q : ℕ} → q ≡ r → (r ≡ 0 → ⊥) → CheckedWithBetas n floor a b m us vs betas q k′ w early early′ late late′ mag mag′
+  job-refused {q = q} e z =
+      let o : (q ≡ 0) → ⊥ = λ p. z (sym e ∙ p) in
+      record { refusal = e ∙ go r z ∙ sym job-is; ready = λ p. absurd (o p); betas-pass = λ p. absurd (o p) }
+    where
+      go : (x : ℕ) → (x ≡ 0 → ⊥) → x ≡ orElse x later
+      go zero f = absurd (f refl)
+      go (suc x) f = refl
 
-  -- the graph was refused
-  pub graph-refused : {k w : ℕ} {early early′ late late′ : List ℕ} {mag mag′ : List Float} (q r : ℕ) → q ≡ r
-      → r ≡ refusal ofGraph (graphRequest n a b m false) → (r ≡ 0 → ⊥) → CheckedJob n floor a b m us vs q k w early early′ late late′ mag mag′
-  graph-refused q zero e g z = absurd (z refl)
-  graph-refused q (suc r) e g z = record { refusal = e ∙ ap (λ (k : ℕ). orElse k later) g ∙ sym room-is; ready = λ p. absurd (omega arith) }
-
-  -- the graph was accepted, and its kept edges were checked
-  pub graph-accepted : {r k q j w : ℕ} {early early′ late late′ : List ℕ} {mag mag′ : List Float}
-      → Built n a b m r k early early′ late late′ mag mag′ → r ≡ 0
-      → CheckedKept n floor (take k early′) (take k late′) us vs q j w → CheckedJob n floor a b m us vs q j w early early′ late late′ mag mag′
-  graph-accepted {w = w} B z C =
-      let W = B .written z in
+  -- it was accepted, and its kept edges were checked
+  pub graph-accepted : {q j w : ℕ} → r ≡ 0 → CheckedKept n floor (take k early′) (take k late′) us vs q j w
+      → CheckedWithBetas n floor a b m us vs betas q j w early early′ late late′ mag mag′
+  graph-accepted {w = w} z C =
+      let W = G .built z .written z in
       let e = of-kept W (λ x y. keptRefusal n (windowOf floor x y) x y us vs) (C .refusal) in
-      let r = e ∙ ap (λ (k : ℕ). orElse k later) (sym z ∙ B .refusal) ∙ sym room-is in
+      let r = e ∙ ap (λ (k : ℕ). orElse k later) (sym z) ∙ sym job-is in
       record {
         refusal = r;
         ready = λ p.
-            let job = accepted-job n floor a b m us vs (sym r ∙ p) in
+            let job = accepted-with n floor a b m us vs betas (sym r ∙ p) .0 in
             let window = of-kept W (windowOf floor) (C .window p) in
             let all = C .all p ∙ sym (early-part W) in
             record {
@@ -126,6 +163,7 @@ module _ (n floor : ℕ) (a b : List ℕ) (m : List Float) (us vs : List ℕ) (t
               pairs = record { matched = job .matched; first = job .first-inside; second = job .second-inside };
               passed = job;
             };
+        betas-pass = λ p. accepted-with n floor a b m us vs betas (sym r ∙ p) .1;
       }
 
 -- ---- the room
@@ -136,3 +174,50 @@ pub room-answered : {n floor q k w : ℕ} {a b : List ℕ} {m : List Float} {us 
 room-answered {n} {us = us} {vs} checked z r e =
     let job = checked .ready z in
     number-is _ _ _ _ (checked .refusal) z (e ∙ ap₂ (λ (x y : ℕ). room n x y us vs) (job .window) (job .written .edges))
+
+-- ---- the factors
+
+-- of 64 betas and 4,096 edges
+pub few-factors : (betas edges : ℕ) → betas ≤ 64 → edges ≤ 4096 → betas * edges ≤ 262144
+few-factors betas edges p q = mul-le-mul p q
+
+-- where t was answered of the test, so it is of the test itself
+pub retold : (t test : Bool) (k r rest : ℕ) → t ≡ test → r ≡ cond t k rest → r ≡ cond test k rest
+retold t test k r rest e h = h ∙ ap (λ (x : Bool). cond x k rest) e
+
+-- ---- couplings
+
+-- the graph with its betas was checked; there are so many results
+module _ (n : ℕ) (a b : List ℕ) (m betas : List Float) (results : ℕ) {r k : ℕ} {early early′ late late′ : List ℕ} {mag mag′ : List Float}
+    (G : CheckedGraph n a b m [] [] betas r k early early′ late late′ mag mag′) where
+  abbrev misfitted : Bool
+  misfitted = not (eqb results (length betas * length (kept a b m)))
+
+  parts : Then (refusal ofCouplings (couplingRequest n a b m betas misfitted)) (refusal ofGraph (jobRequest n 0 a b m [] [] betas)) misfitted 12
+  parts = couplings-in-parts n a b m betas misfitted
+
+  pub couplings-few : r ≡ 0 → length betas * k ≤ 262144
+  couplings-few z =
+      let ok = accepted-graph n 0 a b m [] [] betas (sym (G .refusal) ∙ z) in
+      few-factors (length betas) k (ok .1 .few) (few (G .built z .written z) (ok .0 .lists))
+
+  -- the graph was refused
+  pub couplings-refused : {q e : ℕ} → q ≡ r → (r ≡ 0 → ⊥) → CheckedCouplings n a b m betas results q e early early′ late late′ mag mag′
+  couplings-refused p z = record { refusal = p ∙ refused-before parts r (G .refusal) z; built = λ o. absurd (z (sym p ∙ o)) }
+
+  wanted : r ≡ 0 → length betas * k ≡ length betas * length (kept a b m)
+  wanted z = ap (λ (x : ℕ). length betas * x) (G .built z .written z .edges)
+
+  -- 12 was found
+  pub couplings-misfit : {q e : ℕ} → q ≡ 12 → r ≡ 0 → (results ≡ length betas * k → ⊥)
+      → CheckedCouplings n a b m betas results q e early early′ late late′ mag mag′
+  couplings-misfit p z d = record {
+    refusal = p ∙ refused-here parts r (G .refusal) z (ap not (ne-eqb _ _ (λ e. d (e ∙ sym (wanted z)))));
+    built = λ o. absurd (omega arith);
+  }
+
+  pub couplings-passed : r ≡ 0 → results ≡ length betas * k → CheckedCouplings n a b m betas results 0 k early early′ late late′ mag mag′
+  couplings-passed z e = record {
+    refusal = refused-not parts r (G .refusal) z (ap not (eq-eqb _ _ (e ∙ wanted z)));
+    built = λ o. subst (λ x. Built n a b m x k early early′ late late′ mag mag′) z (G .built z);
+  }

@@ -1,20 +1,20 @@
 -- What is known of a job that the checks 1 to 8 have read.
 use mathlib.Core.Path.{_≡_}
-use mathlib.Core.Bool.{false, cond}
+use mathlib.Core.Bool.{false, cond, not}
 use mathlib.Core.List.{List}
-use Prim.Native.Nat.{ℕ, _≤_, _<_}
-use lib.Dec.{ltb}
+use Prim.Native.Nat.{ℕ, _*_, _≤_, _<_}
+use lib.Dec.{eqb, ltb}
 use lib.Ieee.{Float}
 use lib.ListN.{length, getD}
 use Rattle.vector.specs.Search.{some}
 use Rattle.transfer.specs.Job.{windowOf, tooManyNear}
 use Rattle.transfer.specs.Configuration.{numbered}
 use Rattle.checks.specs.Edges.{kept, earlyEnds, lateEnds, windowFrom}
-use Rattle.checks.specs.Request.{roomRequest, badPair}
+use Rattle.checks.specs.Request.{couplingRequest, jobRequest, roomRequest, badPair}
 use Rattle.checks.specs.Refusal as Refusal
-use Rattle.checks.specs.Refusal.{ofRoom}
-use Rattle.checks.specs.AcceptedJob.{AcceptedJob}
-use Rattle.lattice.specs.Keep.{Written, Ordered}
+use Rattle.checks.specs.Refusal.{ofGraph, ofCouplings, ofRoom}
+use Rattle.checks.specs.AcceptedJob.{AcceptedJob, AcceptedBetas}
+use Rattle.lattice.specs.Keep.{Written, Ordered, Built}
 use Rattle.plan.specs.Edges.{Edges}
 use Rattle.places.specs.Places.{Pairs}
 
@@ -23,6 +23,19 @@ pub record KeptEdges (n : ℕ) (early late : List ℕ) : Type 0 where
   pub few : n ≤ 1024
   pub ordered : Ordered early late
   pub inside : (e : ℕ) → e < length early → getD late e 0 < n
+
+-- The first of the checks 1 to 5 that fits a graph with betas and pairs, and the graph if there is none.
+pub record CheckedGraph (n : ℕ) (a b : List ℕ) (m : List Float) (us vs : List ℕ) (betas : List Float) (refused k : ℕ)
+    (early early′ late late′ : List ℕ) (mag mag′ : List Float) : Type 0 where
+  pub refusal : refused ≡ Refusal.refusal ofGraph (jobRequest n 0 a b m us vs betas)
+  pub matched : refused ≡ 0 → length vs ≡ length us
+  pub built : refused ≡ 0 → Built n a b m refused k early early′ late late′ mag mag′
+
+-- of `couplings`, with so many results: its own refusal, and the graph and betas if there is none
+pub record CheckedCouplings (n : ℕ) (a b : List ℕ) (m betas : List Float) (results refused k : ℕ) (early early′ late late′ : List ℕ)
+    (mag mag′ : List Float) : Type 0 where
+  pub refusal : refused ≡ Refusal.refusal ofCouplings (couplingRequest n a b m betas (not (eqb results (length betas * length (kept a b m)))))
+  pub built : refused ≡ 0 → Built n a b m refused k early early′ late late′ mag mag′
 
 -- of the checks 6, 7 and 8 the first that fits, at window w
 abbrev pub keptRefusal : (n w : ℕ) → (early late us vs : List ℕ) → ℕ
@@ -51,3 +64,10 @@ pub record CheckedJob (n floor : ℕ) (a b : List ℕ) (m : List Float) (us vs :
     (mag mag′ : List Float) : Type 0 where
   pub refusal : refused ≡ Refusal.refusal ofRoom (roomRequest n floor a b m us vs)
   pub ready : refused ≡ 0 → ReadyJob n floor a b m us vs k w early early′ late late′ mag mag′
+
+-- The same of a job with betas.
+pub record CheckedWithBetas (n floor : ℕ) (a b : List ℕ) (m : List Float) (us vs : List ℕ) (betas : List Float) (refused k w : ℕ)
+    (early early′ late late′ : List ℕ) (mag mag′ : List Float) : Type 0 where
+  pub refusal : refused ≡ Refusal.refusal ofRoom (jobRequest n floor a b m us vs betas)
+  pub ready : refused ≡ 0 → ReadyJob n floor a b m us vs k w early early′ late late′ mag mag′
+  pub betas-pass : refused ≡ 0 → AcceptedBetas betas

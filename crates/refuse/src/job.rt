@@ -5,11 +5,9 @@ ghost use Prim.Native.Nat.{_≤_};
 ghost use lib.ListN.{length};
 ghost use Rattle.vector.specs.Search.{some};
 ghost use Rattle.checks.specs.Request.{badPair};
-ghost use Rattle.refuse.specs.Checked.{KeptEdges, CheckedKept, CheckedJob};
+ghost use Rattle.refuse.specs.Checked.{KeptEdges, CheckedKept, CheckedWithBetas, CheckedJob};
+use crate::graph::check_graph;
 use lattice::bad_edges;
-use lattice::bad_lists;
-use lattice::bad_vertices;
-use lattice::build::build;
 use lattice::window_of;
 use plan::too_many_near;
 
@@ -68,7 +66,35 @@ fn check_kept(
     }
 }
 
-// Checks 1 to 8. Where none fits, the kept edges stand at the fronts of the three lists.
+// Checks 1 to 8 of a job with betas. Where none fits, the kept edges stand at the fronts of the three lists.
+pub fn check_with_betas(
+    n: usize,
+    floor: usize,
+    a: &[usize],
+    b: &[usize],
+    m: &[f64],
+    us: &[usize],
+    vs: &[usize],
+    betas: &[f64],
+    early: &mut [usize],
+    late: &mut [usize],
+    mag: &mut [f64],
+) -> Job
+    requires { ⌜ (4096 ≤ length (now early)) × (4096 ≤ length (now late)) × (4096 ≤ length (now mag)) ⌝ }
+    ensures { λ r. ⌜ CheckedWithBetas n floor (now (a .entry)) (now (b .entry)) (now (m .entry)) (now (us .entry)) (now (vs .entry))
+        (now (betas .entry)) (r .refusal) (r .edges) (r .window)
+        (now (early .entry)) (now (early .exit)) (now (late .entry)) (now (late .exit)) (now (mag .entry)) (now (mag .exit)) ⌝ }
+{
+    let graph = check_graph(n, a, b, m, us, vs, betas, early, late, mag);
+    let refusal = graph.refusal;
+    if refusal != 0 {
+        return refused(refusal);
+    }
+    let edges = graph.edges;
+    check_kept(n, floor, &early[..edges], &late[..edges], us, vs)
+}
+
+// Checks 1 to 8 of a job that has no betas.
 pub fn check_job(
     n: usize,
     floor: usize,
@@ -86,17 +112,5 @@ pub fn check_job(
         (r .refusal) (r .edges) (r .window)
         (now (early .entry)) (now (early .exit)) (now (late .entry)) (now (late .exit)) (now (mag .entry)) (now (mag .exit)) ⌝ }
 {
-    if bad_vertices(n) {
-        return refused(1);
-    }
-    if bad_lists(a.len(), b.len(), m.len(), us.len(), vs.len()) {
-        return refused(2);
-    }
-    let graph = build(n, a, b, m, early, late, mag);
-    let refusal = graph.refusal;
-    if refusal != 0 {
-        return refused(refusal);
-    }
-    let edges = graph.edges;
-    check_kept(n, floor, &early[..edges], &late[..edges], us, vs)
+    check_with_betas(n, floor, a, b, m, us, vs, &m[..0], early, late, mag)
 }

@@ -1,12 +1,34 @@
 // The checks that read what a caller lends for the sweeps: factors, results and work memory.
 ghost use mathlib.Core.Path.{_≡_};
 ghost use Prim.Native.Nat.{_≤_};
-ghost use Rattle.checks.specs.AcceptedJob.{listsRefusal};
+ghost use Rattle.checks.specs.AcceptedJob.{buffersRefusal, listsRefusal};
 ghost use Rattle.places.specs.Places.{Pairs};
 use crate::factors::bad_factors;
 use places::room;
 
-// Checks 10, 12 and 13, of a job that 1 to 8 pass: one factor for each kept edge, one result for each pair, and the room.
+// Checks 12 and 13, of a job that 1 to 8 pass: whether a result buffer misfits is given.
+pub(crate) fn check_buffers(
+    n: usize,
+    w: usize,
+    edges: usize,
+    us: &[usize],
+    vs: &[usize],
+    misfit: bool,
+    work: usize,
+) -> usize
+    requires { ⌜ Pairs (now us) (now vs) n × (n ≤ 1024) × (w ≤ 24) × (edges ≤ 4096) ⌝ }
+    ensures { λ r. ⌜ r ≡ buffersRefusal n w edges (now (us .entry)) (now (vs .entry)) misfit work ⌝ }
+{
+    if misfit {
+        return 12;
+    }
+    if work < room(n, w, edges, us, vs) {
+        return 13;
+    }
+    0
+}
+
+// Checks 10, 12 and 13 of such a job: one factor for each kept edge, one result for each pair, and the room.
 // Answers the refusal's number, 0 for accepted.
 pub fn check_lists(
     n: usize,
@@ -24,11 +46,5 @@ pub fn check_lists(
     if bad_factors(factors, edges) {
         return 10;
     }
-    if results != us.len() {
-        return 12;
-    }
-    if work < room(n, w, edges, us, vs) {
-        return 13;
-    }
-    0
+    check_buffers(n, w, edges, us, vs, results != us.len(), work)
 }
