@@ -16,9 +16,8 @@ use Rattle.vector.specs.Part.{Apart, apart-within, part, put, both, both-one, b
 use Rattle.transfer.specs.Job.{Step}
 use Rattle.transfer.specs.Rounded.{ieee}
 use Rattle.transfer.specs.Sweep as S
-use Rattle.sweep.specs.Step.{Tabled, patternBy}
+use Rattle.sweep.specs.Step.{Tables, Tabled, patternBy}
 use Rattle.sweep.specs.Rule.{entries, weights, inTurn, mix, backwardRule}
-use Rattle.sweep.specs.declared.tables.Tables.{Tables}
 use Rattle.sweep.proofs.Patterns.{AtBlock, block-ends, block-pattern}
 use Rattle.sweep.proofs.Rules.{turn-even, turn-odd, turn-pick, turn-same}
 use Rattle.sweep.proofs.Tabled.{before, read, up-weight, down-weight}

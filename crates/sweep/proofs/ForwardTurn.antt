@@ -12,9 +12,8 @@ use Rattle.vector.specs.Part.{Apart, apart-within, part, put, fill-none, fill-t
 use Rattle.transfer.specs.Job.{Step}
 use Rattle.transfer.specs.Rounded.{ieee}
 use Rattle.transfer.specs.Sweep as S
-use Rattle.sweep.specs.Step.{Rising, Tabled, patternFrom, patternBy}
+use Rattle.sweep.specs.Step.{Tables, Rising, Tabled, patternFrom, patternBy}
 use Rattle.sweep.specs.Rule.{entries, weights, inTurn, blend, forwardRule}
-use Rattle.sweep.specs.declared.tables.Tables.{Tables}
 use Rattle.sweep.proofs.Patterns.{AtBlock, block-ends, block-pattern}
 use Rattle.sweep.proofs.Tabled.{before, read, up-weight, down-weight}
 use Rattle.sweep.proofs.Rules.{turn-even, turn-odd, turn-pick, rule-even, rule-odd, rule-from}

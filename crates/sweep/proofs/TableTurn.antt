@@ -3,7 +3,6 @@ use mathlib.Core.Path.{_≡_, refl, sym, ap, _∙_}
 use mathlib.Core.Bool.{Bool, true, false, cond}
 use mathlib.Core.List.{List}
 use mathlib.Core.Logic.{dite}
-use mathlib.Core.Option.{Option, none, some}
 use Prim.Native.Nat.{ℕ, zero, suc, _+_, _-_, _/_, _%_, _^_, _≤_, _<_}
 use native.Mathlib.Decide.{decLt}
 use native.Mathlib.Numerals.{add-one}
@@ -11,25 +10,17 @@ use native.Mathlib.Omega.{arith}
 use lib.Dec.{eqb}
 use lib.ListN.{length, getD, set}
 use lib.Seq.{getD-set-other, getD-set-same}
-use lib.Ieee.{Float, nan, binary64, mul, div, round, ofBits}
+use lib.Ieee.{Float, nan, binary64, mul, div, ofBits}
 use Rattle.transfer.specs.Job.{Back}
 use Rattle.transfer.specs.Rounded.{ieee}
 use Rattle.transfer.specs.Sweep as S
 use Rattle.sweep.specs.Constants.{one-is}
-use Rattle.sweep.specs.Step.{nearEdges, leftEdge, stepFrom, patternFrom, Tabled}
-use Rattle.sweep.specs.declared.tables.Tables.{Tables}
+use Rattle.sweep.specs.Step.{Filled, nearEdges, leftEdge}
 
 near-length : (x : List Float) (bits : List ℕ) (i n : ℕ) → length (nearEdges x bits i n) ≡ n
 unfolding nearEdges
 near-length x bits i zero = refl
 near-length x bits i (suc n) = ap suc (near-length x bits (suc i) n)
-
-near-pattern : (x : List Float) (bits : List ℕ) (i n k : ℕ) → patternFrom bits i n k ≡ S.pattern (nearEdges x bits i n) k
-unfolding nearEdges patternFrom S.pattern
-near-pattern x bits i zero k = refl
-near-pattern x bits i (suc n) k =
-    let e : getD bits i 0 + 1 - 1 ≡ getD bits i 0 = omega arith in
-    rw (near-pattern x bits (suc i) n k, e) (omega arith)
 
 -- ---- the product of a pattern: f is the product so far, r the rest of the pattern
 
@@ -62,12 +53,6 @@ pub left-none : (there : Bool) (x : Float) → there ≡ false → ofBits binary
 unfolding S.ep leftEdge
 left-none there x e = rw (e, one-is)
 
--- 1.0 over 1.0 is 1.0
-minus-of : (o : Option Float) → div binary64 (ieee .𝟙) (S.ep ieee o) ≡ S.em ieee o
-unfolding S.ep S.em div round
-minus-of none = refl
-minus-of (some y) = refl
-
 -- ---- the two tables: one is filled from its front, the other from its end
 
 pub front-turn : (l : List Float) (g : ℕ → Float) (a : Float) (m : ℕ) → m < length l → a ≡ g m → ((j : ℕ) → j < m → getD l j nan ≡ g j)
@@ -88,21 +73,17 @@ pub up-is : (bs : List (Back Float)) (sc f : Float) (m : ℕ) → f ≡ S.produc
 unfolding S.up
 up-is bs sc f m e = rw e
 
--- what the loop leaves is the step's tables
-pub tabled : (there : Bool) (left sc : Float) (x : List Float) (full : ℕ) (t : Tables) → full ≡ 2 ^ t .count
-    → t .ep ≡ S.ep ieee (leftEdge there left) → t .em ≡ div binary64 (ofBits binary64 4607182418800017408) (t .ep)
-    → ((j : ℕ) → j < full → getD (t .up) j nan ≡ S.up ieee (nearEdges x (t .bits) 0 (t .count)) sc j)
-    → ((j : ℕ) → j < full → getD (t .down) (full - 1 - j) nan ≡ S.up ieee (nearEdges x (t .bits) 0 (t .count)) sc j)
-    → Tabled (stepFrom there left x (t .bits) (t .count)) sc t
+-- what the loop leaves is the weights
+pub filled : (x : List Float) (bits : List ℕ) (sc : Float) (full count : ℕ) (up down : List Float) → full ≡ 2 ^ count
+    → ((j : ℕ) → j < full → getD up j nan ≡ S.up ieee (nearEdges x bits 0 count) sc j)
+    → ((j : ℕ) → j < full → getD down (full - 1 - j) nan ≡ S.up ieee (nearEdges x bits 0 count) sc j)
+    → Filled (nearEdges x bits 0 count) sc count up down
 unfolding S.down
-tabled there left sc x full t ef p q u d =
+filled x bits sc full count up down ef u d =
     record {
-      plus = p;
-      minus = q ∙ rw (p, one-is) (minus-of (leftEdge there left));
-      picks = near-pattern x (t .bits) 0 (t .count);
       ups = λ m l. u m (omega arith);
       downs = λ m l.
           let a : full - 1 - (full - 1 - m) ≡ m = omega arith in
-          let k : 2 ^ length (nearEdges x (t .bits) 0 (t .count)) ≡ full = rw (near-length x (t .bits) 0 (t .count), ef) in
+          let k : 2 ^ length (nearEdges x bits 0 count) ≡ full = rw (near-length x bits 0 count, ef) in
           rw k (rw a at (d (full - 1 - m) (omega arith)));
     }

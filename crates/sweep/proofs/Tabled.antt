@@ -8,9 +8,8 @@ use Rattle.vector.specs.Part.{part, part-read}
 use Rattle.transfer.specs.Job.{Step}
 use Rattle.transfer.specs.Rounded.{ieee}
 use Rattle.transfer.specs.Sweep as S
-use Rattle.sweep.specs.Step.{Tabled}
+use Rattle.sweep.specs.Step.{Tables, Tabled}
 use Rattle.sweep.specs.Rule.{weights}
-use Rattle.sweep.specs.declared.tables.Tables.{Tables}
 use Rattle.sweep.proofs.Patterns.{pattern-lt}
 
 -- the entries of the vector that lies at src

@@ -1,4 +1,5 @@
 pub mod Step
 pub mod Constants
+pub mod Tables
 pub mod Rule
 pub mod Place

@@ -9,7 +9,6 @@ use lib.Ieee.{Float, nan}
 use Rattle.transfer.specs.Job.{Back, Step}
 use Rattle.transfer.specs.Rounded.{ieee}
 use Rattle.transfer.specs.Sweep as S
-use Rattle.sweep.specs.declared.tables.Tables.{Tables}
 
 -- n near edges from number i on. A near edge reads bit `distance - 1`.
 unfoldable pub nearEdges : List Float → List ℕ → ℕ → ℕ → List (Back Float)
@@ -36,6 +35,24 @@ pub record Rising (l : List ℕ) (n h : ℕ) : Type 0 where
   pub few : n ≤ 4
   pub rise : (i j : ℕ) → i < j → j < n → getD l i 0 < getD l j 0
   pub low : (i : ℕ) → i < n → getD l i 0 < h
+
+-- The tables of a step: how many near edges there are and the bits that they read; ep and em of the left edge; what the spins of the near
+-- edges weigh with the new spin up, and with it down.
+pub record Tables : Type 0 where
+  pub count : ℕ
+  pub ep : Float
+  pub em : Float
+  pub bits : List ℕ
+  pub up : List Float
+  pub down : List Float
+
+abbrev pub tables : ℕ → Float → Float → List ℕ → List Float → List Float → Tables
+tables count ep em bits up down = record { count = count; ep = ep; em = em; bits = bits; up = up; down = down }
+
+-- the weights of these near edges with the scale sc
+pub record Filled (others : List (Back Float)) (sc : Float) (count : ℕ) (up down : List Float) : Type 0 where
+  pub ups : (m : ℕ) → m < 2 ^ count → getD up m nan ≡ S.up ieee others sc m
+  pub downs : (m : ℕ) → m < 2 ^ count → getD down m nan ≡ S.down ieee others sc m
 
 -- the tables are those of the definition's step s with the scale sc
 pub record Tabled (s : Step Float) (sc : Float) (t : Tables) : Type 0 where

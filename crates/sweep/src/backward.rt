@@ -7,14 +7,13 @@ ghost use Rattle.vector.specs.Part.{Apart, both};
 ghost use Rattle.transfer.specs.Job.{Step};
 ghost use Rattle.transfer.specs.Rounded.{ieee};
 ghost use Rattle.transfer.specs.Sweep.{backwardStep};
-ghost use Rattle.sweep.specs.Step.{Rising, Tabled};
+ghost use Rattle.sweep.specs.Step.{Rising, Tabled, tables};
 ghost use Rattle.sweep.specs.Rule.{entries, weights, inTurn, backwardRule};
 ghost use Rattle.sweep.specs.Place.{Places, held, hold};
 use crate::blocks::block_bit;
 use crate::blocks::low_count;
 use crate::blocks::pattern_of;
 use crate::blocks::pow2;
-use crate::tables::Tables;
 
 // A run of one pattern, one pair a turn: source at s, targets at lo and hi.
 fn backward_one(
@@ -154,18 +153,24 @@ fn backward_blocks(
 }
 
 // The backward step from the vector at place src to place dst.
-pub fn step_backward(room: &mut [f64], src: usize, dst: usize, w: usize, t: Tables)
-    requires { ⌜ Places (length (now room)) w src dst × Rising (t .bits) (t .count) (w - 1) ⌝ }
-    ensures { λ _. ⌜ ((s : Step Float) (sc : Float) → Tabled s sc t
+pub fn step_backward(
+    room: &mut [f64],
+    src: usize,
+    dst: usize,
+    w: usize,
+    ep: f64,
+    em: f64,
+    bits: &[usize; 4],
+    count: usize,
+    up: &[f64; 16],
+    down: &[f64; 16],
+)
+    requires { ⌜ Places (length (now room)) w src dst × Rising (now bits) count (w - 1) ⌝ }
+    ensures { λ _. ⌜ ((s : Step Float) (sc : Float)
+        → Tabled s sc (tables count ep em (now (bits .entry)) (now (up .entry)) (now (down .entry)))
         → now (room .exit) ≡ hold (now (room .entry)) w dst (backwardStep ieee w s sc (held (now (room .entry)) w src))) ⌝ }
 {
     let size = pow2(w);
-    let n = t.count;
-    let ep = t.ep;
-    let em = t.em;
-    let bits = t.bits;
-    let up = t.up;
-    let down = t.down;
     backward_blocks(
         room,
         src * size,
@@ -173,9 +178,9 @@ pub fn step_backward(room: &mut [f64], src: usize, dst: usize, w: usize, t: Tabl
         w - 1,
         ep,
         em,
-        &bits,
-        n,
-        &up,
-        &down,
+        bits,
+        count,
+        up,
+        down,
     );
 }

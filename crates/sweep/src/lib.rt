@@ -11,5 +11,5 @@ pub use blocks::pow2;
 pub use entries::alternate;
 pub use entries::fill;
 pub use forward::step_forward;
-pub use tables::Tables;
-pub use tables::tables_of;
+pub use tables::fill_tables;
+pub use tables::left_factor;

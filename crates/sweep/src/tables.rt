@@ -1,25 +1,15 @@
-// The tables of a step, by value: they depend on the step's edges and the scale alone.
+// The tables of a step: they depend on the step's edges and the scale alone.
 ghost use mathlib.Core.Path.{_≡_};
 ghost use mathlib.Core.Bool.{cond};
 ghost use mathlib.Core.List.{List};
 ghost use Prim.Native.Nat.{ℕ, _≤_};
 ghost use lib.Dec.{eqb};
 ghost use lib.Ieee.{binary64, mul, div};
+ghost use lib.ListN.{length};
 ghost use Rattle.transfer.specs.Rounded.{ieee};
 ghost use Rattle.transfer.specs.Sweep as S;
-ghost use Rattle.sweep.specs.Step.{nearEdges, leftEdge, stepFrom, Tabled};
+ghost use Rattle.sweep.specs.Step.{nearEdges, leftEdge, Filled};
 use crate::blocks::pow2;
-
-// How many near edges there are and the bits that they read; ep and em of the left edge; what the spins of the near edges weigh with
-// the new spin up, and with it down.
-pub struct Tables {
-    pub count: usize,
-    pub ep: f64,
-    pub em: f64,
-    pub bits: [usize; 4],
-    pub up: [f64; 16],
-    pub down: [f64; 16],
-}
 
 // f over x where b is 1, else f times x.
 fn weighed(f: f64, x: f64, b: usize) -> f64
@@ -45,43 +35,24 @@ fn product(factors: &[f64; 4], n: usize, m: usize) -> f64
 }
 
 // The left edge's factor, or 1.0.
-fn left_factor(linked: bool, left: f64) -> f64
+pub fn left_factor(linked: bool, left: f64) -> f64
     ensures { λ r. ⌜ r ≡ S.ep ieee (leftEdge linked left) ⌝ }
 {
     if linked { left } else { 1.0 }
 }
 
-// The tables of the step with this left edge and the first `count` near edges. A near edge reads bit `distance - 1`.
-pub fn tables_of(
-    linked: bool,
-    left: f64,
-    factors: [f64; 4],
-    bits: [usize; 4],
-    count: usize,
-    scale: f64,
-) -> Tables
-    requires { ⌜ count ≤ 4 ⌝ }
-    ensures { λ t. ⌜ Tabled (stepFrom linked left factors bits count) scale t ⌝ }
-    ensures { λ t. ⌜ (t .count ≡ count) × (t .bits ≡ bits) ⌝ }
+// What the spins of the first `count` near edges weigh, with the new spin up and with it down.
+pub fn fill_tables(factors: &[f64; 4], count: usize, scale: f64, up: &mut [f64], down: &mut [f64])
+    requires { ⌜ (count ≤ 4) × (16 ≤ length (now up)) × (16 ≤ length (now down)) ⌝ }
+    ensures { λ _. ⌜ ((bits : List ℕ) → Filled (nearEdges (now (factors .entry)) bits 0 count) scale count (now (up .exit)) (now (down .exit))) ⌝ }
 {
     let full = pow2(count);
-    let mut up = [0.0; 16];
-    let mut down = [0.0; 16];
     let mut m = 0usize;
     while m < full {
         let mirrored = full - 1 - m;
-        let f = product(&factors, count, m);
+        let f = product(factors, count, m);
         up[m] = f * scale;
         down[mirrored] = f * scale;
         m += 1;
-    }
-    let ep = left_factor(linked, left);
-    Tables {
-        count: count,
-        ep: ep,
-        em: 1.0 / ep,
-        bits: bits,
-        up: up,
-        down: down,
     }
 }

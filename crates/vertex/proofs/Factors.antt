@@ -1,5 +1,5 @@
 -- The factors in the room, read by edge.
-use mathlib.Core.Path.{_≡_, refl, sym, ap, _∙_}
+use mathlib.Core.Path.{_≡_, refl, sym, ap, _∙_, subst}
 use mathlib.Core.Bool.{Bool, true, false, not}
 use mathlib.Core.List.{List, []}
 use mathlib.Core.Option.{Option, none, some}
@@ -8,10 +8,13 @@ use native.Mathlib.Omega.{arith}
 use lib.Dec.{eqb, eqb·suc-zero}
 use lib.ListN.{getD, drop}
 use lib.Seq.{getD-drop}
-use lib.Ieee.{Float, nan}
+use lib.Ieee.{Float, nan, binary64, div}
 use Rattle.transfer.specs.Job.{Back, Step}
 use Rattle.plan.specs.Layout.{Vertex, named, nearFrom, stepIn, leftEdge as leftOf, nearCount, nearEdge, nearBit}
-use Rattle.sweep.specs.Step.{nearEdges, leftEdge, stepFrom, Rising}
+use Rattle.transfer.specs.Rounded.{ieee}
+use Rattle.transfer.specs.Sweep as S
+use Rattle.sweep.specs.Step.{nearEdges, leftEdge, stepFrom, Rising, tables, Filled, Tabled}
+use Rattle.sweep.specs.Tables.{tabled}
 
 pub factor-is : (r : List Float) (f e k : ℕ) → e ≡ k → getD r (f + e) nan ≡ getD (drop f r) k nan
 factor-is r f e k p = ap (λ (i : ℕ). getD r (f + i) nan) p ∙ sym (getD-drop f r k nan)
@@ -32,7 +35,7 @@ module _ (plan : List ℕ) (x : List Float) (t : ℕ) where
   left-same zero left h = refl
   left-same (suc k) left h = rw (eqb·suc-zero k, h (λ e. omega arith))
 
-  pub step-same : (k count : ℕ) (left : Float) (factors : List Float) (bits : List ℕ) → k ≡ leftOf plan t → count ≡ nearCount plan t
+  step-same : (k count : ℕ) (left : Float) (factors : List Float) (bits : List ℕ) → k ≡ leftOf plan t → count ≡ nearCount plan t
       → ((k ≡ 0 → ⊥) → left ≡ getD x (k - 1) nan)
       → ((j : ℕ) → j < nearCount plan t → getD factors j nan ≡ getD x (nearEdge plan t j) nan)
       → ((j : ℕ) → j < nearCount plan t → getD bits j 0 ≡ nearBit plan t j)
@@ -42,6 +45,18 @@ module _ (plan : List ℕ) (x : List Float) (t : ℕ) where
       let o =
       ap (nearEdges factors bits 0) ec ∙ near-same factors bits 0 (nearCount plan t) (λ j a b. (hf j (omega arith), hb j (omega arith))) in
       cc
+
+  pub tables-made : (k count : ℕ) (left ep sc : Float) (factors : List Float) (bits : List ℕ) (up down : List Float) → k ≡ leftOf plan t
+      → count ≡ nearCount plan t → ((k ≡ 0 → ⊥) → left ≡ getD x (k - 1) nan)
+      → ((j : ℕ) → j < nearCount plan t → getD factors j nan ≡ getD x (nearEdge plan t j) nan)
+      → ((j : ℕ) → j < nearCount plan t → getD bits j 0 ≡ nearBit plan t j)
+      → ep ≡ S.ep ieee (leftEdge (not (eqb k 0)) left) → Filled (nearEdges factors bits 0 count) sc count up down
+      → Tabled (stepIn plan x t) sc (tables (nearCount plan t) ep (div binary64 (ieee .𝟙) ep) bits up down)
+  tables-made k count left ep sc factors bits up down ek ec hl hf hb p g =
+      let step = step-same k count left factors bits ek ec hl hf hb in
+      let made = tabled (not (eqb k 0)) left ep sc factors bits count up down p g in
+      subst (λ (c : ℕ). Tabled (stepIn plan x t) sc (tables c ep (div binary64 (ieee .𝟙) ep) bits up down)) ec
+      (subst (λ (s : Step Float). Tabled s sc (tables count ep (div binary64 (ieee .𝟙) ep) bits up down)) step made)
 
   pub bits-rise : (w m count : ℕ) (bits : List ℕ) → Vertex plan w m t → count ≡ nearCount plan t
       → ((j : ℕ) → j < nearCount plan t → getD bits j 0 ≡ nearBit plan t j) → Rising bits count (w - 1)

@@ -7,6 +7,7 @@ ghost use Rattle.plan.specs.Layout.{stepIn};
 ghost use Rattle.sweep.specs.Place.{held, hold};
 ghost use Rattle.vertex.specs.Ready.{Stepping};
 use crate::tables::tables_at;
+use plan::near_count;
 use sweep::step_backward;
 use sweep::step_forward;
 
@@ -25,8 +26,22 @@ pub fn forward_at(
     ensures { λ _. ⌜ now (room .exit) ≡ hold (now (room .entry)) w dst
         (forwardStep ieee w (stepIn (now (plan .entry)) (drop factors (now (room .entry))) t) scale (held (now (room .entry)) w src)) ⌝ }
 {
-    let tables = tables_at(room, factors, plan, w, t, scale);
-    step_forward(room, src, dst, w, tables);
+    let mut bits = [0usize; 4];
+    let mut up = [0.0f64; 16];
+    let mut down = [0.0f64; 16];
+    let ep = tables_at(
+        room,
+        factors,
+        plan,
+        w,
+        t,
+        scale,
+        &mut bits,
+        &mut up,
+        &mut down,
+    );
+    let count = near_count(plan, t);
+    step_forward(room, src, dst, w, ep, 1.0 / ep, &bits, count, &up, &down);
 }
 
 // The backward step at t likewise.
@@ -44,6 +59,20 @@ pub fn backward_at(
     ensures { λ _. ⌜ now (room .exit) ≡ hold (now (room .entry)) w dst
         (backwardStep ieee w (stepIn (now (plan .entry)) (drop factors (now (room .entry))) t) scale (held (now (room .entry)) w src)) ⌝ }
 {
-    let tables = tables_at(room, factors, plan, w, t, scale);
-    step_backward(room, src, dst, w, tables);
+    let mut bits = [0usize; 4];
+    let mut up = [0.0f64; 16];
+    let mut down = [0.0f64; 16];
+    let ep = tables_at(
+        room,
+        factors,
+        plan,
+        w,
+        t,
+        scale,
+        &mut bits,
+        &mut up,
+        &mut down,
+    );
+    let count = near_count(plan, t);
+    step_backward(room, src, dst, w, ep, 1.0 / ep, &bits, count, &up, &down);
 }

@@ -12,34 +12,28 @@ pow2-requires : tie.Need-pow2-requires
 pow2-requires c κs = search needs
 
 mul-backward-blocks : tie.Need-mul-backward-blocks
-mul-backward-blocks c =
-    let made = c .before .before .before .before in
-    rw (made .pow2 .ensures) (omega (arith, made .before .before .pre .0 .from .inside))
+mul-backward-blocks c = rw (c .before .pow2 .ensures) (omega (arith, c .before .before .before .pre .0 .from .inside))
 
 mul-backward-blocks-2 : tie.Need-mul-backward-blocks-2
-mul-backward-blocks-2 c =
-    let made = c .before .before .before .before in
-    rw (made .pow2 .ensures) (omega (arith, made .before .before .pre .0 .to .inside))
+mul-backward-blocks-2 c = rw (c .before .pow2 .ensures) (omega (arith, c .before .before .before .pre .0 .to .inside))
 
 sub-backward-blocks : tie.Need-sub-backward-blocks
 sub-backward-blocks c = search needs
 
 backward-blocks-requires : tie.Need-backward-blocks-requires
 backward-blocks-requires c κs =
-    let made = c .before .before .before .before .before .before .before in
-    let s = made .before .before in
+    let s = c .before .before .before in
     let p = s .pre .0 in
-    (omega (arith, p .from .narrow), rw (made .pow2 .ensures, ← pow-double (s .args .w) (p .from .wide)) (places-apart p), s .pre .1)
+    (omega (arith, p .from .narrow), rw (c .before .pow2 .ensures, ← pow-double (s .args .w) (p .from .wide)) (places-apart p), s .pre .1)
 
 same-length : tie.Need-same-length
 same-length c = search needs
 
 returns : tie.Need-returns
 returns c = λ s sc a.
-    let made = c .before .before .before .before .before .before .before .before .before .before in
-    let p = made .before .before .pre .0 in
-    rw (made .pow2 .ensures) at (c .before .before .backward-blocks .ensures)
-    ∙ backward-is s sc _ a _ (made .before .before .args .room .now) _ _ (p .from .wide) (p .from .inside) (p .to .inside)
+    let p = c .before .before .before .before .before .before .pre .0 in
+    rw (c .before .before .before .before .pow2 .ensures) at (c .before .before .backward-blocks .ensures)
+    ∙ backward-is s sc _ a _ (c .before .before .before .before .before .before .args .room .now) _ _ (p .from .wide) (p .from .inside) (p .to .inside)
 
 pub step-backward-spec : {M : Type 1} → statement M
 step-backward-spec =

@@ -1,9 +1,6 @@
-use mathlib.Core.Path.{subst}
+use native.Mathlib.Omega.{arith}
 use lib.ListN.{drop}
-use lib.Ieee.{Float}
-use Rattle.transfer.specs.Job.{Step}
-use Rattle.sweep.specs.Step.{Tabled, Rising}
-use Rattle.vertex.proofs.Factors.{step-same, bits-rise}
+use Rattle.vertex.proofs.Factors.{tables-made, bits-rise}
 use borrow.Author.Needs.{needs}
 use Rattle.vertex.proofs.tables.tables_at.Statement.{statement}
 use Rattle.vertex.proofs.tables.tables_at.Tie as tie
@@ -11,56 +8,77 @@ use Rattle.vertex.proofs.tables.tables_at.Reads as reads
 use Rattle.vertex.proofs.tables.tables_at.Lts as lts
 use Rattle.plan.proofs.left_edge.Reads as left-edge-reads
 use Rattle.plan.proofs.near_count.Reads as near-count-reads
-use Rattle.sweep.proofs.tables_of.Reads as tables-of-reads
+use Rattle.sweep.proofs.fill_tables.Reads as fill-tables-reads
+use Rattle.sweep.proofs.left_factor.Reads as left-factor-reads
 use Rattle.vertex.proofs.tables.factor_of.Reads as factor-of-reads
-use Rattle.vertex.proofs.tables.near_bits.Reads as near-bits-reads
-use Rattle.vertex.proofs.tables.near_factors.Reads as near-factors-reads
+use Rattle.vertex.proofs.tables.near_edges.Reads as near-edges-reads
 
--- src/tables.rt:74:9
-left-edge-requires : tie.Need-left-edge-requires
-left-edge-requires c κs = search needs
+-- src/tables.rt:71:43
+slice-aggregate-near-edges : tie.Need-slice-aggregate-near-edges
+slice-aggregate-near-edges c = search needs
 
--- src/tables.rt:75:9
-factor-of-requires : tie.Need-factor-of-requires
-factor-of-requires c κs = search needs
+-- src/tables.rt:71:5
+near-edges-requires : tie.Need-near-edges-requires
+near-edges-requires c κs = search needs
 
--- src/tables.rt:76:9
-near-factors-requires : tie.Need-near-factors-requires
-near-factors-requires c κs = search needs
-
--- src/tables.rt:77:9
-near-bits-requires : tie.Need-near-bits-requires
-near-bits-requires c κs = search needs
-
--- src/tables.rt:78:9
+-- src/tables.rt:72:21
 near-count-requires : tie.Need-near-count-requires
 near-count-requires c κs = search needs
 
--- src/tables.rt:79:5
-tables-of-requires : tie.Need-tables-of-requires
-tables-of-requires c κs = search needs
+-- src/tables.rt:72:5
+fill-tables-requires : tie.Need-fill-tables-requires
+fill-tables-requires c κs = let s = c .before .before .before .before .before .before .before .before .before .before .before .before .before .before .before .pre in (omega (arith, c .before .before .near-count .ensures, s .0 .vertex .few), s .2, s .3)
 
--- src/tables.rt:62:1
+-- src/tables.rt:73:9
+left-edge-requires : tie.Need-left-edge-requires
+left-edge-requires c κs = search needs
+
+-- src/tables.rt:74:25
+factor-of-requires : tie.Need-factor-of-requires
+factor-of-requires c κs = search needs
+
+-- src/tables.rt:74:5
+left-factor-requires : tie.Need-left-factor-requires
+left-factor-requires c κs = search needs
+
+-- src/tables.rt:54:1
+same-length : tie.Need-same-length
+same-length c = search needs
+
+-- src/tables.rt:54:1
+same-length-2 : tie.Need-same-length-2
+same-length-2 c = search needs
+
+-- src/tables.rt:54:1
+same-length-3 : tie.Need-same-length-3
+same-length-3 c = search needs
+
+-- src/tables.rt:54:1
 returns : tie.Need-returns
 returns c =
-    let a = c .before .before .before .before .before .before .before .before .args in
+    let s = c .before .before .before .before .before .before .before .before .before .before .before .before .before .before .before .before .before .before .before .before .before .before .before in
+    let a = s .args in
     let x = drop (a .factors) (a .room .now) in
-    let bits = c .before .before .near-bits .ensures in
-    let count = c .before .near-count .ensures in
-    let step = step-same (a .plan .now) x (a .t) _ _ _ _ _ (c .before .before .before .before .before .left-edge .ensures) count (c .before .before .before .before .factor-of .ensures) (c .before .before .before .near-factors .ensures) bits in
-    let made = c .tables-of .ensures in (
-      subst (λ (s : Step Float). Tabled s (a .scale) (c .tables-of .result)) step (made .0),
-      rw (made .1 .0, made .1 .1) (bits-rise (a .plan .now) x (a .t) (a .w) _ _ _ (c .before .before .before .before .before .before .before .before .pre .vertex) count bits),
+    let near = c .before .before .before .before .before .before .before .before .before .before .before .before .before .before .before .near-edges .ensures in
+    let count = c .before .before .before .before .before .before .before .before .before .before .near-count .ensures in
+    let bits = c .before .before .before .before .before .before .before .before .before .before .before .before .before .before .before .near-edges .last .1 .1 .1 .1 .1 .1 .0 in (
+      tables-made (a .plan .now) x (a .t) _ _ _ _ _ _ bits _ _ (c .before .before .left-edge .ensures) count (c .before .factor-of .ensures) (near .0) (near .1)
+          (c .left-factor .ensures) (c .before .before .before .before .before .before .before .fill-tables .ensures bits),
+      rw (← count) (bits-rise (a .plan .now) x (a .t) (a .w) _ _ _ (s .pre .0 .vertex) count (near .1)),
     )
 
 pub tables-at-spec : {M : Type 1} → statement M
 tables-at-spec =
     tie.close
     (tie.spec
+    slice-aggregate-near-edges
+    near-edges-requires
+    near-count-requires
+    fill-tables-requires
     left-edge-requires
     factor-of-requires
-    near-factors-requires
-    near-bits-requires
-    near-count-requires
-    tables-of-requires
+    left-factor-requires
+    same-length
+    same-length-2
+    same-length-3
     returns)
