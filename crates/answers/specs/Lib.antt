@@ -1,4 +1,5 @@
 -- The definitions that the contracts cite.
 pub mod Sound
 pub mod Served
+pub mod Planning
 pub mod Hand

@@ -21,26 +21,13 @@ use Rattle.checks.specs.Refusal.{checks, among, refusal, ofRoom, ofLists, ofCor
 use Rattle.checks.specs.Later.{orElse, is-among}
 use Rattle.checks.specs.AcceptedJob.{listsRefusal, correlations-in-parts, accepted-lists}
 use Rattle.lattice.specs.Fronts.{front-early, front-late}
-use Rattle.refuse.specs.Checked.{ReadyJob, CheckedJob}
+use Rattle.refuse.specs.Checked.{ReadyJob}
+use Rattle.refuse.specs.Plannable.{edge-count, plannable}
 use Rattle.answers.specs.Sound.{unsound}
 use Rattle.glass.specs.Correlations.{mannerOf, jobGiven, zeros, settled, cleared, Correlated}
+use Rattle.glass.specs.Settling.{settled-not, cleared-not, not-14}
 use Rattle.glass.specs.Passed.{Passed, Finished}
 use Rattle.glass.specs.declared.Manner.{Manner}
-
--- a refusal by a check that stands before 14 leaves the lists as they were
-settled-not : (r : ℕ) (new old : List Float) → (r ≡ 0 → ⊥) → (r ≡ 14 → ⊥) → old ≡ settled r new old
-unfolding settled
-settled-not r new old p q = rw (ne-eqb r 0 p, ne-eqb r 14 q)
-
-cleared-not : (r end : ℕ) (old : List Float) → (r ≡ 0 → ⊥) → (r ≡ 14 → ⊥) → old ≡ cleared r end old
-unfolding cleared
-cleared-not r end old p q = rw (ne-eqb r 0 p, ne-eqb r 14 q)
-
--- an answer of checks that 14 is not among
-not-14 : (concerned : List ℕ) (k : ℕ) → among concerned 14 ≡ false → ((k ≡ 0 → ⊥) → among concerned k ≡ true) → k ≡ 14 → ⊥
-not-14 concerned k f t p =
-    let v : true ≡ false = sym (t (λ z. omega arith)) ∙ ap (among concerned) p ∙ f in
-    (let z : _≡_ {A = ℕ} 0 1 = cc in omega arith)
 
 module _ (n floor : ℕ) (a b : List ℕ) (m : List Float) (us vs : List ℕ) (factors : List Float) (manner : Manner) (results work : List Float) where
   abbrev job : Job Float
@@ -115,10 +102,6 @@ module _ (n floor : ℕ) (a b : List ℕ) (m : List Float) (us vs : List ℕ) (f
 
 module _ {n floor : ℕ} {a b : List ℕ} {m : List Float} {us vs : List ℕ} {k w : ℕ} {early early′ late late′ : List ℕ} {mag mag′ : List Float}
     (g : ReadyJob n floor a b m us vs k w early early′ late late′ mag mag′) where
-  -- the fronts of the lists are the kept edges
-  abbrev edgeCount : length (earlyEnds (kept a b m)) ≡ length (kept a b m)
-  edgeCount = length-map (kept a b m) (λ x. x .early)
-
   pub lists-of : (factors : List Float) (results work : ℕ)
       → listsRefusal n w k us vs factors results work ≡ listsRefusal n (windowFrom floor a b m) (length (kept a b m)) us vs factors results work
   lists-of factors results work = rw (g .window, g .written .edges)
@@ -127,21 +110,8 @@ module _ {n floor : ℕ} {a b : List ℕ} {m : List Float} {us vs : List ℕ} {k
       → Passed n w (take k early′) (take k late′) us vs factors results work
   passed-of factors results work z =
       let l = accepted-lists n w k us vs factors results work z in
-      let p = g .passed in
-      let c = edgeCount ∙ sym (g .written .edges) in
-      rw (front-early (g .written), front-late (g .written))
-      record {
-        some = p .graph .some-vertex;
-        edges = g .edges;
-        few-edges = omega (arith, g .few-edges);
-        few-near = g .near;
-        pairs = g .pairs;
-        distinct = p .ends-apart;
-        few-pairs = p .few-pairs;
-        factored = l .factor-count ∙ sym c;
-        fitting = l .fitting;
-        roomy = rw c (l .enough);
-      }
+      rw (front-early (g .written))
+      record { job = rw (← front-early (g .written)) (plannable g work (l .enough)); factored = l .factor-count ∙ g .written .edges ∙ sym (edge-count g); fitting = l .fitting }
 
   pub finished-of : (factors : List Float) (manner : Manner) (each sound : Bool) (results work work′ : List Float)
       → cond each perElement block ≡ mannerOf manner
@@ -153,6 +123,6 @@ module _ {n floor : ℕ} {a b : List ℕ} {m : List Float} {us vs : List ℕ} {k
       let q = subst (λ (v : ℕ). Finished (jobOf nan n v (earlyEnds (kept a b m)) (lateEnds (kept a b m)) factors (cond each perElement block))
       n (length (earlyEnds (kept a b m))) us vs sound results work work′) (g .window) p in
       let s = subst (λ (c : ℕ). Finished (jobOf nan n (windowFrom floor a b m) (earlyEnds (kept a b m)) (lateEnds (kept a b m)) factors (cond each perElement block))
-      n c us vs sound results work work′) edgeCount q in
+      n c us vs sound results work work′) (edge-count g) q in
       subst (λ (x : Job.Manner). Finished (jobOf nan n (windowFrom floor a b m) (earlyEnds (kept a b m)) (lateEnds (kept a b m)) factors x)
       n (length (kept a b m)) us vs sound results work work′) e s

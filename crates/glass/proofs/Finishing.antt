@@ -14,14 +14,12 @@ use Rattle.transfer.specs.Configuration.{jobOf}
 use Rattle.transfer.specs.Room.{room}
 use Rattle.transfer.specs.Rounded.{ieee}
 use Rattle.transfer.specs.Sweep as S
-use Rattle.plan.specs.Layout.{Holds}
 use Rattle.places.specs.Work.{Laid, Planned}
-use Rattle.vertex.specs.Ready.{Ready, PlanOf}
+use Rattle.vertex.specs.Ready.{PlanOf}
 use Rattle.answers.specs.Sound.{unsound}
-use Rattle.answers.specs.Served.{Served, served}
+use Rattle.answers.specs.Planning.{plan-of, end-fits}
 use Rattle.glass.specs.Correlations.{zeros}
 use Rattle.glass.specs.Passed.{Passed, Finished}
-use Rattle.glass.proofs.Planning.{ready-of, plan-of}
 
 -- a list laid at another's end is what lies there
 laid-last : (d x : List Float) (at : ℕ) → at + length x ≡ length d → drop at (put d at x) ≡ x
@@ -35,19 +33,9 @@ laid-last d x at e =
 
 module _ (plan early late us vs : List ℕ) (factors : List Float) (n w places scales at end results work : ℕ)
     (p : Passed n w early late us vs factors results work) (g : Planned plan early late us vs n w places scales at end) where
-  -- the room is what 01 says, and there is so much
-  pub end-fits : end ≤ work
-  end-fits = omega (arith, g .ends, p .roomy)
-
   -- the factors end where the room ends
   pub factors-fit : at + length factors ≡ end
   factors-fit = omega (arith, g .laid .ends, p .factored)
-
-  pub ready : Holds plan n → Ready plan end n w scales
-  ready holds = ready-of plan early late us vs n w places scales at end g (p .edges .wide) (p .edges .narrow) holds
-
-  pub serves : Served plan us vs n w
-  serves = served plan us vs n w (g .kept) (p .pairs) (p .distinct)
 
   -- what the run says of any job that the plan is of, it says of this one
   module _ (memory room₁ room₂ results′ : List Float) (each sound : Bool) (long : length memory ≡ work)
@@ -55,7 +43,7 @@ module _ (plan early late us vs : List ℕ) (factors : List Float) (n w places s
       (said : (J : Job Float) → PlanOf J plan (drop (scales + n) room₁) n w each
       → (sound ≡ not (unsound J us vs)) × (results′ ≡ cond sound (S.answers ieee J us vs) (zeros (length us)))) where
     taken : length (take end memory) ≡ end
-    taken = length-take-le end memory (omega (arith, end-fits))
+    taken = length-take-le end memory (omega (arith, end-fits plan early late us vs n w places scales at end work (p .job) g))
 
     in-room : drop (scales + n) room₁ ≡ factors
     in-room =
@@ -74,7 +62,7 @@ module _ (plan early late us vs : List ℕ) (factors : List Float) (n w places s
     finished =
         let J = jobOf nan n w early late factors (cond each perElement block) in
         let of : PlanOf J plan (drop (scales + n) room₁) n w each =
-        rw in-room (plan-of plan early late us vs n w places scales at end g (p .some) factors each) in
+        rw in-room (plan-of plan early late us vs n w places scales at end g (p .job .some) factors each) in
         let s = said J of in
         let z : room₂ ≡ zeros (room n w (length early) us vs) = cleared ∙ ap zeros (same ∙ g .ends) in
         let k : length (zeros (room n w (length early) us vs)) ≡ end = length-replicate _ _ ∙ sym (g .ends) in

@@ -2,5 +2,4 @@
 mod Lists
 mod Calling
 mod Finishing
-mod Planning
 mod Running

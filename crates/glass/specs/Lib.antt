@@ -1,3 +1,4 @@
 -- The definitions that the contracts cite.
 pub mod Correlations
+pub mod Settling
 pub mod Passed

@@ -2,3 +2,4 @@
 pub mod Places
 pub mod Work
 pub mod Order
+pub mod Plannable

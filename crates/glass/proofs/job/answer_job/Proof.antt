@@ -16,7 +16,7 @@ slice-aggregate-plan-and-run-2 c = search needs
 
 -- src/job.rt:81:5
 plan-and-run-requires : tie.Need-plan-and-run-requires
-plan-and-run-requires c κs = let few = c .before .before .before .before .before .before .before .before .before .before .before .pre .edges .few in (c .before .before .before .before .before .before .before .before .before .before .before .pre, (omega arith, omega arith))
+plan-and-run-requires c κs = let few = c .before .before .before .before .before .before .before .before .before .before .before .pre .job .edges .few in (c .before .before .before .before .before .before .before .before .before .before .before .pre, (omega arith, omega arith))
 
 -- src/job.rt:63:1
 same-length : tie.Need-same-length

@@ -6,7 +6,8 @@ use lib.Seq.{length-take-le}
 use Rattle.vertex.specs.Ready.{Ready}
 use Rattle.plan.specs.Layout.{Holds}
 use Rattle.vector.specs.Part.{put-length}
-use Rattle.glass.proofs.Finishing.{end-fits, factors-fit, ready, serves, finished}
+use Rattle.answers.specs.Planning.{end-fits, ready, serves}
+use Rattle.glass.proofs.Finishing.{factors-fit, finished}
 use borrow.Author.Needs.{needs}
 use Rattle.glass.proofs.job.plan_and_run.Statement.{statement}
 use Rattle.glass.proofs.job.plan_and_run.Tie as tie
@@ -27,13 +28,13 @@ slice-relend-prefix-first c = search needs
 
 -- src/job.rt:42:9
 slice-aggregate-first : tie.Need-slice-aggregate-first
-slice-aggregate-first c = sym (length-take-le (length (c .before .before .before .before .before .before .before .before .before .before .before .before .before .before .args .us .now)) (c .before .before .before .before .before .before .before .before .before .before .before .before .before .before .args .order .now) (omega (arith, c .before .before .before .before .before .before .before .before .before .before .before .before .before .before .pre .0 .few-pairs)))
+slice-aggregate-first c = sym (length-take-le (length (c .before .before .before .before .before .before .before .before .before .before .before .before .before .before .args .us .now)) (c .before .before .before .before .before .before .before .before .before .before .before .before .before .before .args .order .now) (omega (arith, c .before .before .before .before .before .before .before .before .before .before .before .before .before .before .pre .0 .job .few-pairs)))
 
 -- src/job.rt:43:5
 order-pairs-requires : tie.Need-order-pairs-requires
 order-pairs-requires c κs =
     let p = c .before .before .before .before .before .before .before .before .before .before .before .before .before .before .before .pre in
-    (p .0 .pairs, p .0 .edges .few, length-take-le (length (c .before .before .before .before .before .before .before .before .before .before .before .before .before .before .before .args .us .now)) (c .before .before .before .before .before .before .before .before .before .before .before .before .before .before .before .args .order .now) (omega (arith, p .0 .few-pairs)))
+    (p .0 .job .pairs, p .0 .job .edges .few, length-take-le (length (c .before .before .before .before .before .before .before .before .before .before .before .before .before .before .before .args .us .now)) (c .before .before .before .before .before .before .before .before .before .before .before .before .before .before .before .args .order .now) (omega (arith, p .0 .job .few-pairs)))
 
 -- src/job.rt:45:16
 slice-relend-prefix-room : tie.Need-slice-relend-prefix-room
@@ -42,7 +43,7 @@ slice-relend-prefix-room c = search needs
 -- src/job.rt:45:9
 slice-aggregate-room : tie.Need-slice-aggregate-room
 slice-aggregate-room c =
-    let e = end-fits _ _ _ _ _ _ _ _ _ _ _ _ _ _ (c .before .before .before .before .before .before .before .before .before .before .before .before .before .before .before .before .before .before .before .pre .0) (c .before .before .before .before .before .before .before .before .make-plan .ensures) in
+    let e = end-fits _ _ _ _ _ _ _ _ _ _ _ _ (c .before .before .before .before .before .before .before .before .before .before .before .before .before .before .before .before .before .before .before .pre .0 .job) (c .before .before .before .before .before .before .before .before .make-plan .ensures) in
     sym (length-take-le (c .before .before .before .before .before .before .before .before .make-plan .result .room) (c .before .before .before .before .before .before .before .before .before .before .before .before .before .before .before .before .before .before .before .args .work .now) e)
 
 -- src/job.rt:46:5
@@ -50,7 +51,7 @@ lay-factors-requires : tie.Need-lay-factors-requires
 lay-factors-requires c κs =
     let p = c .before .before .before .before .before .before .before .before .before .before .before .before .before .before .before .before .before .before .before .before .pre .0 in
     let g = c .before .before .before .before .before .before .before .before .before .make-plan .ensures in
-    let e = end-fits _ _ _ _ _ _ _ _ _ _ _ _ _ _ p g in
+    let e = end-fits _ _ _ _ _ _ _ _ _ _ _ _ (p .job) g in
     let f = factors-fit _ _ _ _ _ _ _ _ _ _ _ _ _ _ p g in
     let t = length-take-le (c .before .before .before .before .before .before .before .before .before .make-plan .result .room) (c .before .before .before .before .before .before .before .before .before .before .before .before .before .before .before .before .before .before .before .before .args .work .now) e in
     omega arith
@@ -63,12 +64,12 @@ run-requires c κs =
     let m = c .before .before .before .before .before .before .before .before .before .before .before .before .before .before .before .make-plan in
     let g = m .ensures in
     let holds : Holds (m .last .0) (s .args .n) = omega (arith, m .kept .0) in
-    let e = end-fits _ _ _ _ _ _ _ _ _ _ _ _ _ _ p g in
+    let e = end-fits _ _ _ _ _ _ _ _ _ _ _ _ (p .job) g in
     let l = c .before .before .before .before .before .lay-factors .kept .0 ∙ length-take-le (m .result .room) (s .args .work .now) e in (
-      p .some,
+      p .job .some,
       subst (λ (k : ℕ). Ready (m .last .0) k (s .args .n) (s .args .w) (m .result .scales)) (sym l)
-          (ready _ _ _ _ _ _ _ _ _ _ _ _ _ _ p g holds),
-      serves _ _ _ _ _ _ _ _ _ _ _ _ _ _ p g,
+          (ready _ _ _ _ _ _ _ _ _ _ _ _ (p .job) g holds),
+      serves _ _ _ _ _ _ _ _ _ _ _ _ (p .job) g,
       c .before .before .before .before .before .before .before .before .before .before .order-pairs .ensures,
       p .fitting,
     )

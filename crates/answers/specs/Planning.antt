@@ -1,4 +1,4 @@
--- What the plan of a job ensures is what the sweeps ask for.
+-- What the plan of a job ensures is what the sweeps and the answers ask for.
 use mathlib.Core.Path.{_≡_, refl, sym, ap, _∙_}
 use mathlib.Core.Bool.{Bool, cond}
 use mathlib.Core.List.{List}
@@ -12,7 +12,9 @@ use Rattle.transfer.specs.Configuration.{jobOf}
 use Rattle.plan.specs.Layout.{Holds, forwardPlace, backwardPlace}
 use Rattle.places.specs.Places.{moving, placesOf, backwardFrom, forward-inside, backward-inside, forward-apart, backward-apart, kinds-apart}
 use Rattle.places.specs.Work.{Laid, Planned, place-fits}
+use Rattle.places.specs.Plannable.{Plannable}
 use Rattle.vertex.specs.Ready.{Own, Ready, PlanOf}
+use Rattle.answers.specs.Served.{Served, served}
 
 module _ (plan early late us vs : List ℕ) (n w places scales factors end : ℕ) (g : Planned plan early late us vs n w places scales factors end) where
   -- a place below their number lies before the scales
@@ -50,3 +52,17 @@ module _ (plan early late us vs : List ℕ) (n w places scales factors end : ℕ
   pub plan-of : 1 ≤ n → (x : List Float) (each : Bool) → PlanOf (jobOf nan n w early late x (cond each perElement block)) plan x n w each
   plan-of some x each =
       record { vertices = omega arith; window = refl; manner = refl; step = λ t b. g .steps .step x (cond each perElement block) t b }
+
+-- ---- of a job that a plan can be made of
+
+module _ (plan early late us vs : List ℕ) (n w places scales at end work : ℕ) (p : Plannable n w early late us vs work)
+    (g : Planned plan early late us vs n w places scales at end) where
+  -- the room is what 01 says, and there is so much
+  pub end-fits : end ≤ work
+  end-fits = omega (arith, g .ends, p .roomy)
+
+  pub ready : Holds plan n → Ready plan end n w scales
+  ready holds = ready-of plan early late us vs n w places scales at end g (p .edges .wide) (p .edges .narrow) holds
+
+  pub serves : Served plan us vs n w
+  serves = served plan us vs n w (g .kept) (p .pairs) (p .distinct)
