@@ -6,3 +6,4 @@ pub mod SoFar
 pub mod Sums
 pub mod Chunked
 pub mod Lists
+pub mod Nothing

@@ -1,3 +1,4 @@
 -- Laws that the proofs share.
 mod Chunks
 mod Words
+mod Idling

@@ -2,6 +2,7 @@
 use mathlib.Core.Path.{_≡_}
 use mathlib.Core.Bool.{Bool}
 use mathlib.Core.List.{List}
+use mathlib.Core.Logic.{_⊎_}
 use Prim.Native.Nat.{ℕ, _+_, _-_, _*_, _≤_}
 use lib.Ieee.{Float}
 use lib.ListN.{length}
@@ -19,6 +20,10 @@ use Rattle.sample.specs.Samples.{PlanOfChunks}
 pub record Totals (from to samples : ℕ) (c : ℕ → ℕ → ℕ → Float) (n : ℕ) (squares fourths : List Float) : Type 0 where
   pub squared : squares ≡ tabulate (λ k. sampled ieee (square ieee) from to samples (λ i j. c i j k)) n
   pub fourthed : fourths ≡ tabulate (λ k. sampled ieee (fourth ieee) from to samples (λ i j. c i j k)) n
+
+-- No chunk, no sample, or nothing to add up: the totals are zeros, and no Z is looked at.
+abbrev pub Idle : (from to samples n : ℕ) → Type 0
+Idle from to samples n = (to ≤ from) ⊎ ((samples ≡ 0) ⊎ (n ≡ 0))
 
 -- Before chunk number `chunk`.
 pub record Chunking (plan us vs : List ℕ) (lent : List Float) (seed betas n w : ℕ) (each : Bool) (from to samples chunk : ℕ)

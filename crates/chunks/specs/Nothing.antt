@@ -1,0 +1,46 @@
+-- Calls that count far and sweep nothing: where there is no beta or no pair, nothing goes wrong and nothing is added.
+use mathlib.Core.Path.{_≡_, refl, sym, ap, _∙_}
+use mathlib.Core.Bool.{Bool, true, false, not}
+use mathlib.Core.List.{List}
+use Prim.Native.Nat.{ℕ, zero, suc, _*_, _<_}
+use native.Mathlib.Nat.{mul-pos}
+use native.Mathlib.Omega.{arith}
+use lib.Ieee.{Float, nan, binary64, add, round}
+use lib.ListN.{length}
+use Rattle.vector.specs.Search.{some, none-of}
+use Rattle.vector.specs.Tabulate.{tabulate, tabulated}
+use Rattle.transfer.specs.Arithmetic.{sum}
+use Rattle.transfer.specs.Job.{Job}
+use Rattle.transfer.specs.Rounded.{ieee}
+use Rattle.answers.specs.Sound.{unsound}
+
+pub none-unsound : (J : ℕ → Job Float) (us vs : List ℕ) (betas : ℕ) → betas * length us ≡ 0 → some (λ b. unsound (J b) us vs) betas ≡ false
+unfolding unsound
+none-unsound J us vs betas z =
+    none-of _ betas (λ b l. none-of _ (length us) (λ i k. absurd (let p : 0 < betas * length us = mul-pos (omega arith) (omega arith) in omega arith)))
+
+-- a search over what never fits
+pub never : (U : ℕ → Bool) (n : ℕ) → ((i : ℕ) → U i ≡ false) → true ≡ not (some U n)
+never U n h = sym (ap not (none-of U n (λ i l. h i)))
+
+pub empty-list : (l : List Float) (f : ℕ → Float) (n : ℕ) → length l ≡ n → length l ≡ 0 → l ≡ tabulate f n
+empty-list l f n e z = tabulated nan l f n e (λ i b. absurd (omega arith))
+
+-- zeros add up to zero
+zero-twice : add binary64 (ieee .𝟘) (ieee .𝟘) ≡ ieee .𝟘
+unfolding add round
+zero-twice = refl
+
+sum-zeros : (n : ℕ) → sum ieee n (λ _. ieee .𝟘) ≡ ieee .𝟘
+unfolding sum
+sum-zeros zero = refl
+sum-zeros (suc n) = ap (λ (x : Float). add binary64 x (ieee .𝟘)) (sum-zeros n) ∙ zero-twice
+
+-- no chunk, and chunks of no sample
+pub no-chunk : (f : ℕ → Float) → ieee .𝟘 ≡ sum ieee 0 f
+unfolding sum
+no-chunk f = refl
+
+pub no-sample : (n : ℕ) (f : ℕ → ℕ → Float) → ieee .𝟘 ≡ sum ieee n (λ i. sum ieee 0 (f i))
+unfolding sum
+no-sample n f = sym (sum-zeros n)
