@@ -5,6 +5,8 @@ mod rescaling;
 mod run;
 
 pub use entry::correlations;
+pub use rescaling::is_each;
+pub use run::clear;
 
 // How often a sweep is rescaled: every fourth step, or every step.
 pub enum Manner {

@@ -6,7 +6,7 @@ ghost use Rattle.glass.specs.Correlations.{mannerOf};
 use crate::Manner;
 
 // Is the sweep rescaled at every step?
-pub(crate) fn is_each(manner: Manner) -> bool
+pub fn is_each(manner: Manner) -> bool
     ensures { λ r. ⌜ cond r perElement block ≡ mannerOf manner ⌝ }
 {
     match manner {

@@ -30,7 +30,7 @@ pub(crate) fn lay_factors(room: &mut [f64], at: usize, x: &[f64])
 }
 
 // All of a list at +0.0.
-fn clear(list: &mut [f64])
+pub fn clear(list: &mut [f64])
     ensures { λ _. ⌜ now (list .exit) ≡ zeros (length (now (list .entry))) ⌝ }
 {
     let len = list.len();

@@ -1,0 +1,56 @@
+-- The jobs of a call for totals, one for each configuration and beta, and what is summed or stored of their correlations.
+-- The kept edges come as two lists of ends, the lent factors as document 01 lays them out.
+use mathlib.Core.Bool.{Bool}
+use mathlib.Core.List.{List}
+use Prim.Native.Nat.{ℕ, _+_, _-_, _*_, _/_, _%_, _^_}
+use lib.Ieee.{Float, nan}
+use lib.ListN.{length}
+use Rattle.vector.specs.Search.{some}
+use Rattle.vector.specs.Tabulate.{tabulate}
+use Rattle.forest.specs.Labels.{isTree}
+use Rattle.transfer.specs.Job.{Job, Manner}
+use Rattle.transfer.specs.Configuration.{configured, enumeratedMinus, sampledMinus}
+use Rattle.transfer.specs.Rounded.{ieee}
+use Rattle.transfer.specs.Totals.{enumerated, sampled}
+use Rattle.lattice.specs.Graphs.{freeCount}
+use Rattle.answers.specs.Sound.{unsound}
+use Rattle.chunks.specs.Powers.{correlationAt}
+
+-- How many correlations are stored.
+abbrev pub storedCount : (early late us : List ℕ) → ℕ → ℕ
+storedCount early late us betas = betas * length us * 2 ^ freeCount early late
+
+module _ (n w : ℕ) (early late : List ℕ) (lent : List Float) (manner : Manner) where
+  -- The job at beta b, with the sign of each edge by a rule.
+  abbrev pub jobSigned : (ℕ → Bool) → ℕ → Job Float
+  jobSigned minus b = record { last = n - 1; window = w; edges = configured nan early late lent b minus; manner = manner }
+
+  -- That of configuration x, and that of a chunk's sample.
+  abbrev pub jobEnumerated : ℕ → ℕ → Job Float
+  jobEnumerated x = jobSigned (enumeratedMinus (isTree early late) x)
+
+  abbrev pub jobSampled : (seed chunk sample : ℕ) → ℕ → Job Float
+  jobSampled seed chunk sample = jobSigned (sampledMinus seed (length early) chunk sample)
+
+  module _ (us vs : List ℕ) (betas : ℕ) where
+    -- Some pair's Z is not finite and above zero, at any beta and configuration.
+    abbrev pub unsoundEnumeration : Bool
+    unsoundEnumeration = some (λ x. some (λ b. unsound (jobEnumerated x b) us vs) betas) (2 ^ freeCount early late)
+
+    abbrev pub unsoundSampling : (seed from to samples : ℕ) → Bool
+    unsoundSampling seed from to samples =
+        some (λ i. some (λ j. some (λ b. unsound (jobSampled seed (from + i) j b) us vs) betas) samples) (to - from)
+
+    -- The totals of a power, at beta times pairs + pair.
+    abbrev pub enumeratedTotals : (Float → Float) → List Float
+    enumeratedTotals power =
+        tabulate (λ k. enumerated ieee power (freeCount early late) (λ x. correlationAt (jobEnumerated x) us vs k)) (betas * length us)
+
+    abbrev pub sampledTotals : (seed from to samples : ℕ) → (Float → Float) → List Float
+    sampledTotals seed from to samples power =
+        tabulate (λ k. sampled ieee power from to samples (λ i j. correlationAt (jobSampled seed i j) us vs k)) (betas * length us)
+
+    -- The correlation of configuration x at (beta times pairs + pair) times 2^free + x.
+    abbrev pub storedCorrelations : List Float
+    storedCorrelations =
+        tabulate (λ k. correlationAt (jobEnumerated (k % 2 ^ freeCount early late)) us vs (k / 2 ^ freeCount early late)) (storedCount early late us betas)

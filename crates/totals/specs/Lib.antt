@@ -1,0 +1,4 @@
+-- The definitions that the contracts cite.
+pub mod Jobs
+pub mod Calls
+pub mod Finished
