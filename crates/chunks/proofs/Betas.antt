@@ -4,13 +4,13 @@ use mathlib.Core.Bool.{Bool, true, false, not}
 use mathlib.Core.List.{List, [], _++_, append-nil}
 use mathlib.Core.Logic.{inr}
 use Prim.Native.Nat.{ℕ, zero, suc, _+_, _*_, _/_, _%_, _≤_, _<_}
-use native.Mathlib.Nat.{zero-add, zero-mul, add-zero, suc-mul, mul-add-div-right, mul-add-mod-self-right, mod-eq-of-lt, div-eq-of-lt}
+use native.Mathlib.Nat.{zero-add, zero-mul, add-zero, suc-mul, mul-le-mul-right, mul-add-div-right, mul-add-mod-self-right, mod-eq-of-lt, div-eq-of-lt}
 use native.Mathlib.Numerals.{add-one}
 use native.Mathlib.Omega.{arith}
 use lib.Ieee.{Float, nan, binary64, add}
 use lib.ListN.{length, getD, take, drop, drop-of-length-le}
 use Rattle.vector.specs.Part.{put, put-out, fill-none, fill-run, fill-length}
-use Rattle.vector.specs.Search.{some, some-at}
+use Rattle.vector.specs.Search.{some}
 use Rattle.vector.specs.Search as Search
 use Rattle.vector.specs.Tabulate.{tabulate, tabulate-length, tabulate-at}
 use Rattle.transfer.specs.Job.{Job}
@@ -18,6 +18,7 @@ use Rattle.transfer.specs.Rounded.{ieee}
 use Rattle.transfer.specs.Sweep as S
 use Rattle.transfer.specs.Totals.{square, fourth}
 use Rattle.answers.specs.Sound.{unsound, Outcome}
+use Rattle.chunks.specs.Passing.{one-passed, one-failed}
 use Rattle.chunks.specs.Powers.{addedAt, addedTo, correlationAt, AddedPowers}
 use Rattle.chunks.specs.SoFar.{partly, SoFar}
 
@@ -65,19 +66,17 @@ module _ (J : ℕ → Job Float) (us vs : List ℕ) where
       ap (λ (y : List Float). getD y i nan) e
       ∙ tabulate-at (λ j. S.answer ieee (J b) (getD us j 0) (getD vs j 0)) (length us) i nan l ∙ numbered b i l
 
-  module _ (squares₀ squares fourths₀ fourths c : List Float) (b : ℕ) (g : SoFar J us vs b squares₀ squares fourths₀ fourths) (sound : Bool)
-      (o : Outcome (J b) us vs c sound) where
+  module _ (c : List Float) (b : ℕ) (sound : Bool) (o : Outcome (J b) us vs c sound) where
     -- a beta that did not pass
     pub some-unsound : (betas : ℕ) → b < betas → sound ≡ false → false ≡ not (some (λ i. unsound (J i) us vs) betas)
-    some-unsound betas l e =
-        let u : unsound (J b) us vs ≡ true = turned sound (unsound (J b) us vs) (o .told) e in
-        rw (some-at (λ i. unsound (J i) us vs) betas b l u)
-      where
-        turned : (s u : Bool) → s ≡ not u → s ≡ false → u ≡ true
-        turned s true p q = refl
-        turned s false p q = sym q ∙ p
+    some-unsound betas l e = one-failed (λ i. unsound (J i) us vs) b sound (o .told) betas l e
 
     -- one that did
+    pub sound-more : some (λ i. unsound (J i) us vs) b ≡ false → sound ≡ true → some (λ i. unsound (J i) us vs) (b + 1) ≡ false
+    sound-more g e = one-passed (λ i. unsound (J i) us vs) b sound (o .told) g e
+
+  module _ (squares₀ squares fourths₀ fourths c : List Float) (b : ℕ) (g : SoFar J us vs b squares₀ squares fourths₀ fourths) (sound : Bool)
+      (o : Outcome (J b) us vs c sound) where
     pub beta-more : (squares′ fourths′ : List Float) → sound ≡ true → length c ≡ length us
         → b * length us + length us ≤ length squares₀ → b * length us + length us ≤ length fourths₀
         → squares′ ≡ addedAt squares (b * length us) (length c) (λ p. square ieee (getD c p nan))
@@ -91,16 +90,10 @@ module _ (J : ℕ → Job Float) (us vs : List ℕ) where
         let fourth-is : (i : ℕ) → i < length us → fourth ieee (getD c i nan) ≡ fourth ieee (correlationAt J us vs (b * length us + i)) =
         λ i l. ap (fourth ieee) (at i l) in
         record {
-          sound = Search.miss (λ i. unsound (J i) us vs) b (g .sound) (not sound) (turned sound (unsound (J b) us vs) (o .told)) (ap not e);
+          sound = sound-more c b sound o (g .sound) e;
           squared = rw m at (partly-more squares₀ squares squares′ (b * length us) (length us) _ _ (g .squared) (rw long at p) fits square-is);
           fourthed = rw m at (partly-more fourths₀ fourths fourths′ (b * length us) (length us) _ _ (g .fourthed) (rw long at q) fits′ fourth-is);
         }
-      where
-        turned : (s u : Bool) → s ≡ not u → not s ≡ u
-        turned true true r = sym r
-        turned true false r = refl
-        turned false true r = refl
-        turned false false r = sym r
 
   -- no beta yet, and all of them
   pub none-yet : (squares fourths : List Float) → SoFar J us vs 0 squares squares fourths fourths
@@ -115,3 +108,11 @@ module _ (J : ℕ → Job Float) (us vs : List ℕ) where
       → (true ≡ not (some (λ i. unsound (J i) us vs) betas)) × AddedPowers (correlationAt J us vs) (betas * length us) squares₀ squares fourths₀ fourths
   all-betas betas squares₀ squares fourths₀ fourths p q g =
       (sym (ap not (g .sound)), record { squared = g .squared ∙ partly-all squares₀ _ _ (sym p); fourthed = g .fourthed ∙ partly-all fourths₀ _ _ (sym q) })
+
+  -- ---- the same, stored
+
+  module _ (value : ℕ → ℕ → Float) (all x betas b : ℕ) (c : List Float) (same : (k : ℕ) → k < betas * length us → correlationAt J us vs k ≡ value x k) where
+    pub results-value : b < betas → c ≡ S.answers ieee (J b) us vs → (p : ℕ) → p < length us → getD c p nan ≡ value x (b * length us + p)
+    results-value l e p k =
+        let h : (b + 1) * length us ≤ betas * length us = mul-le-mul-right (length us) (omega arith) in
+        results-at b c e p k ∙ same (b * length us + p) (omega arith)

@@ -51,3 +51,7 @@ lent-first {lent} {m} {betas} b g l =
 -- beta b has its own part of the sums
 pub part-of : (b betas np : ℕ) → b < betas → b * np + np ≤ betas * np
 part-of b betas np l = let h : (b + 1) * np ≤ betas * np = mul-le-mul-right np (omega arith) in omega arith
+
+-- and of what is stored
+pub part-stored : (b betas np all : ℕ) → b < betas → (b * np + np) * all ≤ betas * np * all
+part-stored b betas np all l = mul-le-mul-right all (part-of b betas np l)

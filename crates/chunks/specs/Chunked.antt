@@ -7,11 +7,12 @@ use Prim.Native.Nat.{ℕ, _+_, _<_}
 use lib.Ieee.{Float, nan, binary64, add}
 use lib.ListN.{length, getD}
 use Rattle.vector.specs.Search as Search
-use Rattle.vector.specs.Search.{some, some-at}
+use Rattle.vector.specs.Search.{some}
 use Rattle.vector.specs.Tabulate.{tabulate, tabulate-at, tabulate-ext}
 use Rattle.transfer.specs.Arithmetic.{sum}
 use Rattle.transfer.specs.Rounded.{ieee}
 use Rattle.transfer.specs.Totals.{square, fourth}
+use Rattle.chunks.specs.Passing.{one-passed, one-failed}
 use Rattle.chunks.specs.Powers.{addedTo}
 use Rattle.chunks.specs.Sums.{sumsOf, sums-add, sums-none, Sums}
 
@@ -50,20 +51,10 @@ module _ (U : ℕ → ℕ → Bool) (c : ℕ → ℕ → ℕ → Float) (size n 
     pub chunked-more : (p q squares′ fourths′ : List Float) → r ≡ true → Sums (c i) size n p q
         → squares′ ≡ addedTo squares n (λ k. getD p k nan) → fourths′ ≡ addedTo fourths n (λ k. getD q k nan) → Chunked U c size (i + 1) n squares′ fourths′
     chunked-more p q squares′ fourths′ e s a b = record {
-      none = Search.miss (λ k. some (U k) size) i (g .none) (not r) (turned r _ told) (ap not e);
+      none = one-passed (λ k. some (U k) size) i r told (g .none) e;
       squared = a ∙ adds (square ieee) i p squares (s .squared) ∙ sums-add (chunkSum (square ieee) c size) i n squares (g .squared);
       fourthed = b ∙ adds (fourth ieee) i q fourths (s .fourthed) ∙ sums-add (chunkSum (fourth ieee) c size) i n fourths (g .fourthed);
     }
-      where
-        turned : (s u : Bool) → s ≡ not u → not s ≡ u
-        turned true true p = sym p
-        turned true false p = refl
-        turned false true p = refl
-        turned false false p = sym p
 
     pub not-chunked : (chunks : ℕ) → i < chunks → r ≡ false → false ≡ not (some (λ k. some (U k) size) chunks)
-    not-chunked chunks l e = sym (ap not (some-at (λ k. some (U k) size) chunks i l (turned r _ told e)))
-      where
-        turned : (s u : Bool) → s ≡ not u → s ≡ false → u ≡ true
-        turned s true p q = refl
-        turned s false p q = sym q ∙ p
+    not-chunked chunks l e = one-failed (λ k. some (U k) size) i r told chunks l e

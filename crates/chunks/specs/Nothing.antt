@@ -19,6 +19,11 @@ unfolding unsound
 none-unsound J us vs betas z =
     none-of _ betas (λ b l. none-of _ (length us) (λ i k. absurd (let p : 0 < betas * length us = mul-pos (omega arith) (omega arith) in omega arith)))
 
+-- a product with what is above zero
+pub no-product : (m n : ℕ) → 0 < n → m * n ≡ 0 → m ≡ 0
+no-product zero n p z = refl
+no-product (suc m) n p z = absurd (let q : 0 < suc m * n = mul-pos (omega arith) p in omega arith)
+
 -- a search over what never fits
 pub never : (U : ℕ → Bool) (n : ℕ) → ((i : ℕ) → U i ≡ false) → true ≡ not (some U n)
 never U n h = sym (ap not (none-of U n (λ i l. h i)))

@@ -7,11 +7,12 @@ use native.Mathlib.Numerals.{add-one}
 use lib.Ieee.{Float, nan, binary64, add}
 use lib.ListN.{length, getD}
 use Rattle.vector.specs.Search as Search
-use Rattle.vector.specs.Search.{some, some-at}
+use Rattle.vector.specs.Search.{some}
 use Rattle.vector.specs.Tabulate.{tabulate, tabulate-length, tabulate-at, tabulate-ext}
 use Rattle.transfer.specs.Arithmetic.{sum}
 use Rattle.transfer.specs.Rounded.{ieee}
 use Rattle.transfer.specs.Totals.{square, fourth}
+use Rattle.chunks.specs.Passing.{one-passed, one-failed}
 use Rattle.chunks.specs.Powers.{addedTo, AddedPowers}
 
 -- n sums of the first j terms that a rule gives, from zero.
@@ -58,18 +59,7 @@ module _ (U : ℕ → Bool) (c : ℕ → ℕ → Float) (n : ℕ) where
 
   module _ (j : ℕ) (squares fourths : List Float) (g : Passed U c j n squares fourths) (r : Bool) (told : r ≡ not (U j)) where
     pub passed-more : (squares′ fourths′ : List Float) → r ≡ true → AddedPowers (c j) n squares squares′ fourths fourths′ → Passed U c (j + 1) n squares′ fourths′
-    passed-more squares′ fourths′ e a =
-        record { none = Search.miss U j (g .none) (not r) (turned r (U j) told) (ap not e); sums = sums-more c j n squares squares′ fourths fourths′ (g .sums) a }
-      where
-        turned : (s u : Bool) → s ≡ not u → not s ≡ u
-        turned true true p = sym p
-        turned true false p = refl
-        turned false true p = refl
-        turned false false p = sym p
+    passed-more squares′ fourths′ e a = record { none = one-passed U j r told (g .none) e; sums = sums-more c j n squares squares′ fourths fourths′ (g .sums) a }
 
     pub not-passed : (size : ℕ) → j < size → r ≡ false → false ≡ not (some U size)
-    not-passed size l e = sym (ap not (some-at U size j l (turned r (U j) told e)))
-      where
-        turned : (s u : Bool) → s ≡ not u → s ≡ false → u ≡ true
-        turned s true p q = refl
-        turned s false p q = sym q ∙ p
+    not-passed size l e = one-failed U j r told size l e

@@ -17,7 +17,7 @@ use answers::answer_pairs;
 use sweeps::sweep;
 
 // The correlations at beta b, with these signs. Answers whether every pair's Z is finite and above zero.
-fn answer_signed(
+pub(crate) fn answer_signed(
     room: &mut [f64],
     plan: &[usize],
     n: usize,

@@ -2,6 +2,8 @@
 mod configuration;
 mod powers;
 mod signed;
+mod store;
 
 pub use configuration::add_configuration;
 pub use powers::add_sums;
+pub use store::store_configuration;

@@ -1,6 +1,8 @@
-// The totals of an enumeration: chunks of configurations, each summed from zero, then added in order.
+// An enumeration: chunks of configurations, each summed from zero, then added in order; or every correlation stored.
 mod chunk;
+mod store;
 mod totals;
 
 pub use chunk::enumerated_chunk;
+pub use store::stored_correlations;
 pub use totals::enumerated_totals;

@@ -56,7 +56,7 @@ returns c =
     let i = c .before .before .before .before .before .before .before .before .before .loop .inv in
     let a = c .before .before .before .before .before .answer-signed in
     let no : true ≡ false → ⊥ = λ z. (let z′ : _≡_ {A = ℕ} 0 1 = cc in omega arith) in
-    λ J of. (some-unsound J _ _ _ _ _ _ _ (c .before .before .before .before .before .before .before .before .before .loop .b) (i .so-far J of) _ (a .ensures (J (c .before .before .before .before .before .before .before .before .before .loop .b)) (of (c .before .before .before .before .before .before .before .before .before .loop .b) (omega arith))) _ (omega arith) (not-true _ (c .if1 .taken)), λ z. absurd (no (sym z)))
+    λ J of. (some-unsound J _ _ _ (c .before .before .before .before .before .before .before .before .before .loop .b) _ (a .ensures (J (c .before .before .before .before .before .before .before .before .before .loop .b)) (of (c .before .before .before .before .before .before .before .before .before .loop .b) (omega arith))) _ (omega arith) (not-true _ (c .if1 .taken)), λ z. absurd (no (sym z)))
 
 -- src/configuration.rt:91:38
 mul-add-powers : tie.Need-mul-add-powers Inv-loop μ-loop
