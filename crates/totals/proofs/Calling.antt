@@ -8,10 +8,11 @@ use lib.Ieee.{Float}
 use lib.ListN.{length}
 use Rattle.checks.specs.Answers.{answered}
 use Rattle.checks.specs.Later.{orElse}
+use Rattle.checks.specs.declared.Answer.{Answer}
 use Rattle.checks.specs.declared.Answer.the-variants.{Number, Refused}
 use Rattle.glass.specs.Correlations.{zeros, settled, cleared}
 use Rattle.glass.specs.Settling.{settled-not, cleared-not}
-use Rattle.totals.specs.Calls.{Totalled}
+use Rattle.totals.specs.Calls.{Totalled, Stored}
 use Rattle.totals.specs.Finished.{Finished, Told}
 
 not-none : (r count : ℕ) → (r ≡ 0 → ⊥) → Refused r ≡ answered r count
@@ -76,3 +77,9 @@ module _ (early lists number count : ℕ) (bad : Bool) (whole : number ≡ orEls
       fourths-are = g .fourths-are .values ∙ ap zeros (sym q);
       memory = g .memory;
     })
+
+-- a call with one list, from one that has it twice
+pub once : {number count : ℕ} {correlations : List Float} {end : ℕ} {r : Answer} {stored stored′ work work′ : List Float}
+    → Totalled number count correlations correlations end r stored stored′ stored stored′ work work′
+    → Stored number count correlations end r stored stored′ work work′
+once g = record { answer = g .answer; stored-are = g .squares-are; memory = g .memory }

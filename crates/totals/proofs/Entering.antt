@@ -4,11 +4,12 @@ use mathlib.Core.Bool.{Bool, true, false, cond, not}
 use mathlib.Core.List.{List}
 use Prim.Native.Nat.{ℕ, _-_, _*_, _≤_, _<_}
 use native.Mathlib.Nat.{mul-le-mul-right}
+use native.Mathlib.Decide.{decLt}
 use native.Mathlib.Omega.{arith}
 use lib.Dec.{eqb, ltb}
 use lib.Ieee.{Float}
 use lib.ListN.{length, take}
-use borrow.Author.Tests.{ltb-false, eqb-true, not-false}
+use borrow.Author.Tests.{lt-ltb, ltb-false, eqb-true, not-false}
 use Rattle.vector.specs.Count.{count}
 use Rattle.vector.specs.Search.{or-false}
 use Rattle.forest.specs.Labels.{isTree}
@@ -20,12 +21,12 @@ use Rattle.checks.specs.Edges.{kept, earlyEnds, lateEnds, windowFrom}
 use Rattle.checks.specs.Request.{badFactorList, signedFactors, tooManyChunks}
 use Rattle.checks.specs.First.{unless}
 use Rattle.checks.specs.AcceptedJob.{accepted-factors, accepted-buffers, buffersRefusal}
-use Rattle.checks.specs.AcceptedTotals.{misfits, enumerationLists, samplingLists, few-samples}
+use Rattle.checks.specs.AcceptedTotals.{misfits, misfits-alone, enumerationLists, samplingLists, few-samples}
 use Rattle.lattice.specs.Fronts.{front-early, front-late, early-part}
 use Rattle.lattice.specs.Graphs.{freeCount}
 use Rattle.refuse.specs.Checked.{ReadyJob}
 use Rattle.refuse.specs.Plannable.{edge-count, plannable}
-use Rattle.totals.specs.Jobs.{unsoundEnumeration, unsoundSampling, enumeratedTotals, sampledTotals}
+use Rattle.totals.specs.Jobs.{unsoundEnumeration, unsoundSampling, enumeratedTotals, sampledTotals, storedCorrelations}
 use Rattle.totals.specs.Finished.{Passed, Finished}
 
 -- a sum for each beta and pair
@@ -51,6 +52,20 @@ module _ {n floor : ℕ} {a b : List ℕ} {m : List Float} {us vs : List ℕ} {k
         },
         buffers .0,
       )
+
+  -- what holds of the fronts, at this window and manner, holds of the kept edges
+  to-kept : (Done : List ℕ → List ℕ → ℕ → Job.Manner → ℕ → Type 0) (manner manner′ : Job.Manner) → manner ≡ manner′
+      → Done (take k early′) (take k late′) w manner (length (take k early′))
+      → Done (earlyEnds (kept a b m)) (lateEnds (kept a b m)) (windowFrom floor a b m) manner′ (length (kept a b m))
+  to-kept Done manner manner′ e f =
+      let E = earlyEnds (kept a b m) in
+      let L = lateEnds (kept a b m) in
+      let p : Done E L w manner (length E) =
+      subst (λ (x : List ℕ). Done E x w manner (length E)) (front-late (g .written))
+      (subst (λ (x : List ℕ). Done x (take k late′) w manner (length x)) (front-early (g .written)) f) in
+      let q = subst (λ (v : ℕ). Done E L v manner (length E)) (g .window) p in
+      let s = subst (λ (c : ℕ). Done E L (windowFrom floor a b m) manner c) (edge-count g) q in
+      subst (λ (x : Job.Manner). Done E L (windowFrom floor a b m) x (length (kept a b m))) e s
 
   -- ---- of an enumeration
 
@@ -84,15 +99,32 @@ module _ {n floor : ℕ} {a b : List ℕ} {m : List Float} {us vs : List ℕ} {k
 
     pub enumeration-done : (manner manner′ : Job.Manner) → manner ≡ manner′ → EnumerationDone (take k early′) (take k late′) w manner (length (take k early′))
         → EnumerationDone (earlyEnds (kept a b m)) (lateEnds (kept a b m)) (windowFrom floor a b m) manner′ (length (kept a b m))
-    enumeration-done manner manner′ e f =
-        let E = earlyEnds (kept a b m) in
-        let L = lateEnds (kept a b m) in
-        let p : EnumerationDone E L w manner (length E) =
-        subst (λ (x : List ℕ). EnumerationDone E x w manner (length E)) (front-late (g .written))
-        (subst (λ (x : List ℕ). EnumerationDone x (take k late′) w manner (length x)) (front-early (g .written)) f) in
-        let q = subst (λ (v : ℕ). EnumerationDone E L v manner (length E)) (g .window) p in
-        let s = subst (λ (c : ℕ). EnumerationDone E L (windowFrom floor a b m) manner c) (edge-count g) q in
-        subst (λ (x : Job.Manner). EnumerationDone E L (windowFrom floor a b m) x (length (kept a b m))) e s
+    enumeration-done manner manner′ e f = to-kept EnumerationDone manner manner′ e f
+
+  -- ---- of an enumeration that stores each correlation
+
+  pub storing-lists : (betas : ℕ) (factors : List Float) (free free′ wanted wanted′ stored work : ℕ) → free ≡ free′ → (free ≤ 24 → wanted ≡ wanted′)
+      → enumerationLists n w k us vs betas factors free 24 (misfits wanted stored stored) work
+      ≡ enumerationLists n (windowFrom floor a b m) (length (kept a b m)) us vs betas factors free′ 24 (not (eqb stored wanted′)) work
+  storing-lists betas factors free free′ wanted wanted′ stored work e h =
+      go (decLt 24 free) ∙ enumeration-lists betas factors free free′ 24 (not (eqb stored wanted′)) work e
+    where
+      go : Dec (24 < free) → enumerationLists n w k us vs betas factors free 24 (misfits wanted stored stored) work
+          ≡ enumerationLists n w k us vs betas factors free 24 (not (eqb stored wanted′)) work
+      go (yes l) = rw (lt-ltb 24 free l)
+      go (no l) =
+          ap (λ (t : Bool). enumerationLists n w k us vs betas factors free 24 t work)
+          (misfits-alone wanted stored ∙ ap (λ (j : ℕ). not (eqb stored j)) (h (omega arith)))
+
+  module _ (betas : ℕ) (lent : List Float) (sums : ℕ) (sound : Bool) (stored work work′ : List Float) where
+    abbrev StoringDone : List ℕ → List ℕ → ℕ → Job.Manner → ℕ → Type 0
+    StoringDone E L v manner c =
+        Finished (unsoundEnumeration n v E L lent manner us vs betas) (storedCorrelations n v E L lent manner us vs betas)
+        (storedCorrelations n v E L lent manner us vs betas) sums (room n v c us vs) sound stored stored work work′
+
+    pub storing-done : (manner manner′ : Job.Manner) → manner ≡ manner′ → StoringDone (take k early′) (take k late′) w manner (length (take k early′))
+        → StoringDone (earlyEnds (kept a b m)) (lateEnds (kept a b m)) (windowFrom floor a b m) manner′ (length (kept a b m))
+    storing-done manner manner′ e f = to-kept StoringDone manner manner′ e f
 
   -- ---- of a sampling
 
@@ -120,12 +152,4 @@ module _ {n floor : ℕ} {a b : List ℕ} {m : List Float} {us vs : List ℕ} {k
 
     pub sampling-done : (manner manner′ : Job.Manner) → manner ≡ manner′ → SamplingDone (take k early′) (take k late′) w manner (length (take k early′))
         → SamplingDone (earlyEnds (kept a b m)) (lateEnds (kept a b m)) (windowFrom floor a b m) manner′ (length (kept a b m))
-    sampling-done manner manner′ e f =
-        let E = earlyEnds (kept a b m) in
-        let L = lateEnds (kept a b m) in
-        let p : SamplingDone E L w manner (length E) =
-        subst (λ (x : List ℕ). SamplingDone E x w manner (length E)) (front-late (g .written))
-        (subst (λ (x : List ℕ). SamplingDone x (take k late′) w manner (length x)) (front-early (g .written)) f) in
-        let q = subst (λ (v : ℕ). SamplingDone E L v manner (length E)) (g .window) p in
-        let s = subst (λ (c : ℕ). SamplingDone E L (windowFrom floor a b m) manner c) (edge-count g) q in
-        subst (λ (x : Job.Manner). SamplingDone E L (windowFrom floor a b m) x (length (kept a b m))) e s
+    sampling-done manner manner′ e f = to-kept SamplingDone manner manner′ e f

@@ -3,13 +3,14 @@ use mathlib.Core.Path.{_≡_, refl, sym, ap, _∙_, subst}
 use mathlib.Core.Bool.{Bool, true, false, cond, not}
 use mathlib.Core.List.{List}
 use Prim.Native.Nat.{ℕ, _*_}
+use lib.Dec.{eqb}
 use lib.Ieee.{Float}
 use lib.ListN.{length}
 use Rattle.checks.specs.Edges.{kept, earlyEnds, lateEnds, windowFrom}
 use Rattle.transfer.specs.Room.{room}
 use Rattle.transfer.specs.Rounded.{ieee}
 use Rattle.transfer.specs.Totals.{square, fourth, enumeratedCount, sampledCount}
-use Rattle.checks.specs.Request.{jobRequest, enumerationRequest, samplingRequest, mostCounted}
+use Rattle.checks.specs.Request.{jobRequest, enumerationRequest, samplingRequest, mostCounted, mostStored}
 use Rattle.checks.specs.Refusal.{checks, refusal, ofRoom, ofEnumeration, ofEnumerationLists, ofSampling, ofSamplingLists}
 use Rattle.checks.specs.Later.{orElse, is-among}
 use Rattle.checks.specs.AcceptedTotals.{misfits, enumerationLists, samplingLists, enumeration-in-parts, sampling-in-parts}
@@ -18,10 +19,10 @@ use Rattle.lattice.specs.Graphs.{freeCount}
 use Rattle.glass.specs.Correlations.{mannerOf}
 use Rattle.glass.specs.declared.Manner.{Manner}
 use Rattle.glass.specs.Settling.{not-14}
-use Rattle.totals.specs.Jobs.{unsoundEnumeration, unsoundSampling, enumeratedTotals, sampledTotals}
-use Rattle.totals.specs.Calls.{refusedEnumeration, refusedSampling, Enumerated, Sampled}
+use Rattle.totals.specs.Jobs.{unsoundEnumeration, unsoundSampling, enumeratedTotals, sampledTotals, storedCount, storedCorrelations}
+use Rattle.totals.specs.Calls.{refusedEnumeration, refusedStoring, refusedSampling, Enumerated, EnumeratedEach, Sampled}
 use Rattle.totals.specs.Finished.{Finished}
-use Rattle.totals.proofs.Calling.{refused-early, refused-lists, all-added, refused-14}
+use Rattle.totals.proofs.Calling.{refused-early, refused-lists, all-added, refused-14, once}
 
 module _ (n floor : ℕ) (a b : List ℕ) (m : List Float) (us vs : List ℕ) (betas factors : List Float) where
   -- the checks that stand before 14 answer no 14
@@ -148,3 +149,63 @@ module _ (n floor : ℕ) (a b : List ℕ) (m : List Float) (us vs : List ℕ) (b
           → Sampled n floor a b m us vs betas factors manner seed from to samples (Refused 14) squares squares′ fourths fourths′ work work′
       sampling-refused-14 p q g =
           record { call = refused-14 Early ListsOfSampling _ _ badSampling sampling-whole _ _ _ squares fourths work o e sums squares′ fourths′ work′ p q g }
+
+-- ---- of `exhaustive_c`
+
+module _ (n floor : ℕ) (a b : List ℕ) (m : List Float) (us vs : List ℕ) (betas factors : List Float) (manner : Manner) (stored work : List Float) where
+  abbrev keptEarly : List ℕ
+  keptEarly = earlyEnds (kept a b m)
+
+  abbrev keptLate : List ℕ
+  keptLate = lateEnds (kept a b m)
+
+  abbrev badStoring : Bool
+  badStoring = unsoundEnumeration n (windowFrom floor a b m) keptEarly keptLate factors (mannerOf manner) us vs (length betas)
+
+  abbrev correlations : List Float
+  correlations = storedCorrelations n (windowFrom floor a b m) keptEarly keptLate factors (mannerOf manner) us vs (length betas)
+
+  abbrev wanted : ℕ
+  wanted = storedCount keptEarly keptLate us (length betas)
+
+  abbrev ListsOfStoring : ℕ
+  ListsOfStoring =
+      enumerationLists n (windowFrom floor a b m) (length (kept a b m)) us vs (length betas) factors (freeCount keptEarly keptLate) mostStored
+      (not (eqb (length stored) wanted)) (length work)
+
+  abbrev First : ℕ
+  First = refusal ofRoom (jobRequest n floor a b m us vs betas)
+
+  storing-whole : refusedStoring n floor a b m us vs betas factors manner (length stored) (length work)
+      ≡ orElse First (orElse ListsOfStoring (cond badStoring 14 0))
+  storing-whole =
+      enumeration-in-parts n floor a b m us vs betas factors (freeCount keptEarly keptLate) mostStored (not (eqb (length stored) wanted)) (length work) badStoring
+
+  pub storing-refused-early : (r : ℕ) → r ≡ First → (r ≡ 0 → ⊥)
+      → EnumeratedEach n floor a b m us vs betas factors manner (Refused r) stored stored work work
+  storing-refused-early r e z =
+      record {
+        call = once (refused-early First ListsOfStoring _ _ badStoring storing-whole _ _ _ stored stored work r z
+            (early-not-14 n floor a b m us vs betas factors r e) e);
+      }
+
+  pub storing-refused-lists : (r : ℕ) → 0 ≡ First → r ≡ ListsOfStoring → (r ≡ 0 → ⊥)
+      → EnumeratedEach n floor a b m us vs betas factors manner (Refused r) stored stored work work
+  storing-refused-lists r o e z =
+      record {
+        call = once (refused-lists First ListsOfStoring _ _ badStoring storing-whole _ _ _ stored stored work r z
+            (enumeration-not-14 n floor a b m us vs betas factors (freeCount keptEarly keptLate) mostStored (not (eqb (length stored) wanted)) (length work) r e) o e);
+      }
+
+  module _ (o : 0 ≡ First) (e : 0 ≡ ListsOfStoring) (sums : ℕ) (stored′ work′ : List Float) where
+    pub all-stored : Finished badStoring correlations correlations sums (room n (windowFrom floor a b m) (length (kept a b m)) us vs) true stored′ stored′ work work′
+        → (k : ℕ) → k ≡ enumeratedCount (freeCount keptEarly keptLate)
+        → EnumeratedEach n floor a b m us vs betas factors manner (Number k) stored stored′ work work′
+    all-stored g k c =
+        record { call = once (all-added First ListsOfStoring _ _ badStoring storing-whole _ _ _ stored stored work o e sums stored′ stored′ work′ g k c) }
+
+    pub storing-refused-14 : length stored ≡ sums
+        → Finished badStoring correlations correlations sums (room n (windowFrom floor a b m) (length (kept a b m)) us vs) false stored′ stored′ work work′
+        → EnumeratedEach n floor a b m us vs betas factors manner (Refused 14) stored stored′ work work′
+    storing-refused-14 p g =
+        record { call = once (refused-14 First ListsOfStoring _ _ badStoring storing-whole _ _ _ stored stored work o e sums stored′ stored′ work′ p p g) }

@@ -2,7 +2,7 @@
 use mathlib.Core.Path.{_≡_, refl, sym, ap, _∙_, subst}
 use mathlib.Core.Bool.{Bool, true, false, cond, not}
 use mathlib.Core.List.{List, _++_}
-use Prim.Native.Nat.{ℕ, _+_, _*_, _^_, _≤_, _<_}
+use Prim.Native.Nat.{ℕ, _+_, _*_, _/_, _%_, _^_, _≤_, _<_}
 use native.Mathlib.Nat.{mul-le-mul-right}
 use native.Mathlib.Omega.{arith}
 use lib.Ieee.{Float}
@@ -90,6 +90,15 @@ pub told-enumeration : (J : ℕ → ℕ → Job Float) (us vs : List ℕ) (betas
 told-enumeration J us vs betas free free′ power sound list e t =
     subst (λ (f : ℕ). Told (some (λ x. some (λ b. unsound (J x b) us vs) betas) (2 ^ f))
     (tabulate (λ k. enumerated ieee power f (λ x. correlationAt (J x) us vs k)) (betas * length us)) (betas * length us) sound list) e t
+
+pub told-stored : (J : ℕ → ℕ → Job Float) (us vs : List ℕ) (betas free free′ : ℕ) (sound : Bool) (list : List Float) → free ≡ free′
+    → Told (some (λ x. some (λ b. unsound (J x b) us vs) betas) (2 ^ free))
+    (tabulate (λ k. correlationAt (J (k % 2 ^ free)) us vs (k / 2 ^ free)) (betas * length us * 2 ^ free)) (betas * length us * 2 ^ free) sound list
+    → Told (some (λ x. some (λ b. unsound (J x b) us vs) betas) (2 ^ free′))
+    (tabulate (λ k. correlationAt (J (k % 2 ^ free′)) us vs (k / 2 ^ free′)) (betas * length us * 2 ^ free′)) (betas * length us * 2 ^ free) sound list
+told-stored J us vs betas free free′ sound list e t =
+    subst (λ (f : ℕ). Told (some (λ x. some (λ b. unsound (J x b) us vs) betas) (2 ^ f))
+    (tabulate (λ k. correlationAt (J (k % 2 ^ f)) us vs (k / 2 ^ f)) (betas * length us * 2 ^ f)) (betas * length us * 2 ^ free) sound list) e t
 
 pub enumerates : (early late : List ℕ) (tree : List Bool) (signs free : ℕ) → tree ≡ tabulate (isTree early late) (length early) → signs ≡ length early
     → free ≡ freeCount early late → free ≤ 34 → Enumerates tree signs 0 (2 ^ free)
