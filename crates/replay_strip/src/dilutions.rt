@@ -1,7 +1,6 @@
 // Diluted strips: our list keeps the dropped edges at +0.0, the original's graph does not.
 use crate::common::GUARD;
 use crate::common::GUARD_MAGNITUDE;
-use crate::common::double_of;
 use crate::common::is_number;
 use crate::common::strip_of;
 use crate::common::wide;
@@ -58,9 +57,9 @@ fn number(a: Answer) -> usize {
 // A record: the strip, the seed, keep and the bounds; the kept edges, their checksum, the window.
 pub(crate) fn replay(list: &[u8], at: usize) -> bool {
     let s = strip_of(word(list, at, 0));
-    let keep = double_of(word(list, at, 2));
-    let low = double_of(word(list, at, 3));
-    let high = double_of(word(list, at, 4));
+    let keep = stored::float_of(word(list, at, 2));
+    let low = stored::float_of(word(list, at, 3));
+    let high = stored::float_of(word(list, at, 4));
     let mut early = [GUARD; 4096];
     let mut late = [GUARD; 4096];
     let mut mag = [GUARD_MAGNITUDE; 4096];

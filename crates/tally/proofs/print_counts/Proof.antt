@@ -1,8 +1,8 @@
 -- The index is below the counts' length.
 use Prim.Native.Nat.{_≤_, _-_}
 use borrow.Author.Needs.{needs}
-use Rattle.replay_glass.proofs.print_counts.Statement.{statement}
-use Rattle.replay_glass.proofs.print_counts.Tie as tie
+use Rattle.tally.proofs.print_counts.Statement.{statement}
+use Rattle.tally.proofs.print_counts.Tie as tie
 
 abbrev Inv-loop : tie.InvT-loop
 Inv-loop counts k₀ t5 k = k ≤ 19
