@@ -117,7 +117,7 @@ first-hit : (early late : List ℕ) (t d e : ℕ) → getD late e 0 ≡ t → ge
 unfolding firstBack firstOf
 first-hit early late t d e p q = rw (add-one e, eq-eqb (getD late e 0) t p, eq-eqb (getD early e 0 + d) t q)
 
-first-miss : (early late : List ℕ) (t d e : ℕ) → (getD late e 0 ≡ t → getD early e 0 + d ≡ t → ⊥)
+pub first-miss : (early late : List ℕ) (t d e : ℕ) → (getD late e 0 ≡ t → getD early e 0 + d ≡ t → ⊥)
     → firstBack early late t d (e + 1) ≡ firstBack early late t d e
 unfolding firstBack firstOf
 first-miss early late t d e apart = rw (add-one e, neither (getD late e 0) (getD early e 0 + d) apart) (stays (firstBack early late t d e))
@@ -147,7 +147,7 @@ first-stays early late t d e (suc k) z =
 
 -- ---- rows before the first edge
 
-listed-none : (row : ℕ → ℕ) → ((d : ℕ) → row d ≡ 0) → (d k : ℕ) → listed (λ (e : ℕ). e) row d k ≡ []
+pub listed-none : (row : ℕ → ℕ) → ((d : ℕ) → row d ≡ 0) → (d k : ℕ) → listed (λ (e : ℕ). e) row d k ≡ []
 unfolding listed named prepend
 listed-none row h d zero = refl
 listed-none row h d (suc k) = rw (h d) (listed-none row h (suc d) k)
@@ -167,8 +167,7 @@ row-rising plan early late w m t g = rw (g .near) (rising-listed (λ d. firstBac
 
 -- ---- edge e is entered
 
-module _ (early late plan plan′ : List ℕ) (n w e : ℕ) (g : Edges early late n w) (b : e < length early)
-    (rows : (t : ℕ) → t < n → Row plan early late w e t) where
+module _ (early late : List ℕ) (n w e : ℕ) (g : Edges early late n w) (b : e < length early) where
   abbrev t : ℕ
   t = getD late e 0
 
@@ -181,85 +180,86 @@ module _ (early late plan plan′ : List ℕ) (n w e : ℕ) (g : Edges early lat
   back-is : getD early e 0 + d ≡ t
   back-is = omega (arith, g .ordered e b)
 
-  apart : (c : ℕ) → (c ≡ d → ⊥) → firsts t (e + 1) c ≡ firsts t e c
+  pub apart : (c : ℕ) → (c ≡ d → ⊥) → firsts t (e + 1) c ≡ firsts t e c
   apart c ne = first-miss early late t c e (λ p q. ne (omega (arith, back-is)))
 
   -- an edge shorter than the window, in the list of its vertex
-  near-insert : d < w → listed (λ (i : ℕ). i) (firsts t (e + 1)) 1 (w - 1) ≡ insert (back d e) (listed (λ (i : ℕ). i) (firsts t e) 1 (w - 1))
+  pub near-insert : d < w → listed (λ (i : ℕ). i) (firsts t (e + 1)) 1 (w - 1) ≡ insert (back d e) (listed (λ (i : ℕ). i) (firsts t e) 1 (w - 1))
   near-insert l =
       listed-insert (firsts t e) (firsts t (e + 1)) d e (first-hit early late t d e refl back-is ∙ ap (firstOf (firsts t e d)) (add-one e)) apart 1 (w - 1)
       (omega (arith, g .ordered e b)) (omega arith)
 
-  row-here : (r : Bool) → r ≡ true → Entered plan plan′ w t d (e + 1) r → Row plan′ early late w (e + 1) t
-  row-here r y h = go (ℕ-discrete d w)
-    where
-      go : Dec (d ≡ w) → Row plan′ early late w (e + 1) t
-      go (yes p) =
-          let q = eq-eqb d w p in
-          let o = rows t (g .inside e b) in
-          record {
-            left =
-                rw q at (h .left y) ∙ ap (λ (k : ℕ). firstOf k (e + 1)) (o .left)
-                ∙ sym (first-hit early late t w e refl (rw p at back-is));
-            few = h .few y;
-            near =
-                rw q at (h .near y) ∙ o .near
-                ∙ sym (listed-ext (λ (i : ℕ). i) (firsts t (e + 1)) (firsts t e) 1 (w - 1) (λ c x z. apart c (λ s. omega arith)));
-          }
-      go (no p) =
-          let q = ne-eqb d w p in
-          let o = rows t (g .inside e b) in
-          let k : e + 1 - 1 ≡ e = omega arith in
-          let l : d < w = omega (arith, p, g .reached e b) in
-          record {
-            left = rw q at (h .left y) ∙ o .left ∙ sym (apart w (λ s. p (sym s)));
-            few = h .few y;
-            near = rw (q, k) at (h .near y) ∙ ap (insert (back d e)) (o .near) ∙ sym (near-insert l);
-          }
+  module _ (plan plan′ : List ℕ) (rows : (u : ℕ) → u < n → Row plan early late w e u) where
+    row-here : (r : Bool) → r ≡ true → Entered plan plan′ w t d (e + 1) r → Row plan′ early late w (e + 1) t
+    row-here r y h = go (ℕ-discrete d w)
+      where
+        go : Dec (d ≡ w) → Row plan′ early late w (e + 1) t
+        go (yes p) =
+            let q = eq-eqb d w p in
+            let o = rows t (g .inside e b) in
+            record {
+              left =
+                  rw q at (h .left y) ∙ ap (λ (k : ℕ). firstOf k (e + 1)) (o .left)
+                  ∙ sym (first-hit early late t w e refl (rw p at back-is));
+              few = h .few y;
+              near =
+                  rw q at (h .near y) ∙ o .near
+                  ∙ sym (listed-ext (λ (i : ℕ). i) (firsts t (e + 1)) (firsts t e) 1 (w - 1) (λ c x z. apart c (λ s. omega arith)));
+            }
+        go (no p) =
+            let q = ne-eqb d w p in
+            let o = rows t (g .inside e b) in
+            let k : e + 1 - 1 ≡ e = omega arith in
+            let l : d < w = omega (arith, p, g .reached e b) in
+            record {
+              left = rw q at (h .left y) ∙ o .left ∙ sym (apart w (λ s. p (sym s)));
+              few = h .few y;
+              near = rw (q, k) at (h .near y) ∙ ap (insert (back d e)) (o .near) ∙ sym (near-insert l);
+            }
 
-  row-there : (u : ℕ) → u < n → (u ≡ t → ⊥) → OnlyStep plan plan′ t → Row plan′ early late w (e + 1) u
-  row-there u l ne only =
-      let o = rows u l in
-      let few = o .few in
-      let count = same nearCountAt (omega arith) in
-      let missed : (c : ℕ) → firsts u (e + 1) c ≡ firsts u e c = λ c. first-miss early late u c e (λ p q. ne (sym p)) in
-      record {
-        left = same leftEdgeAt (omega arith) ∙ o .left ∙ sym (missed w);
-        few = rw count few;
-        near =
-            ap (nearFrom (λ (i : ℕ). i) plan′ u 0) count
-            ∙ near-ext (λ (i : ℕ). i) plan plan′ u 0 (nearCount plan u)
-            (λ j x z. (same (nearBitsAt + j) (omega arith), same (nearEdgesAt + j) (omega arith)))
-            ∙ o .near ∙ sym (listed-ext (λ (i : ℕ). i) (firsts u (e + 1)) (firsts u e) 1 (w - 1) (λ c x z. missed c));
-      }
-    where
-      same : (k : ℕ) → k < forwardPlaceAt → number plan′ u k ≡ number plan u k
-      same k q = dite (decLt u t) (λ x. only (indexOf u k) (inl (omega arith))) (λ x. only (indexOf u k) (inr (omega (arith, ne))))
+    row-there : (u : ℕ) → u < n → (u ≡ t → ⊥) → OnlyStep plan plan′ t → Row plan′ early late w (e + 1) u
+    row-there u l ne only =
+        let o = rows u l in
+        let few = o .few in
+        let count = same nearCountAt (omega arith) in
+        let missed : (c : ℕ) → firsts u (e + 1) c ≡ firsts u e c = λ c. first-miss early late u c e (λ p q. ne (sym p)) in
+        record {
+          left = same leftEdgeAt (omega arith) ∙ o .left ∙ sym (missed w);
+          few = rw count few;
+          near =
+              ap (nearFrom (λ (i : ℕ). i) plan′ u 0) count
+              ∙ near-ext (λ (i : ℕ). i) plan plan′ u 0 (nearCount plan u)
+              (λ j x z. (same (nearBitsAt + j) (omega arith), same (nearEdgesAt + j) (omega arith)))
+              ∙ o .near ∙ sym (listed-ext (λ (i : ℕ). i) (firsts u (e + 1)) (firsts u e) 1 (w - 1) (λ c x z. missed c));
+        }
+      where
+        same : (k : ℕ) → k < forwardPlaceAt → number plan′ u k ≡ number plan u k
+        same k q = dite (decLt u t) (λ x. only (indexOf u k) (inl (omega arith))) (λ x. only (indexOf u k) (inr (omega (arith, ne))))
 
-  pub rows-turn : (r : Bool) → r ≡ true → Entered plan plan′ w t d (e + 1) r → (u : ℕ) → u < n → Row plan′ early late w (e + 1) u
-  rows-turn r y h u l = go (ℕ-discrete u t)
-    where
-      go : Dec (u ≡ t) → Row plan′ early late w (e + 1) u
-      go (yes p) = rw p (row-here r y h)
-      go (no p) = row-there u l p (h .only)
+    pub rows-turn : (r : Bool) → r ≡ true → Entered plan plan′ w t d (e + 1) r → (u : ℕ) → u < n → Row plan′ early late w (e + 1) u
+    rows-turn r y h u l = go (ℕ-discrete u t)
+      where
+        go : Dec (u ≡ t) → Row plan′ early late w (e + 1) u
+        go (yes p) = rw p (row-here r y h)
+        go (no p) = row-there u l p (h .only)
 
-  -- no room: the vertex has over four near edges
-  pub too-many : (r : Bool) → r ≡ false → Entered plan plan′ w t d (e + 1) r → true ≡ tooManyNear n w (numbered early late)
-  unfolding tooManyNear
-  too-many r y h =
-      let f = h .full y in
-      let k : e + 1 - 1 ≡ e = omega arith in
-      let m : e + 1 + (length early - (e + 1)) ≡ length early = omega arith in
-      let o = rows t (g .inside e b) in
-      let all = backs-listed early late (λ (i : ℕ). i) t 1 (w - 1) in
-      let l : d < w = omega (arith, f .0, g .reached e b) in
-      let grown =
-      listed-more (firsts t (e + 1)) (firsts t (length early))
-      (λ c z. first-stays early late t c (e + 1) (length early - (e + 1)) (rw m z)) 1 (w - 1) in
-      let five : 4 < length (insert (back d e) (nearRow plan t)) = rw k at (f .1) in
-      let this : length (insert (back d e) (nearRow plan t)) ≡ length (listed (λ (i : ℕ). i) (firsts t (e + 1)) 1 (w - 1)) =
-      ap length (ap (insert (back d e)) (o .near) ∙ sym (near-insert l)) in
-      Search.hit _ n t (g .inside e b) true (sym (lt-ltb 4 (length (backEdges (numbered early late) t 1 (w - 1))) (omega (arith, ap length all)))) refl
+    -- no room: the vertex has over four near edges
+    pub too-many : (r : Bool) → r ≡ false → Entered plan plan′ w t d (e + 1) r → true ≡ tooManyNear n w (numbered early late)
+    unfolding tooManyNear
+    too-many r y h =
+        let f = h .full y in
+        let k : e + 1 - 1 ≡ e = omega arith in
+        let m : e + 1 + (length early - (e + 1)) ≡ length early = omega arith in
+        let o = rows t (g .inside e b) in
+        let all = backs-listed early late (λ (i : ℕ). i) t 1 (w - 1) in
+        let l : d < w = omega (arith, f .0, g .reached e b) in
+        let grown =
+        listed-more (firsts t (e + 1)) (firsts t (length early))
+        (λ c z. first-stays early late t c (e + 1) (length early - (e + 1)) (rw m z)) 1 (w - 1) in
+        let five : 4 < length (insert (back d e) (nearRow plan t)) = rw k at (f .1) in
+        let this : length (insert (back d e) (nearRow plan t)) ≡ length (listed (λ (i : ℕ). i) (firsts t (e + 1)) 1 (w - 1)) =
+        ap length (ap (insert (back d e)) (o .near) ∙ sym (near-insert l)) in
+        Search.hit _ n t (g .inside e b) true (sym (lt-ltb 4 (length (backEdges (numbered early late) t 1 (w - 1))) (omega (arith, ap length all)))) refl
 
 -- every edge is entered, and there was room
 pub not-too-many : (early late plan : List ℕ) (n w : ℕ) → ((t : ℕ) → t < n → Row plan early late w (length early) t)

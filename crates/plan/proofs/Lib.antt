@@ -3,3 +3,4 @@ mod Backs
 mod Inserting
 mod Entering
 mod Steps
+mod Counting

@@ -6,8 +6,9 @@ ghost use Rattle.transfer.specs.Job.{tooManyNear};
 ghost use Rattle.transfer.specs.Configuration.{numbered};
 ghost use Rattle.plan.specs.Layout.{Holds, leftEdge, nearCount};
 ghost use Rattle.plan.specs.Edges.{Edges, Steps};
-ghost use Rattle.plan.specs.Rows.{nearRow, Rising, Entered};
+ghost use Rattle.plan.specs.Rows.{nearRow, Rising, Entered, Counts};
 use crate::layout::LEFT_EDGE;
+use crate::layout::MOST_NEAR;
 use crate::layout::NEAR_COUNT;
 use crate::layout::NUMBERS;
 use crate::near::insert_near;
@@ -61,11 +62,44 @@ fn enter_all(plan: &mut [usize], n: usize, w: usize, early: &[usize], late: &[us
     false
 }
 
-// Check 7: has some vertex over four back edges shorter than the window?
+// Counts the near edges of every vertex, up to four. Is there a fifth? Of parallel edges each counts, though they are one in a row.
+fn count_near(counts: &mut [usize], n: usize, w: usize, early: &[usize], late: &[usize]) -> bool
+    requires { ⌜ Edges (now early) (now late) n w × Counts (now counts) (now early) (now late) n w 0 ⌝ }
+    ensures { λ r. ⌜ (r ≡ false → tooManyNear n w (numbered (now (early .entry)) (now (late .entry))) ≡ false) ⌝ }
+{
+    let mut e = 0usize;
+    while e < early.len() {
+        let t = late[e];
+        let d = t - early[e];
+        e += 1;
+        if d < w {
+            let c = counts[t];
+            if c == MOST_NEAR {
+                return true;
+            }
+            counts[t] = c + 1;
+        }
+    }
+    false
+}
+
+// Is there a fifth near edge of some vertex, parallel edges counted?
+fn is_crowded(n: usize, w: usize, early: &[usize], late: &[usize]) -> bool
+    requires { ⌜ Edges (now early) (now late) n w ⌝ }
+    ensures { λ r. ⌜ (r ≡ false → tooManyNear n w (numbered (now (early .entry)) (now (late .entry))) ≡ false) ⌝ }
+{
+    let mut counts = [0usize; 1024];
+    count_near(&mut counts, n, w, early, late)
+}
+
+// Check 7: has some vertex over four back edges shorter than the window? Counting is quick, and enough unless it finds five.
 pub fn too_many_near(n: usize, w: usize, early: &[usize], late: &[usize]) -> bool
     requires { ⌜ Edges (now early) (now late) n w ⌝ }
     ensures { λ r. ⌜ r ≡ tooManyNear n w (numbered (now (early .entry)) (now (late .entry))) ⌝ }
 {
+    if !is_crowded(n, w, early, late) {
+        return false;
+    }
     let mut plan = [0usize; PLAN];
     enter_all(&mut plan, n, w, early, late)
 }

@@ -65,7 +65,7 @@ returns : tie.Need-returns Inv-loop μ-loop
 returns c =
     let at = c .before .before .before .before .before .before .before .before in
     let s = c .before .before .before .before .before .before .before .before .before .before .before .before .before .before .before .before in (
-      too-many _ _ _ _ _ _ _ (s .pre .0) (c .before .before .before .before .before .before .before .loop-test .taken) (at .loop .inv .2) _ (was-false _ (c .if1 .taken)) (c .before .before .before .enter .ensures),
+      too-many _ _ _ _ _ (s .pre .0) (c .before .before .before .before .before .before .before .loop-test .taken) _ _ (at .loop .inv .2) _ (was-false _ (c .if1 .taken)) (c .before .before .before .enter .ensures),
       λ x. absurd (let o : _≡_ {A = ℕ} 0 1 = cc in omega arith),
     )
 
@@ -79,7 +79,7 @@ loop-again c =
     let b = c .before .before .before .before .before .before .before .loop-test .taken in (
       omega (arith, b),
       c .before .before .before .enter .kept .0 ∙ at .loop .inv .1,
-      rows-turn _ _ _ _ _ _ _ (s .pre .0) b (at .loop .inv .2) _ (was-true _ (c .if1 .left)) (c .before .before .before .enter .ensures),
+      rows-turn _ _ _ _ _ (s .pre .0) b _ _ (at .loop .inv .2) _ (was-true _ (c .if1 .left)) (c .before .before .before .enter .ensures),
     )
 
 same-length-2 : tie.Need-same-length-2 Inv-loop μ-loop
