@@ -84,3 +84,15 @@ pub(crate) fn see_edges(
     }
     Seen { hash: hashed, rest }
 }
+
+// One less than k, where k is not 0 and it is asked for.
+pub(crate) fn cut(k: usize, short: bool) -> usize
+    ensures { λ r. ⌜ r ≤ k ⌝ }
+{
+    if short {
+        if 0 < k {
+            return k - 1;
+        }
+    }
+    k
+}
