@@ -1,10 +1,11 @@
 // One call: its lists are loaded, the call is made, and what it answers and leaves in its results is compared.
-ghost use Prim.Native.Nat.{_≤_};
 use stored::are_stored;
 use stored::at;
+use stored::length_at;
 use stored::load_doubles;
 use stored::load_numbers;
-use stored::word;
+use stored::number_at;
+use tally::Counted;
 use tally::NUMBERS;
 use tally::count;
 
@@ -33,27 +34,9 @@ const NUMBER: usize = 6;
 // the lists in the order of their lengths, then the results after the call
 const LISTS: usize = 7;
 
-pub(crate) struct Counted {
-    pub same: usize,
-    pub all: usize,
-    pub left: usize,
-}
-
 struct Replayed {
     same: bool,
     next: usize,
-}
-
-fn number_at(list: &[u8], place: usize) -> usize {
-    word(list, place) as usize
-}
-
-// A length of the record, no more than a buffer has.
-fn length_at(list: &[u8], place: usize, most: usize) -> usize
-    ensures { λ r. ⌜ r ≤ most ⌝ }
-{
-    let k = number_at(list, place);
-    if k < most { k } else { most }
 }
 
 // Loads the betas, which begin at `place`, and calls.

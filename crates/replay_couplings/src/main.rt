@@ -2,21 +2,12 @@
 // `answers couplings` of rust/oracle made it: the magnitudes are the original's, the refusals' numbers from document 01.
 mod call;
 
-use libc::STDOUT_FILENO;
 use tally::NUMBERS;
-use tally::print_counts;
-use tally::print_number;
 
 fn report(list: &[u8]) {
     let mut counts = [0usize; NUMBERS];
     let counted = call::replay_all(list, &mut counts);
-    print_number(counted.same);
-    io::write_all(STDOUT_FILENO, b" of ");
-    print_number(counted.all);
-    io::write_all(STDOUT_FILENO, b" calls agree; bytes left over: ");
-    print_number(counted.left);
-    io::write_all(STDOUT_FILENO, b"\n");
-    print_counts(&counts);
+    tally::report(counted, b" calls", &counts);
 }
 
 fn main() {

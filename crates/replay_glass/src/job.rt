@@ -1,14 +1,16 @@
 // One job: its lists are loaded, the call is made, and what it answers and leaves in the lent lists is compared.
-ghost use Prim.Native.Nat.{_≤_};
 use crate::doubles::are_cleared;
 use crate::doubles::fill;
 use checks::Answer;
 use glass::Manner;
 use stored::are_stored;
 use stored::at;
+use stored::length_at;
 use stored::load_doubles;
 use stored::load_numbers;
+use stored::number_at;
 use stored::word;
+use tally::Counted;
 use tally::NUMBERS;
 use tally::count;
 
@@ -54,27 +56,9 @@ const ROOM: usize = 14;
 // the lists in the order of their lengths, then the results after the call
 const LISTS: usize = 15;
 
-pub(crate) struct Counted {
-    pub same: usize,
-    pub all: usize,
-    pub left: usize,
-}
-
 struct Replayed {
     same: bool,
     next: usize,
-}
-
-fn number_at(list: &[u8], place: usize) -> usize {
-    word(list, place) as usize
-}
-
-// A length of the record, no more than a buffer has.
-fn length_at(list: &[u8], place: usize, most: usize) -> usize
-    ensures { λ r. ⌜ r ≤ most ⌝ }
-{
-    let k = number_at(list, place);
-    if k < most { k } else { most }
 }
 
 fn manner_of(per_element: u64) -> Manner {

@@ -3,21 +3,12 @@
 mod doubles;
 mod job;
 
-use libc::STDOUT_FILENO;
 use tally::NUMBERS;
-use tally::print_counts;
-use tally::print_number;
 
 fn report(list: &[u8], work: &mut [f64]) {
     let mut counts = [0usize; NUMBERS];
     let counted = job::replay_all(list, work, &mut counts);
-    print_number(counted.same);
-    io::write_all(STDOUT_FILENO, b" of ");
-    print_number(counted.all);
-    io::write_all(STDOUT_FILENO, b" jobs agree; bytes left over: ");
-    print_number(counted.left);
-    io::write_all(STDOUT_FILENO, b"\n");
-    print_counts(&counts);
+    tally::report(counted, b" jobs", &counts);
 }
 
 fn read(fd: i32, list: &mut [u8], work: &mut [f64]) {

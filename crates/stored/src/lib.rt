@@ -1,5 +1,7 @@
 // Lists of stored answers, as the replay programs read them: a row of 64-bit words, little-endian, a double as its bits. Every function
 // is total; that it reads what was stored is what the replays show.
+ghost use Prim.Native.Nat.{_≤_};
+
 mod hash;
 
 pub use hash::OFFSET;
@@ -29,6 +31,18 @@ pub fn word(list: &[u8], at: usize) -> u64 {
         | (wide(list[at + 5]) << 40)
         | (wide(list[at + 6]) << 48)
         | (wide(list[at + 7]) << 56)
+}
+
+pub fn number_at(list: &[u8], place: usize) -> usize {
+    word(list, place) as usize
+}
+
+// A stored length, no more than a buffer has.
+pub fn length_at(list: &[u8], place: usize, most: usize) -> usize
+    ensures { λ r. ⌜ r ≤ most ⌝ }
+{
+    let k = number_at(list, place);
+    if k < most { k } else { most }
 }
 
 // The double of a pattern; one NaN for every NaN's.
