@@ -11,9 +11,9 @@ use lib.Ieee.{Float, nan}
 use lib.ListN.{length, getD}
 use Rattle.transfer.specs.Job.{Back, Manner, prepend, stepOf}
 use Rattle.transfer.specs.Configuration.{jobOf}
-use Rattle.plan.specs.Layout.{leftEdge, nearCount, nearEdge, nearBit, nearFrom, named, stepIn, Vertex}
+use Rattle.plan.specs.Layout.{nearCount, nearEdge, nearBit, nearFrom, named, stepIn, Vertex}
 use Rattle.plan.specs.Edges.{Steps}
-use Rattle.plan.specs.Rows.{goesBack, firstOf, firstBack, listed, nearRow, Rising, none, more, Row}
+use Rattle.plan.specs.Rows.{goesBack, firstOf, firstBack, listed, nearRow, Rising, more, Row}
 use Rattle.plan.specs.Listed.{back-first, backs-listed}
 use Rattle.plan.proofs.Entering.{row-rising}
 

@@ -57,7 +57,8 @@ fn four_at(v: &[f64], at: usize) -> Four
 
 // The larger of each two.
 fn joined(l: Four, m: Four) -> Four
-    ensures { λ r. ⌜ (r .a ≡ larger (l .a) (m .a)) × (r .b ≡ larger (l .b) (m .b)) × (r .c ≡ larger (l .c) (m .c)) × (r .d ≡ larger (l .d) (m .d)) ⌝ }
+    ensures { λ r. ⌜ (r .a ≡ larger (l .a) (m .a)) × (r .b ≡ larger (l .b) (m .b))
+        × (r .c ≡ larger (l .c) (m .c)) × (r .d ≡ larger (l .d) (m .d)) ⌝ }
 {
     Four {
         a: larger_of(l.a, m.a),

@@ -1,5 +1,4 @@
 -- By cases of the distance and of what stands there.
-use native.Mathlib.Omega.{arith}
 use Rattle.plan.proofs.Entering.{entered-near, entered-left, entered-there}
 use borrow.Author.Needs.{needs}
 use Rattle.plan.proofs.edges.enter.Statement.{statement}

@@ -1,5 +1,4 @@
 -- The counts begin at zero.
-use native.Mathlib.Omega.{arith}
 use borrow.Author.Needs.{needs}
 use Rattle.plan.proofs.Counting.{counts-start}
 use Rattle.plan.proofs.edges.is_crowded.Statement.{statement}

@@ -1,8 +1,6 @@
 -- Each lane has the largest of its first t entries; joined, they have the largest of all.
-use mathlib.Core.Path.{_≡_, _∙_}
+use mathlib.Core.Path.{_≡_}
 use Prim.Native.Nat.{_+_, _*_, _-_, _≤_}
-use lib.Ieee.{nan}
-use lib.ListN.{getD}
 use Rattle.sweep.specs.Constants.{zero-is}
 use Rattle.sums.proofs.LargestTurn.{Passed, passed-none, passed-turn, lane-done, lanes-done}
 use native.Mathlib.Omega.{arith}
