@@ -1,4 +1,4 @@
-//! Where the archive is: in the folder that COPPERHOOK_LIB names, else where `rt staticlib copperhook` puts it.
+//! Where the archive is: in the folder that COPPERHOOK_LIB names, else where `rt staticlib copperhook` puts it. Without it nothing is built.
 use std::env;
 use std::path::PathBuf;
 
@@ -9,6 +9,10 @@ fn main() {
     let archive = folder.join("libcopperhook.a");
     println!("cargo:rerun-if-env-changed=COPPERHOOK_LIB");
     println!("cargo:rerun-if-changed={}", archive.display());
+    if !archive.is_file() {
+        eprintln!("there is no {}: run `rt staticlib copperhook` first", archive.display());
+        std::process::exit(1);
+    }
     println!("cargo:rustc-env=ARCHIVE={}", archive.display());
     println!("cargo:rustc-link-search=native={}", folder.display());
     println!("cargo:rustc-link-lib=static=copperhook");

@@ -2,3 +2,4 @@
 // refusal's number, 0 for accepted, and a value goes out through a reference.
 mod correlations;
 mod room;
+mod sqrt;

@@ -2,21 +2,28 @@
 use mathlib.Core.Path.{_≡_, refl, sym, ap, _∙_}
 use mathlib.Core.Bool.{Bool, true, false, _&&_, _||_, and-true, and-false, or-true, or-false, or-assoc}
 use mathlib.Core.List.{List}
+use mathlib.Core.Logic.{dite}
 use Prim.Native.Nat.{ℕ, _+_, _<_}
-use native.Mathlib.Decide.{ℕ-discrete}
+use native.Mathlib.Decide.{decLt, ℕ-discrete}
 use native.Mathlib.Numerals.{add-one}
+use native.Mathlib.Omega.{arith}
 use lib.Dec.{eqb}
-use lib.ListN.{length, getD, set, replicate}
+use lib.ListN.{length, getD, set, replicate, length-replicate, getD-replicate, List·getD-eq-default}
 use lib.Seq.{getD-set-same, getD-set-other}
 use borrow.Author.Tests.{eq-eqb, ne-eqb}
 use Rattle.vector.specs.Search.{some}
 use Rattle.transfer.specs.Room.{earlier, later, isPropagated, keepsForward, keepsBackward}
-use Rattle.plan.specs.Table.{blank}
 use Rattle.places.specs.Places.{Marked, MarkedToo}
 
 -- no mark is set at first
 pub unmarked : (k : ℕ) → Marked (replicate k false) (λ t. false)
-unmarked k = record { at = blank k false }
+unmarked k = record { at = λ t. dite (decLt t k) (inside t) (outside t) }
+  where
+    inside : (t : ℕ) → t < k → getD (replicate k false) t false ≡ false
+    inside t l = getD-replicate k t false false l
+
+    outside : (t : ℕ) → (t < k → ⊥) → getD (replicate k false) t false ≡ false
+    outside t l = List·getD-eq-default (replicate k false) false (omega (arith, length-replicate k false))
 
 -- a mark that is set, and one that is not
 pub mark-set : (marks : List Bool) (t : ℕ) → t < length marks → MarkedToo marks (set marks t true) t true

@@ -1,4 +1,6 @@
 -- Laws that the proofs share.
-mod Tabled
-mod Scanned
+mod Backs
+mod Inserting
+mod Entering
 mod Steps
+mod Counting

@@ -1,21 +1,21 @@
--- From the table of a job's edges: check 7, and the steps of the definition.
-use mathlib.Core.Path.{_≡_, sym, ap, _∙_}
+-- Rows that have what every edge says are the steps of the definition.
+use mathlib.Core.Path.{_≡_, refl, sym, ap, _∙_}
 use mathlib.Core.Bool.{Bool, true, false, cond}
-use mathlib.Core.List.{List}
-use mathlib.Core.Option.{some}
-use Prim.Native.Nat.{ℕ, zero, suc, _-_, _≤_, _<_}
+use mathlib.Core.List.{List, [], _∷_, map}
+use mathlib.Core.Logic.{dite}
+use Prim.Native.Nat.{ℕ, zero, suc, _+_, _-_, _≤_, _<_}
+use native.Mathlib.Decide.{decLt}
 use native.Mathlib.Omega.{arith}
-use lib.Dec.{eqb, ltb, eqb·suc-zero}
+use lib.Dec.{eqb, eqb·suc-zero}
 use lib.Ieee.{Float, nan}
 use lib.ListN.{length, getD}
-use borrow.Author.Tests.{ltb-false}
-use Rattle.vector.specs.Search as Search
-use Rattle.transfer.specs.Job.{Back, Manner, backEdges, tooManyNear, stepOf}
-use Rattle.transfer.specs.Configuration.{edgesWith, numbered, jobOf}
-use Rattle.plan.specs.Layout.{leftEdge, named, stepIn, Vertex}
+use Rattle.transfer.specs.Job.{Back, Manner, prepend, stepOf}
+use Rattle.transfer.specs.Configuration.{jobOf}
+use Rattle.plan.specs.Layout.{nearCount, nearEdge, nearBit, nearFrom, named, stepIn, Vertex}
 use Rattle.plan.specs.Edges.{Steps}
-use Rattle.plan.specs.Table.{entry, goesBack, firstOf, firstBack, Table, listed, nearIn, Rowed}
-use Rattle.plan.specs.Listed.{back-first, backs-listed, listed-ext, some-ext}
+use Rattle.plan.specs.Rows.{goesBack, firstOf, firstBack, listed, nearRow, Rising, more, Row}
+use Rattle.plan.specs.Listed.{back-first, backs-listed}
+use Rattle.plan.proofs.Entering.{row-rising}
 
 first-le : (early late : List ℕ) (t d m : ℕ) → firstBack early late t d m ≤ m
 unfolding firstBack firstOf
@@ -27,46 +27,94 @@ first-le early late t d (suc m) = go (firstBack early late t d m) (goesBack earl
     go zero false l = omega arith
     go (suc k) b l = rw (eqb·suc-zero k) (omega arith)
 
-module _ (early late table : List ℕ) (n w : ℕ) (narrow : w ≤ 24) (tb : Table early late table n (length early)) where
-  -- a row's near edges are the definition's
-  backs-of : {K : Type 0} (factor : ℕ → K) (t : ℕ) → t < n
-      → listed factor (entry table t) 1 (w - 1) ≡ backEdges (edgesWith early late factor) t 1 (w - 1)
-  backs-of factor t b =
-      listed-ext factor (entry table t) (λ d. firstBack early late t d (length early)) 1 (w - 1) (λ d p q. tb .found t d b p (omega arith))
-      ∙ sym (backs-listed early late factor t 1 (w - 1))
+-- ---- the numbers of edges, and their factors
 
-  pub too-many-is : Search.some (λ t. ltb 4 (nearIn table t w)) n ≡ tooManyNear n w (numbered early late)
-  unfolding tooManyNear
-  too-many-is = some-ext _ _ n (λ t b. ap (λ (bs : List (Back ℕ)). ltb 4 (length bs)) (backs-of (λ (e : ℕ). e) t b))
+module _ {K : Type 0} (factor : ℕ → K) where
+  abbrev factored : Back ℕ → Back K
+  factored b = record { distance = b .distance; factor = factor (b .factor) }
 
-  -- where check 7 passes, every vertex has at most four
-  pub few-of : tooManyNear n w (numbered early late) ≡ false → (t : ℕ) → t < n → nearIn table t w ≤ 4
-  few-of passed t b = ltb-false 4 (nearIn table t w) (Search.none-at (λ u. ltb 4 (nearIn table u w)) n t b (too-many-is ∙ passed))
+  near-factored : (plan : List ℕ) (t i k : ℕ) → nearFrom factor plan t i k ≡ map factored (nearFrom (λ e. e) plan t i k)
+  unfolding nearFrom
+  near-factored plan t i zero = refl
+  near-factored plan t i (suc k) = rw (near-factored plan t (suc i) k)
 
-  module _ (plan : List ℕ) (wide : 1 ≤ w) (rows : (t : ℕ) → t < n → Rowed plan table w t) where
-    at-left : (t : ℕ) → t < n → leftEdge plan t ≡ firstBack early late t w (length early)
-    at-left t b = rows t b .left ∙ tb .found t w b wide narrow
+  listed-factored : (row : ℕ → ℕ) (d k : ℕ) → listed factor row d k ≡ map factored (listed (λ e. e) row d k)
+  unfolding listed named prepend
+  listed-factored row d zero = refl
+  listed-factored row d (suc k) = rw (listed-factored row (suc d) k) (go (row d))
+    where
+      go : (r : ℕ)
+          → prepend d (named factor r) (map factored (listed (λ e. e) row (suc d) k))
+          ≡ map factored (prepend d (named (λ e. e) r) (listed (λ e. e) row (suc d) k))
+      go zero = refl
+      go (suc r) = rw (eqb·suc-zero r)
 
-    vertex-of : (t : ℕ) → t < n → Vertex plan w (length early) t
-    vertex-of t b =
-        let r = rows t b in
-        record {
-          left = omega (arith, at-left t b, first-le early late t w (length early));
-          few = r .few;
-          edge = λ i c.
-              let e = r .noted .edge i c in
-              let f = tb .found t (e .0) b (e .1) (omega (arith, e .2)) in
-              omega (arith, e .3, f, first-le early late t (e .0) (length early));
-          low = λ i c. omega (arith, r .noted .low i c);
-          rising = r .noted .rising;
-        }
+-- ---- what is known of each edge of a row
 
-    step-of : (x : List Float) (manner : Manner) (t : ℕ) → t < n → stepIn plan x t ≡ stepOf (jobOf nan n w early late x manner) t
-    step-of x manner t b =
-        let f : ℕ → Float = λ e. getD x e nan in
-        let l = ap (named f) (at-left t b) ∙ sym (back-first early late f t w) in
-        let o = rows t b .near x ∙ backs-of f t b in
-        cc
+-- m edges, all shorter than w
+data Within (w m : ℕ) : List (Back ℕ) → Type 0 where
+  nil : Within w m []
+  cons : {b : Back ℕ} {l : List (Back ℕ)} → b .distance < w → b .factor < m → Within w m l → Within w m (b ∷ l)
 
-    pub steps-of : Steps plan early late n w
-    steps-of = record { vertex = vertex-of; step = step-of }
+listed-within : (row : ℕ → ℕ) (w m : ℕ) → ((d : ℕ) → row d ≤ m) → (d k : ℕ) → d + k ≤ w → Within w m (listed (λ e. e) row d k)
+unfolding listed named prepend
+listed-within row w m h d zero l = nil
+listed-within row w m h d (suc k) l = go (row d) (h d) (listed-within row w m h (suc d) k (omega arith))
+  where
+    go : (r : ℕ) → r ≤ m → Within w m (listed (λ e. e) row (suc d) k) → Within w m (prepend d (named (λ e. e) r) (listed (λ e. e) row (suc d) k))
+    go zero b i = i
+    go (suc r) b i =
+        let p : d < w = omega arith in
+        let q : suc r - 1 < m = omega arith in
+        rw (eqb·suc-zero r) (cons p q i)
+
+near-within : (plan : List ℕ) (w m t i k : ℕ) → Within w m (nearFrom (λ e. e) plan t i k)
+    → (j : ℕ) → i ≤ j → j < i + k → (nearBit plan t j + 1 < w) × (nearEdge plan t j < m)
+unfolding nearFrom
+near-within plan w m t i zero g j a b = absurd (omega arith)
+near-within plan w m t i (suc k) (cons p q g) j a b =
+    dite (decLt i j) (λ l. near-within plan w m t (suc i) k g j l (omega arith)) (λ l. let e : j ≡ i = omega arith in rw e (p, q))
+
+near-from : (plan : List ℕ) (t d i k : ℕ) → Rising d (nearFrom (λ e. e) plan t i k) → (j : ℕ) → i ≤ j → j < i + k → d ≤ nearBit plan t j + 1
+unfolding nearFrom
+near-from plan t d i zero g j a b = absurd (omega arith)
+near-from plan t d i (suc k) (more p g) j a b =
+    dite (decLt i j) (λ l. omega (arith, near-from plan t _ (suc i) k g j l (omega arith))) (λ l. let e : j ≡ i = omega arith in rw e p)
+
+near-rising : (plan : List ℕ) (t d i k : ℕ) → Rising d (nearFrom (λ e. e) plan t i k)
+    → (a b : ℕ) → i ≤ a → a < b → b < i + k → nearBit plan t a < nearBit plan t b
+unfolding nearFrom
+near-rising plan t d i zero g a b p q r = absurd (omega arith)
+near-rising plan t d i (suc k) (more x g) a b p q r =
+    dite (decLt i a) (λ l. near-rising plan t _ (suc i) k g a b l q (omega arith))
+    (λ l. let e : a ≡ i = omega arith in rw e (omega (arith, near-from plan t _ (suc i) k g b (omega arith) (omega arith))))
+
+module _ (early late plan : List ℕ) (n w : ℕ) (wide : 1 ≤ w) (rows : (t : ℕ) → t < n → Row plan early late w (length early) t) where
+  vertex-of : (t : ℕ) → t < n → Vertex plan w (length early) t
+  vertex-of t b =
+      let g = rows t b in
+      let r = row-rising plan early late w (length early) t g in
+      let row : ℕ → ℕ = λ d. firstBack early late t d (length early) in
+      let in-row : Within w (length early) (nearRow plan t) =
+      rw (g .near) (listed-within row w (length early) (λ d. first-le early late t d (length early)) 1 (w - 1) (omega arith)) in
+      let known = near-within plan w (length early) t 0 (nearCount plan t) in-row in
+      record {
+        left = omega (arith, g .left, first-le early late t w (length early));
+        few = g .few;
+        edge = λ i c. known i (omega arith) (omega arith) .1;
+        low = λ i c. omega (arith, known i (omega arith) (omega arith) .0);
+        rising = λ i j a c. near-rising plan t 1 0 (nearCount plan t) r i j (omega arith) a (omega arith);
+      }
+
+  step-of : (x : List Float) (manner : Manner) (t : ℕ) → t < n → stepIn plan x t ≡ stepOf (jobOf nan n w early late x manner) t
+  step-of x manner t b =
+      let f : ℕ → Float = λ e. getD x e nan in
+      let g = rows t b in
+      let l = ap (named f) (g .left) ∙ sym (back-first early late f t w) in
+      let o =
+      near-factored f plan t 0 (nearCount plan t) ∙ ap (map (factored f)) (g .near)
+      ∙ sym (listed-factored f (λ d. firstBack early late t d (length early)) 1 (w - 1)) ∙ sym (backs-listed early late f t 1 (w - 1)) in
+      cc
+
+  pub steps-of : Steps plan early late n w
+  steps-of = record { vertex = vertex-of; step = step-of }

@@ -1,5 +1,5 @@
 -- The definitions that the contracts cite.
 pub mod Layout
 pub mod Edges
-pub mod Table
+pub mod Rows
 pub mod Listed

@@ -1,4 +1,4 @@
--- The edges that a row of the table names are the definition's back edges. How many they are does not depend on their factors.
+-- The first edge at each distance gives the definition's back edges. How many they are does not depend on their factors.
 use mathlib.Core.Path.{_≡_, refl, sym, ap, _∙_}
 use mathlib.Core.Bool.{Bool, true, false, cond, _&&_}
 use mathlib.Core.List.{List, [], _∷_, _++_}
@@ -7,13 +7,12 @@ use Prim.Native.Nat.{ℕ, zero, suc, _+_, _-_, _≤_, _<_}
 use native.Mathlib.Omega.{arith}
 use lib.Dec.{eqb, ltb, eqb·suc-zero}
 use lib.ListN.{length, getD}
-use borrow.Author.Tests.{ne-eqb}
 use Rattle.vector.specs.Search as Search
 use Rattle.vector.specs.Tabulate.{tabulate}
 use Rattle.transfer.specs.Job.{Edge, backEdge, prepend, backEdges, tooManyNear}
 use Rattle.transfer.specs.Configuration.{edgesWith}
 use Rattle.plan.specs.Layout.{named}
-use Rattle.plan.specs.Table.{goesBack, firstOf, firstBack, listed}
+use Rattle.plan.specs.Rows.{goesBack, firstOf, firstBack, listed}
 
 module _ {K : Type 0} where
   abbrev orElse : Option K → Option K → Option K
@@ -65,29 +64,6 @@ module _ {K : Type 0} where
     unfolding listed
     listed-ext v w d zero h = refl
     listed-ext v w d (suc k) h = rw (h d (omega arith) (omega arith), listed-ext v w (suc d) k (λ e a b. h e (omega arith) (omega arith)))
-
-    -- ---- one distance more, of those up to w
-
-    open-row : (row : ℕ → ℕ) (d w : ℕ) → d < w
-        → listed factor row d (w - d) ≡ prepend d (named factor (row d)) (listed factor row (d + 1) (w - (d + 1)))
-    unfolding listed
-    open-row row d w l =
-        let e : w - d ≡ suc (w - (d + 1)) = omega arith in
-        let g : suc d ≡ d + 1 = omega arith in
-        rw (e, g)
-
-    pub listed-none : (row : ℕ → ℕ) (d w : ℕ) → d < w → row d ≡ 0 → listed factor row d (w - d) ≡ listed factor row (d + 1) (w - (d + 1))
-    unfolding named prepend
-    listed-none row d w l e = open-row row d w l ∙ rw e
-
-    pub listed-some : (row : ℕ → ℕ) (d w : ℕ) → d < w → (row d ≡ 0 → ⊥)
-        → listed factor row d (w - d) ≡ record { distance = d; factor = factor (row d - 1) } ∷ listed factor row (d + 1) (w - (d + 1))
-    unfolding named prepend
-    listed-some row d w l z = open-row row d w l ∙ rw (ne-eqb (row d) 0 z)
-
-    pub listed-end : (row : ℕ → ℕ) (d w : ℕ) → w ≤ d → listed factor row d (w - d) ≡ []
-    unfolding listed
-    listed-end row d w l = let e : w - d ≡ 0 = omega arith in rw e
 
 -- ---- the number of edges
 

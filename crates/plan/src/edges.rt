@@ -1,133 +1,107 @@
-// The back edges of every vertex in the plan, by a table of the edges by vertex and distance.
+// The back edges of every vertex in the plan, and check 7, which finds a vertex with too many of them.
 ghost use mathlib.Core.Path.{_≡_};
 ghost use mathlib.Core.Bool.{false};
-ghost use Prim.Native.Nat.{ℕ, _+_, _*_, _-_, _<_, _≤_};
-ghost use lib.Dec.{ltb};
-ghost use lib.ListN.{length, getD};
-ghost use Rattle.vector.specs.Search.{some};
+ghost use Prim.Native.Nat.{ℕ, _+_, _<_, _≤_};
 ghost use Rattle.transfer.specs.Job.{tooManyNear};
 ghost use Rattle.transfer.specs.Configuration.{numbered};
-ghost use Rattle.plan.specs.Layout.{Holds};
+ghost use Rattle.plan.specs.Layout.{Holds, leftEdge, nearCount};
 ghost use Rattle.plan.specs.Edges.{Edges, Steps};
-ghost use Rattle.plan.specs.Table.{entryOf, Rows, entered, Table, nearIn, noted, counted, Rowed, OnlyStep};
+ghost use Rattle.plan.specs.Rows.{nearRow, Rising, Entered, Counts};
 use crate::layout::LEFT_EDGE;
 use crate::layout::MOST_NEAR;
-use crate::layout::NEAR_BITS;
 use crate::layout::NEAR_COUNT;
-use crate::layout::NEAR_EDGES;
 use crate::layout::NUMBERS;
+use crate::near::insert_near;
 
-// A row of the table, for distances 0 to 24; and the table of 1,024 rows.
-const ROW: usize = 25;
+// A plan of 1,024 vertices.
+const PLAN: usize = 12288;
 
-const TABLE: usize = 25600;
-
-// Enters k at vertex t and distance d, unless an edge stands there.
-fn enter(table: &mut [usize], t: usize, d: usize, k: usize)
-    requires { ⌜ entryOf t d < length (now table) ⌝ }
-    ensures { λ _. ⌜ now (table .exit) ≡ entered (now (table .entry)) t d k ⌝ }
+// No vertex has an edge.
+fn clear_rows(plan: &mut [usize], n: usize)
+    requires { ⌜ Holds (now plan) n ⌝ }
+    ensures { λ _. ⌜ ((t : ℕ) → t < n → (leftEdge (now (plan .exit)) t ≡ 0) × (nearCount (now (plan .exit)) t ≡ 0)) ⌝ }
 {
-    let at = ROW * t + d;
-    if table[at] == 0 {
-        table[at] = k;
+    let mut t = 0usize;
+    while t < n {
+        plan[NUMBERS * t + LEFT_EDGE] = 0;
+        plan[NUMBERS * t + NEAR_COUNT] = 0;
+        t += 1;
     }
 }
 
-// Enters every edge, and one, at its later vertex and its distance.
-fn table_edges(table: &mut [usize], n: usize, w: usize, early: &[usize], late: &[usize])
-    requires { ⌜ Edges (now early) (now late) n w × Rows (now table) n × ((j : ℕ) → getD (now table) j 0 ≡ 0) ⌝ }
-    ensures { λ _. ⌜ Table (now (early .entry)) (now (late .entry)) (now (table .exit)) n (length (now (early .entry))) ⌝ }
+// Enters edge k - 1, which goes back from t by d: as the left edge where d is the window, unless one is there. Is there room for it?
+fn enter(plan: &mut [usize], w: usize, t: usize, d: usize, k: usize) -> bool
+    requires { ⌜ Holds (now plan) (t + 1) × (nearCount (now plan) t ≤ 4) × Rising 1 (nearRow (now plan) t) × (1 ≤ d) × (1 ≤ k) ⌝ }
+    ensures { λ r. ⌜ Entered (now (plan .entry)) (now (plan .exit)) w t d k r ⌝ }
+{
+    if d != w {
+        return insert_near(plan, t, k - 1, d - 1);
+    }
+    if plan[NUMBERS * t + LEFT_EDGE] == 0 {
+        plan[NUMBERS * t + LEFT_EDGE] = k;
+    }
+    true
+}
+
+// Enters every edge at its later vertex. Has some vertex over four back edges shorter than the window?
+fn enter_all(plan: &mut [usize], n: usize, w: usize, early: &[usize], late: &[usize]) -> bool
+    requires { ⌜ Edges (now early) (now late) n w × Holds (now plan) n ⌝ }
+    ensures { λ r. ⌜ (r ≡ tooManyNear n w (numbered (now (early .entry)) (now (late .entry))))
+        × (r ≡ false → Steps (now (plan .exit)) (now (early .entry)) (now (late .entry)) n w) ⌝ }
+{
+    clear_rows(plan, n);
+    let mut e = 0usize;
+    while e < early.len() {
+        let t = late[e];
+        let d = t - early[e];
+        e += 1;
+        if !enter(plan, w, t, d, e) {
+            return true;
+        }
+    }
+    false
+}
+
+// Counts the near edges of every vertex, up to four. Is there a fifth? Of parallel edges each counts, though they are one in a row.
+fn count_near(counts: &mut [usize], n: usize, w: usize, early: &[usize], late: &[usize]) -> bool
+    requires { ⌜ Edges (now early) (now late) n w × Counts (now counts) (now early) (now late) n w 0 ⌝ }
+    ensures { λ r. ⌜ (r ≡ false → tooManyNear n w (numbered (now (early .entry)) (now (late .entry))) ≡ false) ⌝ }
 {
     let mut e = 0usize;
     while e < early.len() {
         let t = late[e];
         let d = t - early[e];
-        enter(table, t, d, e + 1);
         e += 1;
-    }
-}
-
-// How many edges of t are shorter than the window.
-fn count_near(table: &[usize], t: usize, w: usize) -> usize
-    requires { ⌜ Rows (now table) (t + 1) × (1 ≤ w) × (w ≤ 24) ⌝ }
-    ensures { λ r. ⌜ r ≡ nearIn (now (table .entry)) t w ⌝ }
-{
-    let mut c = 0usize;
-    let mut d = 1usize;
-    while d < w {
-        if table[ROW * t + d] != 0 {
-            c += 1;
+        if d < w {
+            let c = counts[t];
+            if c == MOST_NEAR {
+                return true;
+            }
+            counts[t] = c + 1;
         }
-        d += 1;
-    }
-    c
-}
-
-// Has some vertex over four such edges, by the table?
-fn some_over_four(table: &[usize], n: usize, w: usize) -> bool
-    requires { ⌜ Rows (now table) n × (1 ≤ w) × (w ≤ 24) ⌝ }
-    ensures { λ r. ⌜ r ≡ some (λ t. ltb 4 (nearIn (now (table .entry)) t w)) n ⌝ }
-{
-    let mut t = 0usize;
-    while t < n {
-        if count_near(table, t, w) > MOST_NEAR {
-            return true;
-        }
-        t += 1;
     }
     false
 }
 
-// Check 7: has some vertex over four back edges shorter than the window?
+// Is there a fifth near edge of some vertex, parallel edges counted?
+fn is_crowded(n: usize, w: usize, early: &[usize], late: &[usize]) -> bool
+    requires { ⌜ Edges (now early) (now late) n w ⌝ }
+    ensures { λ r. ⌜ (r ≡ false → tooManyNear n w (numbered (now (early .entry)) (now (late .entry))) ≡ false) ⌝ }
+{
+    let mut counts = [0usize; 1024];
+    count_near(&mut counts, n, w, early, late)
+}
+
+// Check 7: has some vertex over four back edges shorter than the window? Counting is quick, and enough unless it finds five.
 pub fn too_many_near(n: usize, w: usize, early: &[usize], late: &[usize]) -> bool
     requires { ⌜ Edges (now early) (now late) n w ⌝ }
     ensures { λ r. ⌜ r ≡ tooManyNear n w (numbered (now (early .entry)) (now (late .entry))) ⌝ }
 {
-    let mut table = [0usize; TABLE];
-    table_edges(&mut table, n, w, early, late);
-    some_over_four(&table, n, w)
-}
-
-// Notes edge k - 1 at distance d as near edge c of t, and counts it; k = 0 is no edge.
-fn note_edge(plan: &mut [usize], t: usize, c: usize, k: usize, d: usize) -> usize
-    requires { ⌜ Holds (now plan) (t + 1) × (1 ≤ d) × (c ≤ 4) × ((k ≡ 0 → ⊥) → c < 4) ⌝ }
-    ensures { λ r. ⌜ (r ≡ counted c k) × (now (plan .exit) ≡ noted (now (plan .entry)) t c k d) ⌝ }
-{
-    if k == 0 {
-        return c;
+    if !is_crowded(n, w, early, late) {
+        return false;
     }
-    plan[NUMBERS * t + (NEAR_EDGES + c)] = k - 1;
-    plan[NUMBERS * t + (NEAR_BITS + c)] = d - 1;
-    c + 1
-}
-
-// The edges of t in the plan: the left edge, then the near ones, shortest first.
-fn plan_vertex(plan: &mut [usize], table: &[usize], t: usize, w: usize)
-    requires { ⌜ Holds (now plan) (t + 1) × Rows (now table) (t + 1) × (1 ≤ w) × (w ≤ 24) × (nearIn (now table) t w ≤ 4) ⌝ }
-    ensures { λ _. ⌜ Rowed (now (plan .exit)) (now (table .entry)) w t ⌝ }
-    ensures { λ _. ⌜ OnlyStep (now (plan .entry)) (now (plan .exit)) t ⌝ }
-{
-    let mut c = 0usize;
-    let mut distance = 1usize;
-    while distance < w {
-        let k = table[ROW * t + distance];
-        c = note_edge(plan, t, c, k, distance);
-        distance += 1;
-    }
-    plan[NUMBERS * t + LEFT_EDGE] = table[ROW * t + w];
-    plan[NUMBERS * t + NEAR_COUNT] = c;
-}
-
-// The edges of every vertex in the plan.
-fn plan_vertices(plan: &mut [usize], table: &[usize], n: usize, w: usize)
-    requires { ⌜ Holds (now plan) n × Rows (now table) n × (1 ≤ w) × (w ≤ 24) × ((t : ℕ) → t < n → nearIn (now table) t w ≤ 4) ⌝ }
-    ensures { λ _. ⌜ ((t : ℕ) → t < n → Rowed (now (plan .exit)) (now (table .entry)) w t) ⌝ }
-{
-    let mut t = 0usize;
-    while t < n {
-        plan_vertex(plan, table, t, w);
-        t += 1;
-    }
+    let mut plan = [0usize; PLAN];
+    enter_all(&mut plan, n, w, early, late)
 }
 
 // The steps of the job in the plan: for every vertex what the definition's step reads there.
@@ -135,7 +109,5 @@ pub fn plan_edges(plan: &mut [usize], n: usize, w: usize, early: &[usize], late:
     requires { ⌜ Edges (now early) (now late) n w × Holds (now plan) n × (tooManyNear n w (numbered (now early) (now late)) ≡ false) ⌝ }
     ensures { λ _. ⌜ Steps (now (plan .exit)) (now (early .entry)) (now (late .entry)) n w ⌝ }
 {
-    let mut table = [0usize; TABLE];
-    table_edges(&mut table, n, w, early, late);
-    plan_vertices(plan, &table, n, w);
+    enter_all(plan, n, w, early, late);
 }

@@ -1,6 +1,7 @@
 // From the kept edges of a job to the steps in the plan that the sweeps read.
 mod edges;
 mod layout;
+mod near;
 
 pub use edges::plan_edges;
 pub use edges::too_many_near;

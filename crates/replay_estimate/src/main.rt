@@ -16,14 +16,6 @@ fn word(list: &[u8], at: usize, i: usize) -> u64
     stored::word(list, std::num::wrapping_add_usize(at, i * 8))
 }
 
-// A double from its bits; one NaN for every NaN's.
-fn double_of(bits: u64) -> f64 {
-    if 0x7ff0_0000_0000_0000 < bits % 0x8000_0000_0000_0000 {
-        return 0.0 / 0.0;
-    }
-    stored::float_of(bits)
-}
-
 // The case, 0 for an estimate, 1 for too few or the refusal's number; the mean and the error, 0 where there is none.
 struct Told {
     case: u64,
@@ -52,14 +44,14 @@ fn words_of(e: Estimate) -> Told {
 }
 
 fn replay_estimate(list: &[u8], at: usize) -> bool {
-    let squares = double_of(word(list, at, 1));
-    let fourths = double_of(word(list, at, 2));
+    let squares = stored::float_of(word(list, at, 1));
+    let fourths = stored::float_of(word(list, at, 2));
     let t = words_of(estimate::estimate(word(list, at, 0) as usize, squares, fourths));
     (t.case == word(list, at, 3)) & (t.mean == word(list, at, 4)) & (t.error == word(list, at, 5))
 }
 
 fn replay_root(list: &[u8], at: usize) -> bool {
-    stored::bits_of(root::sqrt(double_of(word(list, at, 0)))) == word(list, at, 1)
+    stored::bits_of(root::sqrt(stored::float_of(word(list, at, 0)))) == word(list, at, 1)
 }
 
 fn replay(size: usize, list: &[u8], at: usize) -> bool {

@@ -1,17 +1,19 @@
 // One job: its lists are loaded, the call is made, and what it answers and leaves in the lent lists is compared.
-ghost use Prim.Native.Nat.{_≤_};
 use crate::doubles::are_cleared;
-use crate::doubles::are_stored;
 use crate::doubles::fill;
-use crate::doubles::load;
 use checks::Answer;
 use glass::Manner;
+use stored::are_stored;
 use stored::at;
+use stored::length_at;
+use stored::load_doubles;
 use stored::load_numbers;
+use stored::number_at;
 use stored::word;
+use tally::Counted;
+use tally::NUMBERS;
+use tally::count;
 
-// Refusals' numbers, and 0.
-pub(crate) const NUMBERS: usize = 19;
 // More than a call takes.
 const EDGES: usize = 4100;
 
@@ -54,27 +56,9 @@ const ROOM: usize = 14;
 // the lists in the order of their lengths, then the results after the call
 const LISTS: usize = 15;
 
-pub(crate) struct Counted {
-    pub same: usize,
-    pub all: usize,
-    pub left: usize,
-}
-
 struct Replayed {
     same: bool,
     next: usize,
-}
-
-fn number_at(list: &[u8], place: usize) -> usize {
-    word(list, place) as usize
-}
-
-// A length of the record, no more than a buffer has.
-fn length_at(list: &[u8], place: usize, most: usize) -> usize
-    ensures { λ r. ⌜ r ≤ most ⌝ }
-{
-    let k = number_at(list, place);
-    if k < most { k } else { most }
 }
 
 fn manner_of(per_element: u64) -> Manner {
@@ -163,7 +147,7 @@ fn replay_pairs(
     let results = &mut second[..l];
     let memory = &mut work[..lent];
     let answers = at(place, k);
-    load(list, place, factors);
+    load_doubles(list, place, factors);
     let number = call(list, start, a, b, m, us, vs, factors, results, memory);
     Replayed {
         same: agrees(list, start, answers, number, results, memory),
@@ -212,14 +196,8 @@ fn replay(list: &[u8], start: usize, work: &mut [f64]) -> Replayed {
     let magnitudes = at(others, l);
     load_numbers(list, ones, a);
     load_numbers(list, others, b);
-    load(list, magnitudes, m);
+    load_doubles(list, magnitudes, m);
     replay_edges(list, start, at(magnitudes, j), a, b, m, work)
-}
-
-fn count(counts: &mut [usize; NUMBERS], number: usize) {
-    if number < NUMBERS {
-        counts[number] = std::num::wrapping_add_usize(counts[number], 1);
-    }
 }
 
 // The first word is the number of jobs. Those that agree are counted by their refusal's number.

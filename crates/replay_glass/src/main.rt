@@ -3,45 +3,12 @@
 mod doubles;
 mod job;
 
-use job::NUMBERS;
-use libc::STDOUT_FILENO;
-
-fn print_number(n: usize) {
-    io::print_decimal(STDOUT_FILENO, n as u64);
-}
-
-fn print_count(number: usize, count: usize) {
-    if count > 0 {
-        io::write_all(STDOUT_FILENO, b" ");
-        print_number(number);
-        io::write_all(STDOUT_FILENO, b": ");
-        print_number(count);
-    }
-}
-
-// How many jobs agree of each refusal's number; 0 is accepted.
-fn print_counts(counts: &[usize; NUMBERS]) {
-    io::write_all(STDOUT_FILENO, b"accepted: ");
-    print_number(counts[0]);
-    io::write_all(STDOUT_FILENO, b"; refused by");
-    let mut k: usize = 1;
-    while k < NUMBERS {
-        print_count(k, counts[k]);
-        k += 1;
-    }
-    io::write_all(STDOUT_FILENO, b"\n");
-}
+use tally::NUMBERS;
 
 fn report(list: &[u8], work: &mut [f64]) {
     let mut counts = [0usize; NUMBERS];
     let counted = job::replay_all(list, work, &mut counts);
-    print_number(counted.same);
-    io::write_all(STDOUT_FILENO, b" of ");
-    print_number(counted.all);
-    io::write_all(STDOUT_FILENO, b" jobs agree; bytes left over: ");
-    print_number(counted.left);
-    io::write_all(STDOUT_FILENO, b"\n");
-    print_counts(&counts);
+    tally::report(counted, b" jobs", &counts);
 }
 
 fn read(fd: i32, list: &mut [u8], work: &mut [f64]) {

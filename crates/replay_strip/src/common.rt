@@ -40,14 +40,6 @@ pub(crate) fn word(list: &[u8], at: usize, i: usize) -> u64
     stored::word(list, std::num::wrapping_add_usize(at, i * 8))
 }
 
-// A double from its bits; one NaN for every NaN's.
-pub(crate) fn double_of(bits: u64) -> f64 {
-    if 0x7ff0_0000_0000_0000 < bits % 0x8000_0000_0000_0000 {
-        return 0.0 / 0.0;
-    }
-    stored::float_of(bits)
-}
-
 pub(crate) fn is_number(a: Answer, n: u64) -> bool {
     match a {
         Answer::Number(k) => wide(k) == n,
@@ -91,4 +83,16 @@ pub(crate) fn see_edges(
         i += 1;
     }
     Seen { hash: hashed, rest }
+}
+
+// One less than k, where k is not 0 and it is asked for.
+pub(crate) fn cut(k: usize, short: bool) -> usize
+    ensures { λ r. ⌜ r ≤ k ⌝ }
+{
+    if short {
+        if 0 < k {
+            return k - 1;
+        }
+    }
+    k
 }

@@ -1,12 +1,17 @@
-// Diluted strips: our list keeps the dropped edges at +0.0, the original's graph does not.
+// Diluted strips: our list keeps the dropped edges at +0.0, the original's graph does not. And buffers one too short, or exact.
+ghost use Prim.Native.Nat.{_≤_};
+ghost use lib.ListN.{length};
 use crate::common::GUARD;
 use crate::common::GUARD_MAGNITUDE;
-use crate::common::double_of;
+use crate::common::cut;
 use crate::common::is_number;
+use crate::common::is_refused;
+use crate::common::see_edges;
 use crate::common::strip_of;
 use crate::common::wide;
 use crate::common::word;
 use checks::Answer;
+use strip::Strip;
 
 // The kept edges among the first k: how many, their checksum, and the longest.
 struct Kept {
@@ -55,17 +60,91 @@ fn number(a: Answer) -> usize {
     }
 }
 
-// A record: the strip, the seed, keep and the bounds; the kept edges, their checksum, the window.
-pub(crate) fn replay(list: &[u8], at: usize) -> bool {
-    let s = strip_of(word(list, at, 0));
-    let keep = double_of(word(list, at, 2));
-    let low = double_of(word(list, at, 3));
-    let high = double_of(word(list, at, 4));
+struct Dilution {
+    keep: f64,
+    low: f64,
+    high: f64,
+    seed: u64,
+}
+
+// The diluted list into the first a, b and c elements of three buffers.
+fn lend(
+    s: Strip,
+    x: Dilution,
+    a: usize,
+    b: usize,
+    c: usize,
+    early: &mut [usize],
+    late: &mut [usize],
+    mag: &mut [f64],
+) -> Answer
+    requires { ⌜ (a ≤ length (now early)) × (b ≤ length (now late)) × (c ≤ length (now mag)) ⌝ }
+{
+    strip::diluted(
+        s,
+        x.keep,
+        x.low,
+        x.high,
+        x.seed,
+        &mut early[..a],
+        &mut late[..b],
+        &mut mag[..c],
+    )
+}
+
+// Buffers for k edges, of which one is one too short: 12, and nothing is written.
+fn short_agrees(s: Strip, x: Dilution, k: usize, buffer: usize) -> bool {
     let mut early = [GUARD; 4096];
     let mut late = [GUARD; 4096];
     let mut mag = [GUARD_MAGNITUDE; 4096];
-    let seed = word(list, at, 1);
-    let answer = strip::diluted(s, keep, low, high, seed, &mut early, &mut late, &mut mag);
+    if 4096 < k {
+        return false;
+    }
+    let a = cut(k, buffer == 0);
+    let b = cut(k, buffer == 1);
+    let c = cut(k, buffer == 2);
+    let answer = lend(s, x, a, b, c, &mut early, &mut late, &mut mag);
+    let seen = see_edges(0, &early, &late, &mag);
+    is_refused(answer, 12) & seen.rest
+}
+
+// Buffers of exactly k: the same kept edges, and no more is written.
+fn exact_agrees(s: Strip, x: Dilution, k: usize, hash: u64) -> bool {
+    let mut early = [GUARD; 4096];
+    let mut late = [GUARD; 4096];
+    let mut mag = [GUARD_MAGNITUDE; 4096];
+    if 4096 < k {
+        return false;
+    }
+    let answer = lend(s, x, k, k, k, &mut early, &mut late, &mut mag);
+    let kept = kept_of(k, &early, &late, &mag);
+    let seen = see_edges(wide(k), &early, &late, &mag);
+    is_number(answer, wide(k)) & (kept.hash == hash) & seen.rest
+}
+
+fn lengths_agree(s: Strip, x: Dilution, k: usize, hash: u64) -> bool {
+    if k == 0 {
+        return true;
+    }
+    short_agrees(s, x, k, 0)
+        & short_agrees(s, x, k, 1)
+        & short_agrees(s, x, k, 2)
+        & exact_agrees(s, x, k, hash)
+}
+
+// A record: the strip, the seed, keep and the bounds; the kept edges, their checksum, the window.
+pub(crate) fn replay(list: &[u8], at: usize) -> bool {
+    let s = strip_of(word(list, at, 0));
+    let x = Dilution {
+        keep: stored::float_of(word(list, at, 2)),
+        low: stored::float_of(word(list, at, 3)),
+        high: stored::float_of(word(list, at, 4)),
+        seed: word(list, at, 1),
+    };
+    let mut early = [GUARD; 4096];
+    let mut late = [GUARD; 4096];
+    let mut mag = [GUARD_MAGNITUDE; 4096];
+    let answer = lend(s, x, 4096, 4096, 4096, &mut early, &mut late, &mut mag);
     let k = number(answer);
     let kept = kept_of(k, &early, &late, &mag);
     let floor = number(strip::window(s));
@@ -78,4 +157,5 @@ pub(crate) fn replay(list: &[u8], at: usize) -> bool {
         & (wide(kept.edges) == word(list, at, 5))
         & (kept.hash == word(list, at, 6))
         & (wide(win) == word(list, at, 7))
+        & lengths_agree(s, x, k, kept.hash)
 }

@@ -85,7 +85,11 @@ fn main() {
         b" strips agree: edges, window, pairs, labels, buffers too short and exact\n",
     );
     report(EDGES, b"edges.bin", b" small strips agree edge by edge\n");
-    report(DILUTION, b"dilutions.bin", b" dilutions agree\n");
+    report(
+        DILUTION,
+        b"dilutions.bin",
+        b" dilutions agree, buffers too short and exact\n",
+    );
     report(
         REFUSAL,
         b"refusals.bin",

@@ -2,7 +2,6 @@
 use crate::common::GUARD;
 use crate::common::GUARD_BYTE;
 use crate::common::GUARD_MAGNITUDE;
-use crate::common::double_of;
 use crate::common::kind_of;
 use crate::common::see_edges;
 use crate::common::wide;
@@ -23,9 +22,9 @@ fn edges_agree(s: Strip, list: &[u8], at: usize, diluted: bool) -> bool {
     let mut early = [GUARD; 4096];
     let mut late = [GUARD; 4096];
     let mut mag = [GUARD_MAGNITUDE; 4096];
-    let keep = double_of(word(list, at, 5));
-    let low = double_of(word(list, at, 6));
-    let high = double_of(word(list, at, 7));
+    let keep = stored::float_of(word(list, at, 5));
+    let low = stored::float_of(word(list, at, 6));
+    let high = stored::float_of(word(list, at, 7));
     let expected = word(list, at, 8);
     let answered = if diluted {
         refusal(strip::diluted(s, keep, low, high, 1, &mut early, &mut late, &mut mag))

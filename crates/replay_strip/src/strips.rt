@@ -5,6 +5,7 @@ use crate::common::GUARD;
 use crate::common::GUARD_BYTE;
 use crate::common::GUARD_MAGNITUDE;
 use crate::common::Seen;
+use crate::common::cut;
 use crate::common::is_number;
 use crate::common::is_refused;
 use crate::common::see_edges;
@@ -31,18 +32,6 @@ fn odd_agrees(s: Strip) -> bool {
     let answer = strip::raw_edges(s, &mut early, &mut late, &mut mag);
     let seen = see_edges(0, &early, &late, &mag);
     is_refused(answer, 16) & seen.rest & is_refused(strip::window(s), 16)
-}
-
-// One less than k, where k is not 0 and it is asked for.
-fn cut(k: usize, short: bool) -> usize
-    ensures { λ r. ⌜ r ≤ k ⌝ }
-{
-    if short {
-        if 0 < k {
-            return k - 1;
-        }
-    }
-    k
 }
 
 // The edge list into the first a, b and c elements of three buffers.

@@ -1,5 +1,7 @@
 // Lists of stored answers, as the replay programs read them: a row of 64-bit words, little-endian, a double as its bits. Every function
 // is total; that it reads what was stored is what the replays show.
+ghost use Prim.Native.Nat.{_≤_};
+
 mod hash;
 
 pub use hash::OFFSET;
@@ -31,12 +33,24 @@ pub fn word(list: &[u8], at: usize) -> u64 {
         | (wide(list[at + 7]) << 56)
 }
 
-// The double of a pattern; 0.0 of a NaN's.
+pub fn number_at(list: &[u8], place: usize) -> usize {
+    word(list, place) as usize
+}
+
+// A stored length, no more than a buffer has.
+pub fn length_at(list: &[u8], place: usize, most: usize) -> usize
+    ensures { λ r. ⌜ r ≤ most ⌝ }
+{
+    let k = number_at(list, place);
+    if k < most { k } else { most }
+}
+
+// The double of a pattern; one NaN for every NaN's.
 pub fn float_of(bits: u64) -> f64 {
     if bits % 0x8000_0000_0000_0000 <= 0x7ff0_0000_0000_0000 {
         return f64::from_bits(bits);
     }
-    0.0
+    0.0 / 0.0
 }
 
 // The bits of a double; one pattern for every NaN.
@@ -69,4 +83,15 @@ pub fn load_doubles(list: &[u8], start: usize, out: &mut [f64]) {
         out[i] = float_of(word(list, at(start, i)));
         i += 1;
     }
+}
+
+// Whether the bits are the stored ones.
+pub fn are_stored(xs: &[f64], list: &[u8], start: usize) -> bool {
+    let mut same = true;
+    let mut i: usize = 0;
+    while i < xs.len() {
+        same = same & (bits_of(xs[i]) == word(list, at(start, i)));
+        i += 1;
+    }
+    same
 }

@@ -15,10 +15,7 @@ use lib.Ieee.Fits.{and-l, up-pos, down-pos}
 use lib.Ieee.Positive.{through}
 use borrow.Author.Tests.{ltb-true, ltb-false, le-ltb}
 use Rattle.transfer.specs.Rounded.{ieee}
-
--- x where it is above a, else a: so a where x is a NaN
-unfoldable pub larger : Float → Float → Float
-larger a x = cond (lt a x) x a
+use Rattle.sums.specs.Sums.{larger}
 
 -- the largest of f 0, .., f (n - 1) and +0.0, taken in index order
 unfoldable pub highest : (ℕ → Float) → ℕ → Float

@@ -1,4 +1,4 @@
--- The terms of the sums at a vertex, and that the sums are the definition's Z and N once the vectors are the job's.
+-- The larger of two numbers; the terms of the sums at a vertex, and that the sums are the definition's Z and N once the vectors are the job's.
 use mathlib.Core.Path.{_≡_, refl, _∙_}
 use mathlib.Core.Bool.{Bool, true, false, cond, not, Bool·beq}
 use mathlib.Core.List.{List}
@@ -6,7 +6,7 @@ use Prim.Native.Nat.{ℕ, zero, suc, _-_, _/_, _^_, _<_}
 use native.Mathlib.Nat.{div-eq-of-lt}
 use native.Mathlib.Omega.{arith}
 use lib.Dec.{eqb}
-use lib.Ieee.{Float, binary64, add, sub, mul}
+use lib.Ieee.{Float, binary64, add, sub, mul, lt}
 use Rattle.vector.specs.Bits.{bit}
 use Rattle.transfer.specs.Arithmetic.{sum, signedSum}
 use Rattle.transfer.specs.Job.{Job}
@@ -16,6 +16,10 @@ use Rattle.transfer.specs.Sweep as S
 -- the products of two vectors' entries
 abbrev pub products : List Float → List Float → ℕ → Float
 products x y j = mul binary64 (S.at ieee x j) (S.at ieee y j)
+
+-- x where it is above a, else a: so a where x is a NaN
+unfoldable pub larger : Float → Float → Float
+larger a x = cond (lt a x) x a
 
 -- whether bits 0 and d of the index differ
 abbrev pub differ : ℕ → ℕ → Bool

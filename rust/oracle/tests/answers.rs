@@ -14,6 +14,7 @@ fn the_stored_lists_are_the_originals_answers() {
         ("dilutions", "replay_strip/data/dilutions.bin"),
         ("strip_refusals", "replay_strip/data/refusals.bin"),
         ("correlations", "replay_glass/data/correlations.bin"),
+        ("couplings", "replay_couplings/data/couplings.bin"),
         ("estimates", "replay_estimate/data/estimates.bin"),
         ("roots", "replay_estimate/data/roots.bin"),
         ("sweeps", "transfer/specs/Original.antt"),

@@ -1,63 +1,118 @@
--- The edges counted and those at the distances to come are all.
-use mathlib.Core.Path.{_≡_, ap}
-use mathlib.Core.Logic.{⊎-elim}
-use Prim.Native.Nat.{ℕ, _+_, _-_, _≤_, _<_}
+-- Edge by edge: each count is no less than the row so far.
+use mathlib.Core.Path.{_≡_, refl}
+use Prim.Native.Nat.{ℕ, _-_, _≤_}
 use native.Mathlib.Omega.{arith}
-use lib.ListN.{length}
-use Rattle.plan.specs.Listed.{listed-none, listed-some, listed-end}
-use Rattle.plan.specs.Table.{entry, listed, nearIn}
+use lib.ListN.{length, length-set}
+use Rattle.plan.specs.Rows.{Counts}
+use Rattle.plan.proofs.Counting.{counts-left, counts-near, counted-few}
+use borrow.Author.Needs.{needs}
 use Rattle.plan.proofs.edges.count_near.Statement.{statement}
 use Rattle.plan.proofs.edges.count_near.Tie as tie
 
 abbrev Inv-loop : tie.InvT-loop
-Inv-loop table t w c₀ d₀ c d = (1 ≤ d) × (d ≤ w) × (c < d) × (c + length (listed (λ e. e) (entry table t) d (w - d)) ≡ nearIn table t w)
+Inv-loop counts₀ n w early late e₀ counts e = (e ≤ length early) × (length counts ≡ length counts₀) × Counts counts early late n w e
 
 abbrev μ-loop : tie.MeasureT-loop
-μ-loop table t w c₀ d₀ c d = 25 - d
+μ-loop counts₀ n w early late e₀ counts e = length early - e
 
 loop-holds : tie.Need-loop-holds Inv-loop μ-loop
-loop-holds c = (omega arith, c .pre .1, omega arith, omega arith)
+loop-holds c = (omega arith, refl, c .pre .1)
 
-mul-if1 : tie.Need-mul-if1 Inv-loop μ-loop
-mul-if1 c = omega arith
+mul-t : tie.Need-mul-t Inv-loop μ-loop
+mul-t c = search needs
 
-add-if1 : tie.Need-add-if1 Inv-loop μ-loop
-add-if1 c = omega arith
+shared-slice-read-t : tie.Need-shared-slice-read-t Inv-loop μ-loop
+shared-slice-read-t c = search needs
 
-mul-if1-2 : tie.Need-mul-if1-2 Inv-loop μ-loop
-mul-if1-2 c = omega arith
+mul-d : tie.Need-mul-d Inv-loop μ-loop
+mul-d c = search needs
 
-shared-slice-read-if1 : tie.Need-shared-slice-read-if1 Inv-loop μ-loop
-shared-slice-read-if1 c = omega arith
+shared-slice-read-d : tie.Need-shared-slice-read-d Inv-loop μ-loop
+shared-slice-read-d c = search needs
 
-add-c : tie.Need-add-c Inv-loop μ-loop
-add-c c = omega arith
+sub-d : tie.Need-sub-d Inv-loop μ-loop
+sub-d c = omega (arith, c .before .before .before .before .pre .0 .ordered (c .before .before .before .loop .e) (c .before .before .loop-test .taken))
 
-add-d : tie.Need-add-d Inv-loop μ-loop
-add-d c = omega arith
+add-e : tie.Need-add-e Inv-loop μ-loop
+add-e c = search needs
+
+mul-c : tie.Need-mul-c Inv-loop μ-loop
+mul-c c =
+    let in-loop = c .before .before .before in
+    let at = in-loop .before in
+    let g = at .before .pre .0 in
+    let i = g .inside (at .loop .e) (in-loop .loop-test .taken) in
+    omega (arith, i, g .few)
+
+slice-read-c : tie.Need-slice-read-c Inv-loop μ-loop
+slice-read-c c =
+    let in-loop = c .before .before .before .before in
+    let at = in-loop .before in
+    let g = at .before .pre .0 in
+    let i = g .inside (at .loop .e) (in-loop .loop-test .taken) in
+    omega (arith, i, at .loop .inv .2 .long)
+
+same-length : tie.Need-same-length Inv-loop μ-loop
+same-length c = search needs
+
+returns : tie.Need-returns Inv-loop μ-loop
+returns c = λ x. absurd (let o : _≡_ {A = ℕ} 0 1 = cc in omega arith)
+
+add-counts : tie.Need-add-counts Inv-loop μ-loop
+add-counts c =
+    let in-loop = c .before .before .before .before .before in
+    let at = in-loop .before in
+    let g = at .before .pre .0 in
+    let i = g .inside (at .loop .e) (in-loop .loop-test .taken) in
+    omega (arith, at .loop .inv .2 .few _ i)
+
+mul-counts : tie.Need-mul-counts Inv-loop μ-loop
+mul-counts c =
+    let in-loop = c .before .before .before .before .before in
+    let at = in-loop .before in
+    let g = at .before .pre .0 in
+    let i = g .inside (at .loop .e) (in-loop .loop-test .taken) in
+    omega (arith, i, g .few)
+
+slice-write-counts : tie.Need-slice-write-counts Inv-loop μ-loop
+slice-write-counts c =
+    let in-loop = c .before .before .before .before .before in
+    let at = in-loop .before in
+    let g = at .before .pre .0 in
+    let i = g .inside (at .loop .e) (in-loop .loop-test .taken) in
+    omega (arith, i, at .loop .inv .2 .long)
 
 loop-less : tie.Need-loop-less Inv-loop μ-loop
-loop-less c = omega arith
+loop-less c = search needs
 
 loop-again : tie.Need-loop-again Inv-loop μ-loop
 loop-again c =
-    let at = c .before .before .before in
-    let s = at .before in
-    let row = entry (s .args .table .now) (s .args .t) in
-    let d = at .loop .d in
-    let l : d < s .args .w = omega arith in
-    ⊎-elim
-    (λ a. let e = ap length (listed-some (λ (e : ℕ). e) row d _ l (a .0 .taken)) in (omega arith, omega arith, omega arith, omega arith))
-    (λ a. let e = ap length (listed-none (λ (e : ℕ). e) row d _ l (a .0 .left)) in (omega arith, omega arith, omega arith, omega arith))
-    (c .if1 .came)
+    let in-loop = c .before .before .before .before .before in
+    let at = in-loop .before in
+    let b = in-loop .loop-test .taken in (
+      omega (arith, b),
+      simp length-set (at .loop .inv .1),
+      counts-near _ _ _ _ _ _ (at .before .pre .0) b (at .loop .inv .2) (c .before .before .if1 .taken) (c .if2 .left),
+    )
 
-returns : tie.Need-returns Inv-loop μ-loop
-returns c =
-    let loop = c .before .loop in
-    let s = c .before .before in
-    let row = entry (s .args .table .now) (s .args .t) in
-    let e = ap length (listed-end (λ (e : ℕ). e) row (loop .d) (s .args .w) (omega arith)) in
-    omega arith
+loop-less-2 : tie.Need-loop-less-2 Inv-loop μ-loop
+loop-less-2 c = search needs
+
+loop-again-2 : tie.Need-loop-again-2 Inv-loop μ-loop
+loop-again-2 c =
+    let in-loop = c .before .before .before in
+    let at = in-loop .before in
+    let b = in-loop .loop-test .taken in
+    (omega (arith, b), at .loop .inv .1, counts-left _ _ _ _ _ _ (at .before .pre .0) b (at .loop .inv .2) (c .if1 .left))
+
+same-length-2 : tie.Need-same-length-2 Inv-loop μ-loop
+same-length-2 c = search needs
+
+returns-2 : tie.Need-returns-2 Inv-loop μ-loop
+returns-2 c =
+    let at = c .before in
+    let e : at .loop .e ≡ length (at .before .args .early .now) = omega arith in
+    λ x. counted-few _ _ _ _ _ (rw e at (at .loop .inv .2))
 
 pub count-near-spec : {M : Type 1} → statement M
 count-near-spec =
@@ -66,12 +121,22 @@ count-near-spec =
     Inv-loop
     μ-loop
     loop-holds
-    mul-if1
-    add-if1
-    mul-if1-2
-    shared-slice-read-if1
-    add-c
-    add-d
+    mul-t
+    shared-slice-read-t
+    mul-d
+    shared-slice-read-d
+    sub-d
+    add-e
+    mul-c
+    slice-read-c
+    same-length
+    returns
+    add-counts
+    mul-counts
+    slice-write-counts
     loop-less
     loop-again
-    returns)
+    loop-less-2
+    loop-again-2
+    same-length-2
+    returns-2)

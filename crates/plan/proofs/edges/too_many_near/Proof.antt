@@ -1,40 +1,26 @@
--- The search over the table is check 7.
-use mathlib.Core.Path.{_∙_}
-use Prim.Native.Nat.{ℕ}
-use native.Mathlib.Omega.{arith}
-use lib.ListN.{length-replicate}
+-- The counts settle it, or the rows do.
+use mathlib.Core.Path.{sym}
 use borrow.Author.Needs.{needs}
-use Rattle.plan.specs.Table.{blank}
-use Rattle.plan.proofs.Steps.{too-many-is}
+use Rattle.plan.proofs.Entering.{was-false}
 use Rattle.plan.proofs.edges.too_many_near.Statement.{statement}
 use Rattle.plan.proofs.edges.too_many_near.Tie as tie
 
-slice-aggregate-table-edges : tie.Need-slice-aggregate-table-edges
-slice-aggregate-table-edges c = search needs
-
-table-edges-requires : tie.Need-table-edges-requires
-table-edges-requires c κs = let s = c .before .before .before in
-    let few = s .pre .few in
-    (s .pre, omega (arith, length-replicate {A = ℕ} 25600 0), blank {A = ℕ} 25600 0)
-
-slice-aggregate-some-over-four : tie.Need-slice-aggregate-some-over-four
-slice-aggregate-some-over-four c = search needs
-
-some-over-four-requires : tie.Need-some-over-four-requires
-some-over-four-requires c κs = search needs
+is-crowded-requires : tie.Need-is-crowded-requires
+is-crowded-requires c κs = search needs
 
 returns : tie.Need-returns
-returns c =
-    let table-edges = c .before .before .before .table-edges in
-    let s = c .before .before .before .before .before .before .before in
-    c .some-over-four .ensures ∙ too-many-is _ _ _ _ _ (s .pre .narrow) (table-edges .ensures)
+returns c = sym (c .before .is-crowded .ensures (was-false _ (c .if1 .taken)))
+
+slice-aggregate-enter-all : tie.Need-slice-aggregate-enter-all
+slice-aggregate-enter-all c = search needs
+
+enter-all-requires : tie.Need-enter-all-requires
+enter-all-requires c κs = search needs
+
+returns-2 : tie.Need-returns-2
+returns-2 c = search needs
 
 pub too-many-near-spec : {M : Type 1} → statement M
 too-many-near-spec =
     tie.close
-    (tie.spec
-    slice-aggregate-table-edges
-    table-edges-requires
-    slice-aggregate-some-over-four
-    some-over-four-requires
-    returns)
+    (tie.spec is-crowded-requires returns slice-aggregate-enter-all enter-all-requires returns-2)

@@ -57,8 +57,8 @@ load-numbers-requires c κs = search needs
 load-numbers-requires-2 : tie.Need-load-numbers-requires-2
 load-numbers-requires-2 c κs = search needs
 
-load-requires : tie.Need-load-requires
-load-requires c κs = search needs
+load-doubles-requires : tie.Need-load-doubles-requires
+load-doubles-requires c κs = search needs
 
 at-requires-7 : tie.Need-at-requires-7
 at-requires-7 c κs = search needs
@@ -93,7 +93,7 @@ replay-spec =
     at-requires-6
     load-numbers-requires
     load-numbers-requires-2
-    load-requires
+    load-doubles-requires
     at-requires-7
     replay-edges-requires
     same-length

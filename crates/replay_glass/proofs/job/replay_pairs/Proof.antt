@@ -45,8 +45,8 @@ slice-aggregate-memory c = sym (length-take-le _ _ (omega arith))
 at-requires-4 : tie.Need-at-requires-4
 at-requires-4 c κs = search needs
 
-load-requires : tie.Need-load-requires
-load-requires c κs = search needs
+load-doubles-requires : tie.Need-load-doubles-requires
+load-doubles-requires c κs = search needs
 
 call-requires : tie.Need-call-requires
 call-requires c κs = search needs
@@ -80,7 +80,7 @@ replay-pairs-spec =
     slice-relend-prefix-memory
     slice-aggregate-memory
     at-requires-4
-    load-requires
+    load-doubles-requires
     call-requires
     agrees-requires
     at-requires-5

@@ -1,11 +1,14 @@
 -- Both branches are what the contract says.
+use Rattle.sums.specs.Sums.{larger}
 use Rattle.sums.proofs.largest.larger_of.Statement.{statement}
 use Rattle.sums.proofs.largest.larger_of.Tie as tie
 
 returns : tie.Need-returns
+unfolding larger
 returns c = rw (c .if1 .taken)
 
 returns-2 : tie.Need-returns-2
+unfolding larger
 returns-2 c = rw (c .if1 .left)
 
 pub larger-of-spec : {M : Type 1} → statement M

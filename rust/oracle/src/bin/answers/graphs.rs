@@ -15,14 +15,14 @@ struct GraphJob {
 }
 
 /// The number of the first refusal among checks 1 to 5, from document 01; 0 where none fits.
-fn graph_refusal(job: &GraphJob) -> u64 {
-    let edges: Vec<(u64, u64, f64)> = job.a.iter().zip(&job.b).zip(&job.m).map(|((&a, &b), &m)| (a, b, m)).collect();
+pub fn first_graph_refusal(n: u64, a: &[u64], b: &[u64], m: &[f64]) -> u64 {
+    let edges: Vec<(u64, u64, f64)> = a.iter().zip(b).zip(m).map(|((&a, &b), &m)| (a, b, m)).collect();
     let kept: Vec<(u64, u64)> = edges.iter().filter(|e| e.2 != 0.0).map(|e| (e.0.min(e.1), e.0.max(e.1))).collect();
-    if job.n == 0 || job.n > 1024 {
+    if n == 0 || n > 1024 {
         1
-    } else if job.a.len() != job.b.len() || job.a.len() != job.m.len() || job.a.len() > 4096 {
+    } else if a.len() != b.len() || a.len() != m.len() || a.len() > 4096 {
         2
-    } else if edges.iter().any(|e| e.0 == e.1 || e.0 >= job.n || e.1 >= job.n) {
+    } else if edges.iter().any(|e| e.0 == e.1 || e.0 >= n || e.1 >= n) {
         3
     } else if edges.iter().any(|e| !e.2.is_finite() || e.2.abs() > 1024.0) {
         4
@@ -31,6 +31,10 @@ fn graph_refusal(job: &GraphJob) -> u64 {
     } else {
         0
     }
+}
+
+fn graph_refusal(job: &GraphJob) -> u64 {
+    first_graph_refusal(job.n, &job.a, &job.b, &job.m)
 }
 
 /// A refusal's number, told from a value.

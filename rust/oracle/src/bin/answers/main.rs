@@ -9,6 +9,7 @@
 //!     cargo run --release --offline --bin answers -- dilutions > ../crates/replay_strip/data/dilutions.bin
 //!     cargo run --release --offline --bin answers -- strip_refusals > ../crates/replay_strip/data/refusals.bin
 //!     cargo run --release --offline --bin answers -- correlations > ../crates/replay_glass/data/correlations.bin
+//!     cargo run --release --offline --bin answers -- couplings > ../crates/replay_couplings/data/couplings.bin
 //!     cargo run --release --offline --bin answers -- estimates > ../crates/replay_estimate/data/estimates.bin
 //!     cargo run --release --offline --bin answers -- roots > ../crates/replay_estimate/data/roots.bin
 //!     cargo run --release --offline --bin answers -- sweeps > ../crates/transfer/specs/Original.antt
@@ -16,6 +17,7 @@
 mod correlation_jobs;
 mod correlation_refusals;
 mod correlations;
+mod couplings;
 mod estimates;
 mod generators;
 mod graphs;
@@ -27,7 +29,7 @@ mod sweeps;
 use std::io::Write;
 use std::process::ExitCode;
 
-const LISTS: [(&str, fn() -> Vec<u8>); 10] = [
+const LISTS: [(&str, fn() -> Vec<u8>); 11] = [
     ("generators", || words(generators::generators())),
     ("graphs", || words(graphs::graphs())),
     ("strips", || words(strips::strips())),
@@ -35,6 +37,7 @@ const LISTS: [(&str, fn() -> Vec<u8>); 10] = [
     ("dilutions", || words(strips::dilutions())),
     ("strip_refusals", || words(strips::strip_refusals())),
     ("correlations", || words(correlations::correlations())),
+    ("couplings", || words(couplings::couplings())),
     ("estimates", || words(estimates::estimates())),
     ("roots", || words(estimates::roots())),
     ("sweeps", || sweeps::sweeps().into_bytes()),

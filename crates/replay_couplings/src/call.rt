@@ -1,0 +1,106 @@
+// One call: its lists are loaded, the call is made, and what it answers and leaves in its results is compared.
+use stored::are_stored;
+use stored::at;
+use stored::length_at;
+use stored::load_doubles;
+use stored::load_numbers;
+use stored::number_at;
+use tally::Counted;
+use tally::NUMBERS;
+use tally::count;
+
+// What the results hold before the call.
+const BEFORE: f64 = 9.0;
+// As much as a stored call takes.
+const EDGES: usize = 64;
+
+const BETAS: usize = 65;
+
+const RESULTS: usize = 1024;
+// The words that a record begins with, by their place.
+const A_COUNT: usize = 1;
+
+const B_COUNT: usize = 2;
+
+const M_COUNT: usize = 3;
+
+const BETA_COUNT: usize = 4;
+
+const RESULT_COUNT: usize = 5;
+
+// the call's number
+const NUMBER: usize = 6;
+
+// the lists in the order of their lengths, then the results after the call
+const LISTS: usize = 7;
+
+struct Replayed {
+    same: bool,
+    next: usize,
+}
+
+// Loads the betas, which begin at `place`, and calls.
+fn replay_betas(
+    list: &[u8],
+    start: usize,
+    place: usize,
+    a: &[usize],
+    b: &[usize],
+    m: &[f64],
+) -> Replayed {
+    let mut first = [0.0f64; BETAS];
+    let mut second = [BEFORE; RESULTS];
+    let k = length_at(list, at(start, BETA_COUNT), BETAS);
+    let l = length_at(list, at(start, RESULT_COUNT), RESULTS);
+    let betas = &mut first[..k];
+    let results = &mut second[..l];
+    let answers = at(place, k);
+    load_doubles(list, place, betas);
+    let number = couplings::couplings(number_at(list, start), a, b, m, betas, results);
+    let same = number == number_at(list, at(start, NUMBER));
+    Replayed {
+        same: same & are_stored(results, list, answers),
+        next: at(answers, l),
+    }
+}
+
+fn replay(list: &[u8], start: usize) -> Replayed {
+    let mut first = [0usize; EDGES];
+    let mut second = [0usize; EDGES];
+    let mut third = [0.0f64; EDGES];
+    let k = length_at(list, at(start, A_COUNT), EDGES);
+    let l = length_at(list, at(start, B_COUNT), EDGES);
+    let j = length_at(list, at(start, M_COUNT), EDGES);
+    let a = &mut first[..k];
+    let b = &mut second[..l];
+    let m = &mut third[..j];
+    let ones = at(start, LISTS);
+    let others = at(ones, k);
+    let magnitudes = at(others, l);
+    load_numbers(list, ones, a);
+    load_numbers(list, others, b);
+    load_doubles(list, magnitudes, m);
+    replay_betas(list, start, at(magnitudes, j), a, b, m)
+}
+
+// The first word is the number of calls. Those that agree are counted by their refusal's number.
+pub(crate) fn replay_all(list: &[u8], counts: &mut [usize; NUMBERS]) -> Counted {
+    let all = number_at(list, 0);
+    let mut same: usize = 0;
+    let mut p: usize = 8;
+    let mut left = all;
+    while left > 0 {
+        let r = replay(list, p);
+        if r.same {
+            same = std::num::wrapping_add_usize(same, 1);
+            count(counts, number_at(list, at(p, NUMBER)));
+        }
+        p = r.next;
+        left -= 1;
+    }
+    Counted {
+        same,
+        all,
+        left: std::num::wrapping_sub_usize(list.len(), p),
+    }
+}
