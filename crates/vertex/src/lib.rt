@@ -4,3 +4,4 @@ mod tables;
 
 pub use step::backward_at;
 pub use step::forward_at;
+pub use step::forward_through;
