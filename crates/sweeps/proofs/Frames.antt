@@ -34,10 +34,6 @@ pub start-full : (w : ℕ) → length (S.start ieee w) ≡ 2 ^ w
 unfolding S.start
 start-full w = tabulate-length _ (2 ^ w)
 
-pub forward-full : (w : ℕ) (s : Step Float) (scale : Float) (v : List Float) → length (S.forwardStep ieee w s scale v) ≡ 2 ^ w
-unfolding S.forwardStep
-forward-full w s scale v = tabulate-length _ (2 ^ w)
-
 pub backward-full : (w : ℕ) (s : Step Float) (scale : Float) (v : List Float) → length (S.backwardStep ieee w s scale v) ≡ 2 ^ w
 unfolding S.backwardStep
 backward-full w s scale v = tabulate-length _ (2 ^ w)
