@@ -11,8 +11,8 @@ use Rattle.sweep.specs.Step.{patternBy}
 use Rattle.sweep.specs.Rule.{entries, weights, inTurn, forwardRule}
 use Rattle.sweep.specs.Rules.{rule-from}
 use Rattle.stride.specs.declared.runs.Four.{Four}
-use Rattle.stride.specs.Rule.{inFour, forwardTwice, upperWeights, Picked}
-use Rattle.stride.proofs.Picks.{pick-lower, pick-upper, pick-two}
+use Rattle.stride.specs.Rule.{forwardTwice, upperWeights, Picked}
+use Rattle.stride.proofs.RunWeights.{lower-is, upper-is, second-is}
 use Rattle.stride.proofs.AtRun.{Runs, AtRun, run-ends, run-place}
 use Rattle.stride.proofs.ForwardTurn.{runRule}
 
@@ -39,23 +39,6 @@ module _ {l : List ℕ} {n : ℕ} {l′ : List ℕ} {n′ h e quarter size one t
         apart-within (src + k + 3 * quarter) size (dst + 4 * k) (4 * size) f (omega arith) (omega arith) (omega arith) (omega arith),
       )
 
-  -- the weights of the run
-  module _ (table : List Float) (f : Four) (i m : ℕ) (b : i < size) where
-    lower-is : m ≡ patternBy l n k → Picked table m top one f → inTurn (f .first) (f .third) i ≡ weights l n table (k + i)
-    lower-is p t = rw (t .first, t .third) (pick-lower (a .number) one (r .first) (r .some) (a .begins) p (r .odd) table i (rw (r .length) at b))
-
-    upper-is : m ≡ patternBy l n k → Picked table m top one f → inTurn (f .second) (f .fourth) i ≡ upperWeights h l n table (k + i)
-    upper-is p t =
-        rw (t .second, t .fourth)
-        (pick-upper (a .number) one (r .first) (r .some) (a .begins) p (r .odd) table i (rw (r .length) at b) h top
-        (rw (r .whole) at (r .upper)) (run-place r a under i b))
-
-  second-is : (table : List Float) (f : Four) (j m : ℕ) → j < 2 * size → m ≡ patternBy l′ n′ (2 * k) → Picked table m low two f
-      → inFour (f .first) (f .second) (f .third) (f .fourth) j ≡ weights l′ n′ table (2 * k + j)
-  second-is table f j m b p t =
-      rw (t .first, t .second, t .third, t .fourth)
-      (pick-two (a .number) low two (r .second) (r .some) (a .begins) p (r .odd′) (r .next′) table j (rw (r .length) at b))
-
   -- a run is the next entries of both steps
   module _ (x y z u : Float) (up down up′ down′ : List Float) (p q f g : Four) (m m′ src dst : ℕ) (d v : List Float)
       (at-k : m ≡ patternBy l n k) (at-2k : m′ ≡ patternBy l′ n′ (2 * k))
@@ -78,7 +61,7 @@ module _ {l : List ℕ} {n : ℕ} {l′ : List ℕ} {n′ h e quarter size one t
           → forwardRule x y (inTurn (p .first) (p .third)) (inTurn (q .first) (q .third)) (entries v (src + k)) (entries v (src + k + 2 * quarter)) i
           ≡ forwardRule x y (weights l n up) (weights l n down) (entries d src) (entries d (src + 2 * 2 ^ h)) (2 * k + i)
       lower-run i b =
-          rule-from x y _ _ _ _ _ _ _ _ k size i b (λ j c. lower-is up p j m c at-k ps) (λ j c. lower-is down q j m c at-k qs)
+          rule-from x y _ _ _ _ _ _ _ _ k size i b (λ j c. lower-is r a under up p j m c at-k ps) (λ j c. lower-is r a under down q j m c at-k qs)
           (λ j c. let z : src + 0 ≡ src = omega arith in rw z at (kept 0 j (src + k + j) (omega arith) c (omega arith)))
           (λ j c. kept (2 * 2 ^ h) j (src + k + 2 * quarter + j) (omega arith) c (omega (arith, r .whole)))
 
@@ -86,7 +69,7 @@ module _ {l : List ℕ} {n : ℕ} {l′ : List ℕ} {n′ h e quarter size one t
           → forwardRule x y (inTurn (p .second) (p .fourth)) (inTurn (q .second) (q .fourth)) (entries v (src + k + quarter)) (entries v (src + k + 3 * quarter)) i
           ≡ forwardRule x y (upperWeights h l n up) (upperWeights h l n down) (entries d (src + 2 ^ h)) (entries d (src + 3 * 2 ^ h)) (2 * k + i)
       upper-run i b =
-          rule-from x y _ _ _ _ _ _ _ _ k size i b (λ j c. upper-is up p j m c at-k ps) (λ j c. upper-is down q j m c at-k qs)
+          rule-from x y _ _ _ _ _ _ _ _ k size i b (λ j c. upper-is r a under up p j m c at-k ps) (λ j c. upper-is r a under down q j m c at-k qs)
           (λ j c. kept (2 ^ h) j (src + k + quarter + j) (omega arith) c (omega (arith, r .whole)))
           (λ j c. kept (3 * 2 ^ h) j (src + k + 3 * quarter + j) (omega arith) c (omega (arith, r .whole)))
 
@@ -95,7 +78,7 @@ module _ {l : List ℕ} {n : ℕ} {l′ : List ℕ} {n′ h e quarter size one t
           let t : 4 * k + j ≡ 2 * (2 * k) + j = omega arith in
           rw t
           (rule-from z u _ _ _ _ _ _ _ _ (2 * k) (2 * size) j (omega arith)
-          (λ i c. second-is up′ f i m′ c at-2k fs) (λ i c. second-is down′ g i m′ c at-2k gs) lower-run upper-run)
+          (λ i c. second-is r a under up′ f i m′ c at-2k fs) (λ i c. second-is r a under down′ g i m′ c at-2k gs) lower-run upper-run)
 
       pub runs-turn : (v′ : List Float) → v′ ≡ put v (dst + 4 * k) (tabulate run (4 * size)) → v′ ≡ put d dst (tabulate step (4 * (k + size)))
       runs-turn v′ w =

@@ -3,7 +3,7 @@ use mathlib.Core.Path.{_≡_, refl, sym}
 use mathlib.Core.List.{List}
 use Prim.Native.Nat.{ℕ, _+_, _*_, _%_, _<_}
 use native.Mathlib.Omega.{arith}
-use lib.ListN.{length, getD, set, length-set}
+use lib.ListN.{length, getD, set}
 use lib.Ieee.{Float, nan}
 use Rattle.vector.specs.Tabulate.{tabulate}
 use Rattle.vector.specs.Part.{Apart, put, fill-two, read-apart}
@@ -12,11 +12,6 @@ use Rattle.sweep.specs.Rules.{turn-even, turn-odd}
 use Rattle.stride.specs.declared.runs.Four.{Four}
 use Rattle.stride.specs.Rule.{inFour, forwardTwice}
 use Rattle.stride.proofs.Rules.{four-0, four-1, four-2, four-3, At, twice-0, twice-1, twice-2, twice-3}
-
--- an index of a list is one after seven stores
-pub after-seven : (k : ℕ) (l : List Float) (i₁ i₂ i₃ i₄ i₅ i₆ i₇ : ℕ) (a₁ a₂ a₃ a₄ a₅ a₆ a₇ : Float) → k < length l
-    → k < length (set (set (set (set (set (set (set l i₁ a₁) i₂ a₂) i₃ a₃) i₄ a₄) i₅ a₅) i₆ a₆) i₇ a₇)
-after-seven k l i₁ i₂ i₃ i₄ i₅ i₆ i₇ a₁ a₂ a₃ a₄ a₅ a₆ a₇ h = simp length-set h
 
 -- ---- four elements more, and eight
 
@@ -50,9 +45,6 @@ module _ (d : List Float) (at : ℕ) (f : ℕ → Float) where
       (fill-four (n + 4) (at + n + 5) (at + n + 6) (at + n + 7) a₄ a₅ a₆ a₇ (omega arith) (omega arith) (omega arith) (omega arith) p₄ q₅ q₆ q₇)
 
 -- ---- a turn of a run, at an even i: two places
-
-abbrev pub four : (first second third fourth : Float) → Four
-four first second third fourth = record { first = first; second = second; third = third; fourth = fourth }
 
 -- what a run makes from the vector l
 abbrev pub runRule : (x y z u : Float) (p q e f : Four) (a b c d : ℕ) (l : List Float) → ℕ → Float

@@ -2,6 +2,10 @@
 mod Patterns
 mod Picks
 mod AtRun
+mod RunWeights
 mod Rules
+mod Fours
 mod ForwardTurn
 mod ForwardRuns
+mod BackwardTurn
+mod BackwardRuns

@@ -5,7 +5,6 @@ use Prim.Native.Nat.{ℕ, _+_, _*_, _-_, _^_, _≤_, _<_}
 use native.Mathlib.Nat.{zero-add, add-assoc}
 use native.Mathlib.Omega.{arith}
 use lib.ListN.{length, getD}
-use lib.Seq.{take-all}
 use lib.Ieee.{Float, nan}
 use Rattle.vector.specs.Power.{pow-double}
 use Rattle.vector.specs.Tabulate.{tabulate, tabulate-at, tabulate-ext, tabulate-length}
@@ -17,13 +16,8 @@ use Rattle.sweep.specs.Step.{Tables, Tabled}
 use Rattle.sweep.specs.Rule.{entries, weights, forwardRule}
 use Rattle.sweep.specs.Rules.{rule-from}
 use Rattle.sweep.specs.ForwardIs.{forward-is}
-use Rattle.stride.specs.Quarter.{half-is}
+use Rattle.stride.specs.Quarter.{half-is, part-all}
 use Rattle.stride.specs.Rule.{forwardTwice, upperWeights}
-
--- the whole of a list
-part-all : (l : List Float) (n : ℕ) → length l ≡ n → part l 0 n ≡ l
-unfolding part
-part-all l n e = take-all n l (omega arith)
 
 module _ (s : Step Float) (sc : Float) (t : Tables) (a : Tabled s sc t) (s′ : Step Float) (sc′ : Float) (t′ : Tables) (a′ : Tabled s′ sc′ t′)
     (w : ℕ) (d : List Float) (src : ℕ) (wide : 2 ≤ w) (fits : src + 2 ^ w ≤ length d) where

@@ -5,7 +5,7 @@ use mathlib.Core.Logic.{_⊎_}
 use Prim.Native.Nat.{ℕ, _+_, _/_, _^_, _≤_, _<_}
 use lib.ListN.{getD}
 use lib.Ieee.{Float, nan}
-use Rattle.sweep.specs.Rule.{weights, inTurn, forwardRule}
+use Rattle.sweep.specs.Rule.{weights, inTurn, forwardRule, backwardRule}
 use Rattle.stride.specs.declared.runs.Four.{Four}
 
 -- p₀, p₁, p₂ and p₃ by turns
@@ -16,6 +16,11 @@ inFour p₀ p₁ p₂ p₃ k = inTurn (inTurn p₀ p₂ (k / 2)) (inTurn p₁ p�
 -- makes, from the entries a and b, and by r and s in the upper half, from the entries c and d; the second step weighs by e and f.
 abbrev pub forwardTwice : (x y z u : Float) (p q r s e f a b c d : ℕ → Float) → ℕ → Float
 forwardTwice x y z u p q r s e f a b c d = forwardRule z u e f (forwardRule x y p q a b) (forwardRule x y r s c d)
+
+-- Backward, one quarter, from the entries v: the step at the later vertex comes first, with z, u, e and f; then the other, with x, y, p
+-- and q.
+abbrev pub backwardTwice : (x y z u : Float) (p q e f v : ℕ → Float) → ℕ → Float
+backwardTwice x y z u p q e f v = backwardRule x y p q (backwardRule z u e f v)
 
 -- the weights that a table gives to the patterns of 2 ^ h + k
 abbrev pub upperWeights : ℕ → List ℕ → ℕ → List Float → ℕ → Float

@@ -25,7 +25,7 @@ module _ (s : Step Float) (sc : Float) (t : Tables) (a : Tabled s sc t) (w : ℕ
   abbrev made : Float → Float → ℕ → Float
   made x y = backwardRule x y (weights (t .bits) (t .count) (t .up)) (weights (t .bits) (t .count) (t .down)) (entries d src)
 
-  low-entry : (k : ℕ) → k < half → made (t .ep) (t .em) k ≡ S.backwardAt ieee w s sc (before w d src) k
+  pub low-entry : (k : ℕ) → k < half → made (t .ep) (t .em) k ≡ S.backwardAt ieee w s sc (before w d src) k
   unfolding S.backwardAt backwardRule mix
   low-entry k b =
       let z = pow-double w wide in
@@ -40,7 +40,7 @@ module _ (s : Step Float) (sc : Float) (t : Tables) (a : Tabled s sc t) (w : ℕ
         read w d src fits (2 * k + 1) (omega arith),
       )
 
-  high-entry : (k : ℕ) → k < half → made (t .em) (t .ep) k ≡ S.backwardAt ieee w s sc (before w d src) (half + k)
+  pub high-entry : (k : ℕ) → k < half → made (t .em) (t .ep) k ≡ S.backwardAt ieee w s sc (before w d src) (half + k)
   unfolding S.backwardAt backwardRule mix
   high-entry k b =
       let z = pow-double w wide in

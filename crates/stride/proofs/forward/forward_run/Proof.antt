@@ -6,7 +6,8 @@ use lib.ListN.{length, length-set}
 use Rattle.vector.specs.Part.{put, fill-none}
 use Rattle.vector.specs.Tabulate.{tabulate}
 use Rattle.sweep.specs.Rule.{blend}
-use Rattle.stride.proofs.ForwardTurn.{after-seven, four, runRule, run-turn}
+use Rattle.stride.proofs.Fours.{after-seven, four}
+use Rattle.stride.proofs.ForwardTurn.{runRule, run-turn}
 use Rattle.stride.proofs.forward.forward_run.Statement.{statement}
 use Rattle.stride.proofs.forward.forward_run.Tie as tie
 
