@@ -15,7 +15,7 @@ use Rattle.plan.specs.Layout.{stepIn, forwardPlace}
 use Rattle.sweep.specs.Place.{Place, Places, held, hold}
 use Rattle.vertex.specs.Frame.{moving-fits, Wrote, wrote-same}
 use Rattle.vertex.specs.Ready.{Ready, Readable, Stepping, Still, still-none, still-then, still-wrote, still-swept, tail-factors, tail-scale}
-use Rattle.vertex.specs.Through.{Through, forwardThrough, through-one, through-two, through-full}
+use Rattle.vertex.specs.Through.{Through, forwardBy, through, forward-full, through-one, through-two, through-full}
 use Rattle.answers.specs.declared.propagate.Hand.{Hand}
 use Rattle.answers.specs.Hand.{Passed, Reached, AdvanceTurn, Advanced, Propagated}
 
@@ -106,12 +106,12 @@ module _ (plan : List ℕ) (r₀ r : List Float) (n w scales from at t src : ℕ
       }
 
   pub advance-through : Through plan (length r) w (scales + n) (t + 1) last
-  advance-through = ⊎-elim inl (λ p. inr (record { next = p .next; wide = p .wide; reads = readable last last-inside })) turn
+  advance-through = ⊎-elim inl (λ p. inr (record { wide = p .wide; reads = readable last last-inside })) turn
 
   module _ (r′ : List Float) (scale then : Float) (es : scale ≡ getD r (scales + (t + 1)) nan) (et : then ≡ getD r (scales + last) nan)
-      (made : r′ ≡ hold r w (1 - src) (forwardThrough plan (drop (scales + n) r) w (t + 1) last scale then (held r w src))) where
+      (made : r′ ≡ hold r w (1 - src) (through (forwardBy plan (drop (scales + n) r) w) (t + 1) last scale then (held r w src))) where
     abbrev stepped : Wrote r r′ w (1 - src)
-    stepped = record { vector = _; full = through-full plan (drop (scales + n) r) w (t + 1) last scale then (held r w src); done = made }
+    stepped = record { vector = _; full = through-full (forwardBy plan (drop (scales + n) r) w) (t + 1) last scale then (held r w src) (forward-full plan (drop (scales + n) r) w); done = made }
 
     module _ (J : Job Float) (each : Bool) (u : ℕ) (passed : Passed J plan r₀ n w scales each) (before : Reached J r₀ w u from at) where
       now : Reached J r w u t src
@@ -130,12 +130,12 @@ module _ (plan : List ℕ) (r₀ r : List Float) (n w scales from at t src : ℕ
       first : S.forwardStep ieee w (stepIn plan (drop (scales + n) r) (t + 1)) scale (held r w src) ≡ S.propagated ieee J u (t + 1 - u)
       first = step-on t scale (held r w src) (now .order) next-inside es (now .vector)
 
-      gone : forwardThrough plan (drop (scales + n) r) w (t + 1) last scale then (held r w src) ≡ S.propagated ieee J u (last - u)
+      gone : through (forwardBy plan (drop (scales + n) r) w) (t + 1) last scale then (held r w src) ≡ S.propagated ieee J u (last - u)
       gone =
           ⊎-elim
-          (λ e. through-one plan _ w (t + 1) last scale then (held r w src) e ∙ first ∙ ap (λ (v : ℕ). S.propagated ieee J u (v - u)) (sym e))
+          (λ e. through-one (forwardBy plan (drop (scales + n) r) w) (t + 1) last scale then (held r w src) e ∙ first ∙ ap (λ (v : ℕ). S.propagated ieee J u (v - u)) (sym e))
           (λ p.
-          through-two plan _ w (t + 1) last scale then (held r w src) (λ e. omega (arith, p .next))
+          through-two (forwardBy plan (drop (scales + n) r) w) (t + 1) last scale then (held r w src) (λ e. omega (arith, p .next))
           ∙ second (p .next)) turn
         where
           second : last ≡ t + 1 + 1

@@ -1,16 +1,15 @@
 -- The forward sweep: its start, and a turn.
 use mathlib.Core.Path.{_≡_, refl, sym, ap, _∙_}
-use mathlib.Core.Bool.{Bool, false, cond}
+use mathlib.Core.Bool.{Bool, cond}
 use mathlib.Core.List.{List}
 use mathlib.Core.Logic.{inl, inr, ⊎-elim, dite}
-use Prim.Native.Nat.{ℕ, suc, _+_, _%_, _≤_, _<_}
+use Prim.Native.Nat.{ℕ, suc, _+_, _≤_, _<_}
 use native.Mathlib.Numerals.{add-one}
 use native.Mathlib.Decide.{decLt}
 use native.Mathlib.Omega.{arith}
 use lib.ListN.{length, getD, drop, set, length-set}
 use lib.Seq.{getD-set-same, getD-set-other, drop-set-lt}
-use lib.Ieee.{Float, nan, binary64, div, round}
-use borrow.Author.Tests.{ne-eqb}
+use lib.Ieee.{Float, nan, binary64, div}
 use Rattle.transfer.specs.Job.{Job, Manner, Step, block, perElement, stepOf}
 use Rattle.transfer.specs.Rounded.{ieee}
 use Rattle.transfer.specs.Sweep as S
@@ -18,13 +17,14 @@ use Rattle.plan.specs.Layout.{stepIn, forwardPlace}
 use Rattle.sweep.specs.Place.{held, hold}
 use Rattle.vertex.specs.Frame.{Fits, moving-fits, Wrote, wrote-length, wrote-same, wrote-other, wrote-at, wrote-drop, set-held}
 use Rattle.vertex.specs.Ready.{Ready, PlanOf, Stepping}
-use Rattle.vertex.specs.Through.{Through, forwardThrough, through-one, through-two, through-full}
+use Rattle.vertex.specs.Through.{Through, forwardBy, through, forward-full, through-one, through-two, through-full}
 use Rattle.sweeps.specs.Target.{Target}
 use Rattle.sweeps.specs.Kept.{SameFrom}
 use Rattle.sweeps.specs.Turn.{ForwardPair, ForwardTurn}
 use Rattle.sweeps.specs.Going.{NewestForward, Going}
 use Rattle.sweeps.proofs.Targets.{Aimed, target-fits, target-own, target-other, target-free}
 use Rattle.sweeps.proofs.Frames.{place-of, stepping, start-full}
+use Rattle.sweeps.proofs.Unscaled.{unscaled}
 
 -- ---- the definition, opened
 
@@ -91,26 +91,6 @@ module _ {plan : List ℕ} (e : List Float) {r : List Float} {n w scales : ℕ} 
         };
       }
 
--- where no largest entry is due after the step at t, the next scale is 1.0
-
-one-over-one : div binary64 (ieee .𝟙) (ieee .𝟙) ≡ ieee .𝟙
-unfolding div round
-one-over-one = refl
-
-not-due : (t : ℕ) (v : List Float) → (t % 4 ≡ 3 → ⊥) → S.stored ieee block 3 t v ≡ ieee .𝟙
-unfolding S.stored
-not-due t v d = rw (ne-eqb (t % 4) 3 d)
-
-next-entry : (J : Job Float) (each : Bool) (t : ℕ) → J .manner ≡ cond each perElement block → each ≡ false → (t % 4 ≡ 3 → ⊥)
-    → S.beforeStep ieee J (suc t) .1 ≡ ieee .𝟙
-next-entry J each t m e d =
-    entry-next J t ∙ ap (λ (k : Manner). S.stored ieee k 3 t (S.beforeStep ieee J (suc t) .0)) (m ∙ ap (λ (b : Bool). cond b perElement block) e)
-    ∙ not-due t _ d
-
-next-scale : (J : Job Float) (each : Bool) (t : ℕ) → J .manner ≡ cond each perElement block → each ≡ false → (t % 4 ≡ 3 → ⊥)
-    → div binary64 (ieee .𝟙) (S.beforeStep ieee J (suc t) .1) ≡ ieee .𝟙
-next-scale J each t m e d = ap (div binary64 (ieee .𝟙)) (next-entry J each t m e d) ∙ one-over-one
-
 -- ---- a turn: the scales are stored, then the steps are taken
 
 pub turn-inside : {plan : List ℕ} {n w : ℕ} {each : Bool} {t last : ℕ} → ForwardTurn plan n w each t last → t < n → (t ≤ last) × (last < n)
@@ -149,14 +129,14 @@ module _ {plan : List ℕ} {r₀ r : List Float} {n w scales : ℕ} {each : Bool
     going-through =
         rw length-same
         (⊎-elim inl
-        (λ p. inr (record { next = p .next; wide = p .wide; reads = stepping (g .ready) last src dst last-inside (g .free .fits) going-fits (target-other aimed (λ u. t ≤ u) (g .free) last-order) .reads }))
+        (λ p. inr (record { wide = p .wide; reads = stepping (g .ready) last src dst last-inside (g .free .fits) going-fits (target-other aimed (λ u. t ≤ u) (g .free) last-order) .reads }))
         turn)
 
     module _ {r₂ : List Float} {most′ : Float} (unit : one ≡ ieee .𝟙) (one-over : scale ≡ div binary64 (ieee .𝟙) most)
-        (step : r₂ ≡ hold r₁ w dst (forwardThrough plan (drop (scales + n) r₁) w t last scale one (held r₁ w src)))
+        (step : r₂ ≡ hold r₁ w dst (through (forwardBy plan (drop (scales + n) r₁) w) t last scale one (held r₁ w src)))
         (taken : most′ ≡ S.stored ieee (cond each perElement block) 3 last (held r₂ w dst)) where
       abbrev wrote : Wrote r₁ r₂ w dst
-      wrote = record { vector = _; full = through-full plan (drop (scales + n) r₁) w t last scale one (held r₁ w src); done = step }
+      wrote = record { vector = _; full = through-full (forwardBy plan (drop (scales + n) r₁) w) t last scale one (held r₁ w src) (forward-full plan (drop (scales + n) r₁) w); done = step }
 
       inside : (p : ℕ) → Fits w scales p → Fits w (length r₁) p
       inside p f = rw length-same (place-of (g .ready) p f .inside)
@@ -202,7 +182,8 @@ module _ {plan : List ℕ} {r₀ r : List Float} {n w scales : ℕ} {each : Bool
         next-one : ForwardPair plan n w each t last → one ≡ div binary64 (ieee .𝟙) (before last .1)
         next-one p =
             let e : last ≡ suc t = omega (arith, p .next) in
-            unit ∙ rw e (sym (next-scale J each t (of .manner) (p .blocks) (p .due)))
+            unit
+            ∙ rw e (sym (ap (div binary64 (ieee .𝟙)) (entry-next J t) ∙ unscaled (J .manner) each 3 t (before (suc t) .0) (of .manner) (p .blocks) (p .due)))
 
         second : ForwardPair plan n w each t last
             → S.forwardStep ieee w (stepIn plan (drop (scales + n) r₁) last) one (before (suc t) .0) ≡ before (suc last) .0
@@ -214,11 +195,11 @@ module _ {plan : List ℕ} {r₀ r : List Float} {n w scales : ℕ} {each : Bool
             ∙ ap (λ (k : ℕ). S.forwardStep ieee k (stepOf J last) (div binary64 (ieee .𝟙) (before last .1)) (before last .0)) (sym (of .window))
             ∙ sym (vector-next J last)
 
-        made : forwardThrough plan (drop (scales + n) r₁) w t last scale one (held r₁ w src) ≡ before (suc last) .0
+        made : through (forwardBy plan (drop (scales + n) r₁) w) t last scale one (held r₁ w src) ≡ before (suc last) .0
         made =
             ⊎-elim
-            (λ e. through-one plan _ w t last scale one (held r₁ w src) e ∙ first ∙ ap (λ (u : ℕ). before (suc u) .0) (sym e))
-            (λ p. through-two plan _ w t last scale one (held r₁ w src) (λ e. omega (arith, p .next))
+            (λ e. through-one (forwardBy plan (drop (scales + n) r₁) w) t last scale one (held r₁ w src) e ∙ first ∙ ap (λ (u : ℕ). before (suc u) .0) (sym e))
+            (λ p. through-two (forwardBy plan (drop (scales + n) r₁) w) t last scale one (held r₁ w src) (λ e. omega (arith, p .next))
             ∙ ap (λ (v : List Float). S.forwardStep ieee w (stepIn plan (drop (scales + n) r₁) last) one v) first ∙ second p)
             turn
 

@@ -1,21 +1,18 @@
 // A step from one place of the room to another.
 ghost use mathlib.Core.Path.{_≡_};
-ghost use Prim.Native.Nat.{_+_, _≤_};
 ghost use lib.ListN.{length, drop};
 ghost use Rattle.transfer.specs.Rounded.{ieee};
 ghost use Rattle.transfer.specs.Sweep.{forwardStep, backwardStep};
 ghost use Rattle.plan.specs.Layout.{stepIn};
 ghost use Rattle.sweep.specs.Place.{held, hold};
-ghost use Rattle.vertex.specs.Ready.{Readable, Stepping};
-ghost use Rattle.vertex.specs.Through.{Through, forwardThrough};
+ghost use Rattle.vertex.specs.Ready.{Stepping};
 use crate::tables::tables_at;
 use plan::near_count;
-use stride::stride_forward;
 use sweep::step_backward;
 use sweep::step_forward;
 
 // The forward step at t, with the scale, from the vector at place src to place dst.
-pub fn forward_at(
+pub(crate) fn forward_at(
     room: &mut [f64],
     factors: usize,
     plan: &[usize],
@@ -47,99 +44,8 @@ pub fn forward_at(
     step_forward(room, src, dst, w, ep, 1.0 / ep, &bits, count, &up, &down);
 }
 
-// The forward step at t with the scale, and then the one at t + 1 with the other scale, in one pass.
-fn forward_two_at(
-    room: &mut [f64],
-    factors: usize,
-    plan: &[usize],
-    w: usize,
-    t: usize,
-    scale: f64,
-    then: f64,
-    src: usize,
-    dst: usize,
-)
-    requires { ⌜ (3 ≤ w) × Stepping (now plan) (length (now room)) w factors t src dst × Readable (now plan) (length (now room)) w factors (t + 1) ⌝ }
-    ensures { λ _. ⌜ now (room .exit) ≡ hold (now (room .entry)) w dst
-        (forwardStep ieee w (stepIn (now (plan .entry)) (drop factors (now (room .entry))) (t + 1)) then
-        (forwardStep ieee w (stepIn (now (plan .entry)) (drop factors (now (room .entry))) t) scale (held (now (room .entry)) w src))) ⌝ }
-{
-    let mut bits = [0usize; 4];
-    let mut up = [0.0f64; 16];
-    let mut down = [0.0f64; 16];
-    let ep = tables_at(
-        room,
-        factors,
-        plan,
-        w,
-        t,
-        scale,
-        &mut bits,
-        &mut up,
-        &mut down,
-    );
-    let mut bits2 = [0usize; 4];
-    let mut up2 = [0.0f64; 16];
-    let mut down2 = [0.0f64; 16];
-    let ep2 = tables_at(
-        room,
-        factors,
-        plan,
-        w,
-        t + 1,
-        then,
-        &mut bits2,
-        &mut up2,
-        &mut down2,
-    );
-    let n = near_count(plan, t);
-    let n2 = near_count(plan, t + 1);
-    stride_forward(
-        room,
-        src,
-        dst,
-        w,
-        ep,
-        1.0 / ep,
-        &bits,
-        n,
-        &up,
-        &down,
-        ep2,
-        1.0 / ep2,
-        &bits2,
-        n2,
-        &up2,
-        &down2,
-    );
-}
-
-// The forward steps from t to last, which is t or t + 1: the first with the scale, the second with the other.
-pub fn forward_through(
-    room: &mut [f64],
-    factors: usize,
-    plan: &[usize],
-    w: usize,
-    t: usize,
-    last: usize,
-    scale: f64,
-    then: f64,
-    src: usize,
-    dst: usize,
-)
-    requires { ⌜ Stepping (now plan) (length (now room)) w factors t src dst × Through (now plan) (length (now room)) w factors t last ⌝ }
-    ensures { λ _. ⌜ now (room .exit) ≡ hold (now (room .entry)) w dst
-        (forwardThrough (now (plan .entry)) (drop factors (now (room .entry))) w t last scale then (held (now (room .entry)) w src)) ⌝ }
-{
-    if last == t {
-        forward_at(room, factors, plan, w, t, scale, src, dst);
-    } else {
-        forward_two_at(room, factors, plan, w, t, scale, then, src, dst);
-    }
-}
-
 // The backward step at t likewise.
-pub fn backward_at(
+pub(crate) fn backward_at(
     room: &mut [f64],
     factors: usize,
     plan: &[usize],

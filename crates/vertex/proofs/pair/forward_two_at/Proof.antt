@@ -1,8 +1,8 @@
 -- Both tables are read, and the steps are taken by them.
 use Rattle.sweep.specs.Constants.{one-is}
 use borrow.Author.Needs.{needs}
-use Rattle.vertex.proofs.step.forward_two_at.Statement.{statement}
-use Rattle.vertex.proofs.step.forward_two_at.Tie as tie
+use Rattle.vertex.proofs.pair.forward_two_at.Statement.{statement}
+use Rattle.vertex.proofs.pair.forward_two_at.Tie as tie
 
 slice-aggregate-tables-at : tie.Need-slice-aggregate-tables-at
 slice-aggregate-tables-at c = search needs
@@ -15,9 +15,6 @@ slice-aggregate-tables-at-3 c = search needs
 
 tables-at-requires : tie.Need-tables-at-requires
 tables-at-requires c κs = search needs
-
-add-tables-at : tie.Need-add-tables-at
-add-tables-at c = search needs
 
 slice-aggregate-tables-at-4 : tie.Need-slice-aggregate-tables-at-4
 slice-aggregate-tables-at-4 c = search needs
@@ -34,17 +31,14 @@ tables-at-requires-2 c κs = search needs
 near-count-requires : tie.Need-near-count-requires
 near-count-requires c κs = search needs
 
-add-near-count : tie.Need-add-near-count
-add-near-count c = search needs
-
 near-count-requires-2 : tie.Need-near-count-requires-2
 near-count-requires-2 c κs = search needs
 
 stride-forward-requires : tie.Need-stride-forward-requires
 stride-forward-requires c κs =
     let s = c .before .before .before .before .before .before .before .before .before .before .before .before .before .before .before .before .before .before .before .before .before .before .before .before .before .before .before in (
-      s .pre .0,
-      s .pre .1 .places,
+      s .pre .1 .wide,
+      s .pre .0 .places,
       rw (c .before .before .before .before .before .before .before .before .near-count .ensures) (c .before .before .before .before .before .before .before .before .before .before .before .before .before .before .before .before .before .before .before .before .tables-at .ensures .1),
       rw (c .before .before .before .before .before .before .before .near-count2 .ensures) (c .before .before .before .before .before .before .before .before .before .before .before .before .tables-at2 .ensures .1),
     )
@@ -66,13 +60,11 @@ forward-two-at-spec =
     slice-aggregate-tables-at-2
     slice-aggregate-tables-at-3
     tables-at-requires
-    add-tables-at
     slice-aggregate-tables-at-4
     slice-aggregate-tables-at-5
     slice-aggregate-tables-at-6
     tables-at-requires-2
     near-count-requires
-    add-near-count
     near-count-requires-2
     stride-forward-requires
     same-length
