@@ -2,6 +2,7 @@
 use mathlib.Core.Path.{_≡_, refl, sym, ap, _∙_}
 use mathlib.Core.Bool.{Bool}
 use mathlib.Core.List.{List}
+use mathlib.Core.Logic.{inl, inr, ⊎-elim}
 use Prim.Native.Nat.{ℕ, suc, _+_, _-_, _^_, _≤_, _<_}
 use native.Mathlib.Omega.{arith}
 use lib.ListN.{length, getD, drop}
@@ -13,9 +14,10 @@ use Rattle.transfer.specs.Sweep as S
 use Rattle.plan.specs.Layout.{stepIn, forwardPlace}
 use Rattle.sweep.specs.Place.{Place, Places, held, hold}
 use Rattle.vertex.specs.Frame.{moving-fits, Wrote, wrote-same}
-use Rattle.vertex.specs.Ready.{Ready, Stepping, Still, still-none, still-then, still-wrote, still-swept, tail-factors, tail-scale}
+use Rattle.vertex.specs.Ready.{Ready, Readable, Stepping, Still, still-none, still-then, still-wrote, still-swept, tail-factors, tail-scale}
+use Rattle.vertex.specs.Through.{Through, forwardBy, through, forward-full, through-one, through-two, through-full}
 use Rattle.answers.specs.declared.propagate.Hand.{Hand}
-use Rattle.answers.specs.Hand.{Passed, Reached, Advanced, Propagated}
+use Rattle.answers.specs.Hand.{Passed, Reached, AdvanceTurn, Advanced, Propagated}
 
 -- ---- what stays
 
@@ -54,10 +56,6 @@ alternate-length : (w : ℕ) (v : List Float) → length (S.alternate ieee w v) 
 unfolding S.alternate
 alternate-length w v = tabulate-length _ (2 ^ w)
 
-step-length : (w : ℕ) (s : Step Float) (x : Float) (v : List Float) → length (S.forwardStep ieee w s x v) ≡ 2 ^ w
-unfolding S.forwardStep
-step-length w s x v = tabulate-length _ (2 ^ w)
-
 step-same : (w w′ : ℕ) (s s′ : Step Float) (x x′ : Float) (v v′ : List Float) → w ≡ w′ → s ≡ s′ → x ≡ x′ → v ≡ v′
     → S.forwardStep ieee w s x v ≡ S.forwardStep ieee w′ s′ x′ v′
 step-same w w′ s s′ x x′ v v′ a b c d = cc
@@ -69,24 +67,37 @@ pub moving-place : (plan : List ℕ) (len n w scales p : ℕ) → Ready plan len
 moving-place plan len n w scales p g l =
     record { wide = g .wide; narrow = g .narrow; inside = omega (arith, g .ends, moving-fits w scales p l (g .moving)) }
 
--- ---- on by no step, and by one: from place src to the other moving place
+-- ---- on by no step, and by a turn of one or two: from place src to the other moving place
 
 pub advance-none : (plan : List ℕ) (r : List Float) (n w scales from at : ℕ) → at < 2 → Advanced plan r r n w scales from at from at
 advance-none plan r n w scales from at l = record { moving = l; still = still-none r w scales; reached = λ J each u passed before. before }
 
+pub turn-inside : {w t to last : ℕ} → AdvanceTurn w t to last → t ≤ to → (t ≤ last) × (last ≤ to)
+turn-inside (inl e) b = omega arith
+turn-inside (inr p) b = omega (arith, p .next, p .inside)
+
 module _ (plan : List ℕ) (r₀ r : List Float) (n w scales from at t src : ℕ) (ready : Ready plan (length r₀) n w scales)
-    (g : Advanced plan r₀ r n w scales from at t src) (inside : t + 1 < n) where
+    (g : Advanced plan r₀ r n w scales from at t src) {to last : ℕ} (turn : AdvanceTurn w (t + 1) to last) (order : t + 1 ≤ to) (end : to < n) where
   ready-now : Ready plan (length r) n w scales
   ready-now = still-ready plan r₀ r n w scales (g .still) ready
 
   other : 1 - src < 2
   other = omega arith
 
+  next-inside : t + 1 < n
+  next-inside = omega arith
+
+  last-inside : last < n
+  last-inside = omega (arith, turn-inside turn order)
+
+  readable : (u : ℕ) → u < n → Readable plan (length r) w (scales + n) u
+  readable u l = let p = ready-now in record { holds = omega (arith, p .holds); ends = p .ends; vertex = p .vertex u l }
+
   pub advance-stepping : Stepping plan (length r) w (scales + n) (t + 1) src (1 - src)
   advance-stepping =
       let p = ready-now in
       record {
-        reads = record { holds = omega (arith, p .holds); ends = p .ends; vertex = p .vertex (t + 1) inside };
+        reads = readable (t + 1) next-inside;
         places = record {
           from = moving-place plan (length r) n w scales src p (g .moving);
           to = moving-place plan (length r) n w scales (1 - src) p other;
@@ -94,27 +105,59 @@ module _ (plan : List ℕ) (r₀ r : List Float) (n w scales from at t src : ℕ
         };
       }
 
-  pub advance-turn : (r′ : List Float) (scale : Float) → scale ≡ getD r (scales + (t + 1)) nan
-      → r′ ≡ hold r w (1 - src) (S.forwardStep ieee w (stepIn plan (drop (scales + n) r) (t + 1)) scale (held r w src))
-      → Advanced plan r₀ r′ n w scales from at (t + 1) (1 - src)
-  advance-turn r′ scale es e =
-      let p = ready-now in
-      let wrote : Wrote r r′ w (1 - src) = record { vector = _; full = step-length w _ scale (held r w src); done = e } in
-      record {
-        moving = other;
-        still = still-then r₀ r r′ w scales (g .still) (still-wrote plan r r′ n w scales (1 - src) p other wrote);
-        reached = λ J each u passed before.
-            let now = g .reached J each u passed before in
-            record {
-              order = omega (arith, now .order);
-              vector = wrote-same r r′ w (1 - src) wrote (moving-place plan (length r) n w scales (1 - src) p other .inside)
-                  ∙ step-same w (J .window) _ (stepOf J (t + 1)) scale (S.scale ieee J (t + 1)) (held r w src) _ (sym (passed .of .window))
-                  (ap (λ (x : List Float). stepIn plan x (t + 1)) (tail-factors r₀ r scales n (g .still .tail)) ∙ passed .of .step (t + 1) inside)
-                  (es ∙ tail-scale r₀ r scales (t + 1) (g .still .tail) ∙ passed .swept .forward .scaled (t + 1) inside)
-                  (now .vector)
-                  ∙ sym (propagated-step J u t (now .order));
-            };
-      }
+  pub advance-through : Through plan (length r) w (scales + n) (t + 1) last
+  advance-through = ⊎-elim inl (λ p. inr (record { wide = p .wide; reads = readable last last-inside })) turn
+
+  module _ (r′ : List Float) (scale then : Float) (es : scale ≡ getD r (scales + (t + 1)) nan) (et : then ≡ getD r (scales + last) nan)
+      (made : r′ ≡ hold r w (1 - src) (through (forwardBy plan (drop (scales + n) r) w) (t + 1) last scale then (held r w src))) where
+    abbrev stepped : Wrote r r′ w (1 - src)
+    stepped = record { vector = _; full = through-full (forwardBy plan (drop (scales + n) r) w) (t + 1) last scale then (held r w src) (forward-full plan (drop (scales + n) r) w); done = made }
+
+    module _ (J : Job Float) (each : Bool) (u : ℕ) (passed : Passed J plan r₀ n w scales each) (before : Reached J r₀ w u from at) where
+      now : Reached J r w u t src
+      now = g .reached J each u passed before
+
+      -- a step from what is propagated to v on to v + 1
+      step-on : (v : ℕ) (x : Float) (l : List Float) → u ≤ v → v + 1 < n → x ≡ getD r (scales + (v + 1)) nan → l ≡ S.propagated ieee J u (v - u)
+          → S.forwardStep ieee w (stepIn plan (drop (scales + n) r) (v + 1)) x l ≡ S.propagated ieee J u (v + 1 - u)
+      step-on v x l order b e h =
+          step-same w (J .window) _ (stepOf J (v + 1)) x (S.scale ieee J (v + 1)) l _ (sym (passed .of .window))
+          (ap (λ (y : List Float). stepIn plan y (v + 1)) (tail-factors r₀ r scales n (g .still .tail)) ∙ passed .of .step (v + 1) b)
+          (e ∙ tail-scale r₀ r scales (v + 1) (g .still .tail) ∙ passed .swept .forward .scaled (v + 1) b)
+          h
+          ∙ sym (propagated-step J u v order)
+
+      first : S.forwardStep ieee w (stepIn plan (drop (scales + n) r) (t + 1)) scale (held r w src) ≡ S.propagated ieee J u (t + 1 - u)
+      first = step-on t scale (held r w src) (now .order) next-inside es (now .vector)
+
+      gone : through (forwardBy plan (drop (scales + n) r) w) (t + 1) last scale then (held r w src) ≡ S.propagated ieee J u (last - u)
+      gone =
+          ⊎-elim
+          (λ e. through-one (forwardBy plan (drop (scales + n) r) w) (t + 1) last scale then (held r w src) e ∙ first ∙ ap (λ (v : ℕ). S.propagated ieee J u (v - u)) (sym e))
+          (λ p.
+          through-two (forwardBy plan (drop (scales + n) r) w) (t + 1) last scale then (held r w src) (λ e. omega (arith, p .next))
+          ∙ second (p .next)) turn
+        where
+          second : last ≡ t + 1 + 1
+              → S.forwardStep ieee w (stepIn plan (drop (scales + n) r) last) then
+              (S.forwardStep ieee w (stepIn plan (drop (scales + n) r) (t + 1)) scale (held r w src))
+              ≡ S.propagated ieee J u (last - u)
+          second e =
+              let b : t + 1 + 1 < n = omega (arith, last-inside) in
+              rw e (step-on (t + 1) then _ (omega (arith, now .order)) b (rw e at et) first)
+
+    pub advance-turn : Advanced plan r₀ r′ n w scales from at last (1 - src)
+    advance-turn =
+        let p = ready-now in
+        record {
+          moving = other;
+          still = still-then r₀ r r′ w scales (g .still) (still-wrote plan r r′ n w scales (1 - src) p other stepped);
+          reached = λ J each u passed before.
+              record {
+                order = omega (arith, now J each u passed before .order, turn-inside turn order);
+                vector = wrote-same r r′ w (1 - src) stepped (moving-place plan (length r) n w scales (1 - src) p other .inside) ∙ gone J each u passed before;
+              };
+        }
 
 -- ---- on from the one at hand
 

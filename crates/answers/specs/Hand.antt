@@ -2,6 +2,7 @@
 use mathlib.Core.Path.{_≡_}
 use mathlib.Core.Bool.{Bool}
 use mathlib.Core.List.{List}
+use mathlib.Core.Logic.{_⊎_}
 use Prim.Native.Nat.{ℕ, _+_, _-_, _≤_, _<_}
 use lib.ListN.{drop}
 use lib.Ieee.{Float}
@@ -23,6 +24,15 @@ pub record Passed (J : Job Float) (plan : List ℕ) (r : List Float) (n w scales
 pub record Reached (J : Job Float) (r : List Float) (w u t at : ℕ) : Type 0 where
   pub order : u ≤ t
   pub vector : held r w at ≡ S.propagated ieee J u (t - u)
+
+-- The steps of a turn from t on: to `last`, which is t, or the next if that is not past `to`.
+pub record AdvancePair (w t to last : ℕ) : Type 0 where
+  pub next : last ≡ t + 1
+  pub inside : last ≤ to
+  pub wide : 3 ≤ w
+
+abbrev pub AdvanceTurn : (w t to last : ℕ) → Type 0
+AdvanceTurn w t to last = (last ≡ t) ⊎ AdvancePair w t to last
 
 -- A propagated vector that had reached `from` at place `at`, whichever it was, has reached `to` at place `on`.
 pub record Advanced (plan : List ℕ) (r₀ r : List Float) (n w scales from at to on : ℕ) : Type 0 where

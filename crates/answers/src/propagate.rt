@@ -3,16 +3,28 @@ ghost use Prim.Native.Nat.{_≤_, _<_};
 ghost use lib.ListN.{length};
 ghost use Rattle.plan.specs.Layout.{forwardPlace};
 ghost use Rattle.vertex.specs.Ready.{Ready};
-ghost use Rattle.answers.specs.Hand.{Advanced, Propagated};
+ghost use Rattle.answers.specs.Hand.{AdvanceTurn, Advanced, Propagated};
 use plan::forward_place;
 use sweep::alternate;
-use vertex::forward_at;
+use vertex::forward_through;
 
 // The propagated vector at hand: of which vertex, which vertex it has reached, and its place. The vertex is n where there is none.
 pub struct Hand {
     pub vertex: usize,
     pub reached: usize,
     pub place: usize,
+}
+
+// The last vertex of a turn from t on, before or at `to`: two steps are taken in one pass where they can be. In a window below 6 one at a
+// time is as quick.
+fn advance_last(w: usize, t: usize, to: usize) -> usize
+    requires { ⌜ t ≤ to ⌝ }
+    ensures { λ r. ⌜ AdvanceTurn w t to r ⌝ }
+{
+    if w < 6 {
+        return t;
+    }
+    if t == to { t } else { t + 1 }
 }
 
 // The vector at place `at`, which has reached vertex `from`, goes on to vertex `to` by the stored scales; returns its place.
@@ -33,11 +45,13 @@ fn advance(
     let mut t = from;
     while t < to {
         let next = t + 1;
+        let last = advance_last(w, next, to);
         let scale = room[scales + next];
+        let then = room[scales + last];
         let dst = 1 - src;
-        forward_at(room, scales + n, plan, w, next, scale, src, dst);
+        forward_through(room, scales + n, plan, w, next, last, scale, then, src, dst);
         src = dst;
-        t = next;
+        t = last;
     }
     src
 }

@@ -11,7 +11,7 @@ use Rattle.vector.specs.Tabulate.{tabulate}
 use Rattle.vector.specs.Part.{Apart, part, put, fill-two, read-apart}
 use Rattle.transfer.specs.Rounded.{ieee}
 use Rattle.transfer.specs.Sweep as S
-use Rattle.sweep.proofs.Tabled.{before, read}
+use Rattle.sweep.specs.Tabled.{before, read}
 
 -- entry j of the vector at src, negated where j is odd
 abbrev pub turned : ℕ → List Float → ℕ → ℕ → Float

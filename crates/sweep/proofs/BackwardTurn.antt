@@ -1,26 +1,18 @@
 -- What the loops of a backward step know on their way, and that the step is the definition's.
-use mathlib.Core.Path.{_≡_, refl, sym, ap, _∙_}
+use mathlib.Core.Path.{_≡_, refl, ap, _∙_}
 use mathlib.Core.List.{List}
 use mathlib.Core.Logic.{dite}
 use Prim.Native.Nat.{ℕ, _+_, _*_, _-_, _%_, _^_, _≤_, _<_}
-use native.Mathlib.Nat.{add-mod-left, mod-eq-of-lt}
 use native.Mathlib.Decide.{decLt}
 use native.Mathlib.Omega.{arith}
 use lib.ListN.{length, getD, set}
 use lib.Seq.{set-comm}
 use lib.Ieee.{Float, nan}
-use borrow.Author.Tests.{lt-ltb, le-ltb}
-use Rattle.vector.specs.Power.{pow-double}
-use Rattle.vector.specs.Tabulate.{tabulate}
-use Rattle.vector.specs.Part.{Apart, apart-within, part, put, both, both-one, both-run, both-apart, both-together}
-use Rattle.transfer.specs.Job.{Step}
-use Rattle.transfer.specs.Rounded.{ieee}
-use Rattle.transfer.specs.Sweep as S
-use Rattle.sweep.specs.Step.{Tables, Tabled, patternBy}
+use Rattle.vector.specs.Part.{Apart, apart-within, both, both-one, both-run, both-apart}
+use Rattle.sweep.specs.Step.{patternBy}
 use Rattle.sweep.specs.Rule.{entries, weights, inTurn, mix, backwardRule}
 use Rattle.sweep.proofs.Patterns.{AtBlock, block-ends, block-pattern}
-use Rattle.sweep.proofs.Rules.{turn-even, turn-odd, turn-pick, turn-same}
-use Rattle.sweep.proofs.Tabled.{before, read, up-weight, down-weight}
+use Rattle.sweep.specs.Rules.{turn-even, turn-odd, turn-pick, turn-same}
 
 -- a turn of a run at i
 module _ (x y p₀ q₀ p₁ q₁ : Float) (s lo hi n : ℕ) (d v : List Float) (i : ℕ)
@@ -140,55 +132,6 @@ module _ {l : List ℕ} {n low e h half size k : ℕ} (b : AtBlock l n low e h h
       w′ ∙ ap (λ (r : List Float). both r (dst + k) (dst + half + k) (block ep em) (block em ep) size) w
       ∙ both-run d dst (dst + half) (step ep em) (step em ep) (block ep em) (block em ep) k size (omega arith) (omega (arith, f .to))
       (same ep em) (same em ep)
-
--- the step by tables is the definition's step
-module _ (s : Step Float) (sc : Float) (t : Tables) (a : Tabled s sc t) (w : ℕ) (d : List Float) (src dst : ℕ)
-    (wide : 1 ≤ w) (fits : src + 2 ^ w ≤ length d) where
-  abbrev half : ℕ
-  half = 2 ^ (w - 1)
-
-  abbrev made : Float → Float → ℕ → Float
-  made x y = backwardRule x y (weights (t .bits) (t .count) (t .up)) (weights (t .bits) (t .count) (t .down)) (entries d src)
-
-  low-entry : (k : ℕ) → k < half → made (t .ep) (t .em) k ≡ S.backwardAt ieee w s sc (before w d src) k
-  unfolding S.backwardAt backwardRule mix
-  low-entry k b =
-      let z = pow-double w wide in
-      rw (
-        mod-eq-of-lt b,
-        lt-ltb k half b,
-        a .plus,
-        a .minus,
-        up-weight s sc t a k,
-        down-weight s sc t a k,
-        read w d src fits (2 * k) (omega arith),
-        read w d src fits (2 * k + 1) (omega arith),
-      )
-
-  high-entry : (k : ℕ) → k < half → made (t .em) (t .ep) k ≡ S.backwardAt ieee w s sc (before w d src) (half + k)
-  unfolding S.backwardAt backwardRule mix
-  high-entry k b =
-      let z = pow-double w wide in
-      let r : (half + k) % half ≡ k = add-mod-left half k ∙ mod-eq-of-lt b in
-      rw (
-        r,
-        le-ltb (half + k) half (omega arith),
-        a .plus,
-        a .minus,
-        up-weight s sc t a k,
-        down-weight s sc t a k,
-        read w d src fits (2 * k) (omega arith),
-        read w d src fits (2 * k + 1) (omega arith),
-      )
-
-  pub backward-is : dst + 2 ^ w ≤ length d
-      → both d dst (dst + half) (made (t .ep) (t .em)) (made (t .em) (t .ep)) half ≡ put d dst (S.backwardStep ieee w s sc (part d src (2 ^ w)))
-  unfolding S.backwardStep
-  backward-is to =
-      let z : 2 ^ w ≡ half + half = pow-double w wide ∙ omega arith in
-      let f : ℕ → Float = S.backwardAt ieee w s sc (before w d src) in
-      both-together d dst (dst + half) (made (t .ep) (t .em)) (made (t .em) (t .ep)) f half refl (omega arith) low-entry high-entry
-      ∙ ap (λ (n : ℕ). put d dst (tabulate f n)) (sym z)
 
 -- a block of an odd number of pairs has one pattern
 pub odd-block : {P : Type 0} (low n : ℕ) → ((low ≡ 0 → ⊥) → n % 2 ≡ 0) → (low ≡ 0 → P) → n % 2 ≡ 1 → P

@@ -1,22 +1,17 @@
 -- What the loops of a forward step know on their way, and that the step is the definition's.
 use mathlib.Core.Path.{_≡_, refl, ap, _∙_}
 use mathlib.Core.List.{List}
-use Prim.Native.Nat.{ℕ, zero, suc, _+_, _*_, _-_, _/_, _%_, _^_, _≤_, _<_}
+use Prim.Native.Nat.{ℕ, zero, suc, _+_, _*_, _-_, _%_, _^_, _<_}
 use native.Mathlib.Nat.{add-assoc, add-zero}
 use native.Mathlib.Omega.{arith}
 use lib.ListN.{length, getD, set}
 use lib.Ieee.{Float, nan}
-use Rattle.vector.specs.Power.{pow-double}
-use Rattle.vector.specs.Tabulate.{tabulate, tabulate-ext}
-use Rattle.vector.specs.Part.{Apart, apart-within, part, put, fill-none, fill-two, fill-run, read-apart}
-use Rattle.transfer.specs.Job.{Step}
-use Rattle.transfer.specs.Rounded.{ieee}
-use Rattle.transfer.specs.Sweep as S
-use Rattle.sweep.specs.Step.{Tables, Rising, Tabled, patternFrom, patternBy}
+use Rattle.vector.specs.Tabulate.{tabulate}
+use Rattle.vector.specs.Part.{Apart, apart-within, put, fill-none, fill-two, fill-run, read-apart}
+use Rattle.sweep.specs.Step.{Rising, patternFrom, patternBy}
 use Rattle.sweep.specs.Rule.{entries, weights, inTurn, blend, forwardRule}
 use Rattle.sweep.proofs.Patterns.{AtBlock, block-ends, block-pattern}
-use Rattle.sweep.proofs.Tabled.{before, read, up-weight, down-weight}
-use Rattle.sweep.proofs.Rules.{turn-even, turn-odd, turn-pick, rule-even, rule-odd, rule-from}
+use Rattle.sweep.specs.Rules.{turn-even, turn-odd, turn-pick, rule-even, rule-odd, rule-from}
 
 -- a turn of a run, at an even i: two pairs
 module _ (x y p₀ q₀ p₁ q₁ : Float) (a b o n : ℕ) (d v : List Float) where
@@ -118,25 +113,3 @@ module _ {l : List ℕ} {n low e h half size k : ℕ} (b : AtBlock l n low e h h
       let g : 2 * (k + size) ≡ 2 * k + 2 * size = omega arith in
       w′ ∙ ap (λ (u : List Float). put u (dst + 2 * k) (tabulate block (2 * size))) w
       ∙ rw g (fill-run d dst step block (2 * k) (2 * size) (omega (arith, f .to)) same)
-
--- the step by tables is the definition's step
-module _ (s : Step Float) (sc : Float) (t : Tables) (a : Tabled s sc t) (w : ℕ) (d : List Float) (src : ℕ)
-    (wide : 1 ≤ w) (fits : src + 2 ^ w ≤ length d) where
-  abbrev made : ℕ → Float
-  made =
-      forwardRule (t .ep) (t .em) (weights (t .bits) (t .count) (t .up)) (weights (t .bits) (t .count) (t .down))
-      (entries d src) (entries d (src + 2 ^ (w - 1)))
-
-  entry : (j : ℕ) → j < 2 ^ w → made j ≡ S.forwardAt ieee w s sc (before w d src) j
-  unfolding S.forwardAt forwardRule blend
-  entry j b =
-      let k = j / 2 in
-      let z = pow-double w wide in
-      let lo = read w d src fits k (omega arith) in
-      let hi : getD d (src + 2 ^ (w - 1) + k) nan ≡ before w d src (2 ^ (w - 1) + k) = rw add-assoc (read w d src fits _ (omega arith)) in
-      rw (a .plus, a .minus, up-weight s sc t a k, down-weight s sc t a k, lo, hi)
-
-  -- so what the blocks leave is what the definition says
-  pub forward-is : tabulate made (2 * 2 ^ (w - 1)) ≡ S.forwardStep ieee w s sc (part d src (2 ^ w))
-  unfolding S.forwardStep
-  forward-is = rw (← pow-double w wide) (tabulate-ext made (S.forwardAt ieee w s sc (before w d src)) (2 ^ w) entry)

@@ -1,7 +1,5 @@
 mod Patterns
 mod TableTurn
-mod Rules
-mod Tabled
 mod ForwardTurn
 mod BackwardTurn
 mod AlternateTurn

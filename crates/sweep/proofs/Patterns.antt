@@ -3,14 +3,15 @@ use mathlib.Core.Path.{_≡_, refl}
 use mathlib.Core.List.{List}
 use mathlib.Core.Logic.{_⊎_, inl, inr, dite}
 use Prim.Native.Nat.{ℕ, zero, suc, _+_, _*_, _-_, _/_, _%_, _^_, _≤_, _<_}
-use native.Mathlib.Nat.{add-sub-of-le, suc-mul, pow-suc, mul-le-mul-right, lt-of-mul-lt-mul-right}
+use native.Mathlib.Nat.{suc-mul}
 use native.Mathlib.Decide.{decLt}
 use native.Mathlib.Omega.{arith}
 use lib.Bits.{shifted-even}
-use lib.Pow.{pow-lt, pow-mono, pow-pos, shr-shr, shl-shr, high, pow-add}
+use lib.Pow.{pow-lt, pow-pos}
 use lib.ListN.{getD}
 use Rattle.vector.specs.Power.{pow-even}
 use Rattle.sweep.specs.Step.{patternFrom, patternBy, Rising}
+use Rattle.sweep.specs.Pattern.{pattern-16, high-bit, block-fits}
 
 -- A block has 2 ^ e indexes: none of the bits from low on is below e, and the one before, if there is one, is bit 0.
 pub record Blocks (l : List ℕ) (n low e h : ℕ) : Type 0 where
@@ -22,15 +23,6 @@ pub record Blocks (l : List ℕ) (n low e h : ℕ) : Type 0 where
 
 -- ---- laws
 
-pub pattern-lt : (l : List ℕ) (i n k : ℕ) → patternFrom l i n k < 2 ^ n
-unfolding patternFrom
-pattern-lt l i zero k = omega arith
-pattern-lt l i (suc n) k = rw pow-suc (omega (arith, pattern-lt l (suc i) n k))
-
--- a pattern of at most four bits is an index of a table of 16
-pub pattern-16 : (l : List ℕ) (i n k : ℕ) → n ≤ 4 → patternFrom l i n k < 16
-pattern-16 l i n k h = let p : 2 ^ n ≤ 2 ^ 4 = pow-mono h in omega (arith, pattern-lt l i n k)
-
 -- one bit more below
 pub pattern-down : (l : List ℕ) (i n k : ℕ) → 0 < i → i ≤ n
     → 2 * patternFrom l i (n - i) k + k / 2 ^ getD l (i - 1) 0 % 2 ≡ patternFrom l (i - 1) (n - (i - 1)) k
@@ -39,12 +31,6 @@ pattern-down l i n k h h′ =
     let e : n - (i - 1) ≡ suc (n - i) = omega arith in
     let g : suc (i - 1) ≡ i = omega arith in
     rw (e, g)
-
--- a bit from e on does not see what is below 2 ^ e
-high-bit : (q e j b : ℕ) → j < 2 ^ e → e ≤ b → (q * 2 ^ e + j) / 2 ^ b ≡ q * 2 ^ e / 2 ^ b
-high-bit q e j b h l =
-    let t : e + (b - e) ≡ b = add-sub-of-le l in
-    rw (← t, ← shr-shr (q * 2 ^ e + j) e (b - e), ← shr-shr (q * 2 ^ e) e (b - e), high q e h, shl-shr q e)
 
 pattern-high : (l : List ℕ) (i n q e j : ℕ) → j < 2 ^ e → ((t : ℕ) → i ≤ t → t < i + n → e ≤ getD l t 0)
     → patternFrom l i n (q * 2 ^ e + j) ≡ patternFrom l i n (q * 2 ^ e)
@@ -56,14 +42,6 @@ pattern-high l i (suc n) q e j h a =
 even-block : (q e : ℕ) → 1 ≤ e → q * 2 ^ e % 2 ≡ 0
 even-block q zero h = absurd (omega arith)
 even-block q (suc e) h = shifted-even q e
-
--- a block that begins below 2 ^ h ends there
-block-fits : (q e h : ℕ) → e ≤ h → q * 2 ^ e < 2 ^ h → q * 2 ^ e + 2 ^ e ≤ 2 ^ h
-block-fits q e h l b =
-    let t : h - e + e ≡ h = omega arith in
-    let p : 2 ^ h ≡ 2 ^ (h - e) * 2 ^ e = rw t at (pow-add 2 (h - e) e) in
-    let s : q < 2 ^ (h - e) = lt-of-mul-lt-mul-right (2 ^ e) (omega arith) in
-    omega (arith, mul-le-mul-right (2 ^ e) s, suc-mul q (2 ^ e))
 
 -- where bit 0 is among the bits, a block has more than one index
 one-bit : {l : List ℕ} {n low e h : ℕ} → Rising l n h → Blocks l n low e h → low ≡ 1 → 1 ≤ e

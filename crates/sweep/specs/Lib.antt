@@ -3,3 +3,8 @@ pub mod Constants
 pub mod Tables
 pub mod Rule
 pub mod Place
+pub mod Pattern
+pub mod Rules
+pub mod Tabled
+pub mod ForwardIs
+pub mod BackwardIs

@@ -14,7 +14,7 @@ pub fn pow2(e: usize) -> usize
 }
 
 // The pattern of k: bit i is bit bits[i] of k.
-pub(crate) fn pattern_of(k: usize, bits: &[usize; 4], n: usize) -> usize
+pub fn pattern_of(k: usize, bits: &[usize; 4], n: usize) -> usize
     requires { ⌜ n ≤ 4 ⌝ }
     requires { ⌜ ((i : ℕ) → i < n → getD (now bits) i 0 < 64) ⌝ }
     ensures { λ r. ⌜ r ≡ patternBy (now (bits .entry)) n k ⌝ }

@@ -7,6 +7,7 @@ mod forward;
 mod tables;
 
 pub use backward::step_backward;
+pub use blocks::pattern_of;
 pub use blocks::pow2;
 pub use entries::alternate;
 pub use entries::fill;

@@ -2,8 +2,8 @@
 use mathlib.Core.Path.{_≡_, refl, sym, ap, _∙_}
 use mathlib.Core.Bool.{Bool, cond}
 use mathlib.Core.List.{List}
-use mathlib.Core.Logic.{dite}
-use Prim.Native.Nat.{ℕ, suc, _+_, _-_, _<_}
+use mathlib.Core.Logic.{inl, inr, ⊎-elim, dite}
+use Prim.Native.Nat.{ℕ, suc, _+_, _-_, _≤_, _<_}
 use native.Mathlib.Decide.{decLt}
 use native.Mathlib.Omega.{arith}
 use lib.ListN.{length, drop}
@@ -15,11 +15,14 @@ use Rattle.plan.specs.Layout.{stepIn, forwardPlace, backwardPlace}
 use Rattle.sweep.specs.Place.{held, hold}
 use Rattle.vertex.specs.Frame.{Fits, Wrote, wrote-same, wrote-other}
 use Rattle.vertex.specs.Ready.{Ready, PlanOf, Stepping, tail-factors}
+use Rattle.vertex.specs.Through.{Through, backwardBy, through, backward-full, through-one, through-two, through-full}
 use Rattle.sweeps.specs.Target.{Target}
 use Rattle.sweeps.specs.Kept.{Since}
+use Rattle.sweeps.specs.Turn.{BackwardPair, BackwardTurn}
 use Rattle.sweeps.specs.Coming.{NewestBackward, Coming}
 use Rattle.sweeps.proofs.Targets.{Aimed, target-fits, target-own, target-kind, target-other, target-free}
-use Rattle.sweeps.proofs.Frames.{place-of, stepping, start-full, backward-full, since-none, since-then, since-wrote}
+use Rattle.sweeps.proofs.Frames.{place-of, stepping, start-full, since-none, since-then, since-wrote}
+use Rattle.sweeps.proofs.Unscaled.{unscaled}
 
 -- ---- the definition, opened
 
@@ -123,10 +126,21 @@ module _ {plan : List ℕ} (e : List Float) {r : List Float} {n w scales : ℕ} 
 
 -- ---- a turn
 
-module _ {plan : List ℕ} {r₀ r : List Float} {n w scales : ℕ} {each : Bool} {t : ℕ} (u : ℕ) {src dst : ℕ} {most : Float}
-    (g : Coming plan r₀ r n w scales each t src most) (next : t ≡ u + 1) (target : Target (backwardPlace plan u) src dst) where
+pub turn-inside : {plan : List ℕ} {w : ℕ} {each : Bool} {t last : ℕ} → BackwardTurn plan w each t last → 1 ≤ t → (last ≤ t) × (1 ≤ last)
+turn-inside (inl e) b = omega arith
+turn-inside (inr p) b = omega (arith, p .next, p .some)
+
+module _ {plan : List ℕ} {r₀ r : List Float} {n w scales : ℕ} {each : Bool} {t last : ℕ} (u : ℕ) {src dst : ℕ} {most : Float}
+    (g : Coming plan r₀ r n w scales each t src most) (turn : BackwardTurn plan w each t last) (next : last ≡ u + 1)
+    (target : Target (backwardPlace plan u) src dst) where
+  order : last ≤ t
+  order = ⊎-elim (λ e. omega arith) (λ p. omega (arith, p .next)) turn
+
+  last-below : last < n
+  last-below = omega (arith, order, g .below)
+
   before : u < n
-  before = omega (arith, g .below)
+  before = omega (arith, last-below)
 
   aim : Aimed (backwardPlace plan) n w scales u src dst
   aim = aimed r (g .ready) before target
@@ -134,48 +148,100 @@ module _ {plan : List ℕ} {r₀ r : List Float} {n w scales : ℕ} {each : Bool
   pub coming-fits : Fits w scales dst
   coming-fits = target-fits aim
 
+  stepping-at : (v : ℕ) → v < n → Stepping plan (length r) w (scales + n) v src dst
+  stepping-at v b =
+      stepping (g .ready) v src dst b (g .free .fits) coming-fits (target-other aim (λ v. v < t) (g .free) (omega (arith, order)))
+
   pub coming-step : Stepping plan (length r) w (scales + n) t src dst
-  coming-step =
-      stepping (g .ready) t src dst (g .below) (g .free .fits) coming-fits (target-other aim (λ v. v < t) (g .free) (omega arith))
+  coming-step = stepping-at t (g .below)
 
-  module _ {r₂ : List Float} {scale most′ : Float} (one-over : scale ≡ div binary64 (ieee .𝟙) most)
-      (step : r₂ ≡ hold r w dst (S.backwardStep ieee w (stepIn plan (drop (scales + n) r) t) scale (held r w src)))
-      (taken : most′ ≡ S.stored ieee (cond each perElement block) 0 t (held r₂ w dst)) where
+  pub coming-through : Through plan (length r) w (scales + n) t last
+  coming-through = ⊎-elim inl (λ p. inr (record { wide = p .wide; reads = stepping-at last last-below .reads })) turn
+
+  module _ {r₂ : List Float} {one scale most′ : Float} (unit : one ≡ ieee .𝟙) (one-over : scale ≡ div binary64 (ieee .𝟙) most)
+      (step : r₂ ≡ hold r w dst (through (backwardBy plan (drop (scales + n) r) w) t last scale one (held r w src)))
+      (taken : most′ ≡ S.stored ieee (cond each perElement block) 0 last (held r₂ w dst)) where
     abbrev wrote : Wrote r r₂ w dst
-    wrote = record { vector = _; full = backward-full w _ scale _; done = step }
-
-    newest-turn : (J : Job Float) → PlanOf J plan (drop (scales + n) r₀) n w each → NewestBackward J plan r₂ n w u dst most′
-    newest-turn J of =
-        let f = g .newest J of in
-        let old = S.afterSteps ieee J (J .last - t) in
-        let fits = place-of (g .ready) dst coming-fits .inside in
-        let said : stepIn plan (drop (scales + n) r) t ≡ stepOf J t =
-        ap (λ (x : List Float). stepIn plan x t) (tail-factors r₀ r scales n (g .since .tail)) ∙ of .step t (g .below) in
-        let vector : held r₂ w dst ≡ S.afterSteps ieee J (J .last - u) .0 =
-        wrote-same r r₂ w dst wrote fits
-        ∙ ap (λ (s : Step Float). S.backwardStep ieee w s scale (held r w src)) said
-        ∙ ap (λ (x : List Float). S.backwardStep ieee w (stepOf J t) scale x) (f .vector)
-        ∙ ap (λ (c : Float). S.backwardStep ieee w (stepOf J t) c (old .0)) (one-over ∙ ap (div binary64 (ieee .𝟙)) (f .entry))
-        ∙ ap (λ (k : ℕ). S.backwardStep ieee k (stepOf J t) (div binary64 (ieee .𝟙) (old .1)) (old .0)) (sym (of .window))
-        ∙ sym (vector-at J u (of .vertices) (g .below) next) in
-        let manner = ap (λ (m : Manner). S.stored ieee m 0 t (held r₂ w dst)) (sym (of .manner)) in
+    wrote =
         record {
-          vector = vector;
-          entry = taken ∙ manner ∙ ap (S.stored ieee (J .manner) 0 t) vector ∙ sym (entry-at J u (of .vertices) (g .below) next);
-          kept = record {
-            vectors = λ v c d p.
-                dite (decLt v t)
-                (λ x.
-                let e : v ≡ u = omega arith in
-                let p′ : 0 < backwardPlace plan u = rw e at p in
-                rw e (ap (λ (q : ℕ). held r₂ w q) (sym (target .keeps p′)) ∙ vector ∙ sym (backward-is J u)))
-                (λ x.
-                let q = backwardPlace plan v in
-                let own = target-own aim v d (λ z. omega arith) p in
-                wrote-other r r₂ w dst wrote fits q (λ e. own (sym e)) (place-of (g .ready) q (g .ready .backward .fits v d p) .inside)
-                ∙ f .kept .vectors v (omega arith) d p);
-          };
+          vector = _;
+          full = through-full (backwardBy plan (drop (scales + n) r) w) t last scale one (held r w src) (backward-full plan (drop (scales + n) r) w);
+          done = step;
         }
+
+    -- in job J
+    module _ (J : Job Float) (of : PlanOf J plan (drop (scales + n) r₀) n w each) where
+      abbrev after : ℕ → List Float × Float
+      after v = S.afterSteps ieee J (J .last - v)
+
+      newest : NewestBackward J plan r n w t src most
+      newest = g .newest J of
+
+      fits : Fits w (length r) dst
+      fits = place-of (g .ready) dst coming-fits .inside
+
+      said : (v : ℕ) → v < n → stepIn plan (drop (scales + n) r) v ≡ stepOf J v
+      said v b = ap (λ (x : List Float). stepIn plan x v) (tail-factors r₀ r scales n (g .since .tail)) ∙ of .step v b
+
+      first : (v : ℕ) → t ≡ v + 1 → backwardBy plan (drop (scales + n) r) w t scale (held r w src) ≡ after v .0
+      first v e =
+          ap (λ (s : Step Float). S.backwardStep ieee w s scale (held r w src)) (said t (g .below))
+          ∙ ap (λ (x : List Float). S.backwardStep ieee w (stepOf J t) scale x) (newest .vector)
+          ∙ ap (λ (c : Float). S.backwardStep ieee w (stepOf J t) c (after t .0)) (one-over ∙ ap (div binary64 (ieee .𝟙)) (newest .entry))
+          ∙ ap (λ (k : ℕ). S.backwardStep ieee k (stepOf J t) (div binary64 (ieee .𝟙) (after t .1)) (after t .0)) (sym (of .window))
+          ∙ sym (vector-at J v (of .vertices) (g .below) e)
+
+      second : BackwardPair plan w each t last → backwardBy plan (drop (scales + n) r) w last one (after last .0) ≡ after u .0
+      second p =
+          let one-now : one ≡ div binary64 (ieee .𝟙) (after last .1) =
+          unit
+          ∙ sym
+          (ap (div binary64 (ieee .𝟙)) (entry-at J last (of .vertices) (g .below) (p .next))
+          ∙ unscaled (J .manner) each 0 t (after last .0) (of .manner) (p .blocks) (p .due)) in
+          ap (λ (s : Step Float). S.backwardStep ieee w s one (after last .0)) (said last last-below)
+          ∙ ap (λ (c : Float). S.backwardStep ieee w (stepOf J last) c (after last .0)) one-now
+          ∙ ap (λ (k : ℕ). S.backwardStep ieee k (stepOf J last) (div binary64 (ieee .𝟙) (after last .1)) (after last .0)) (sym (of .window))
+          ∙ sym (vector-at J u (of .vertices) last-below next)
+
+      made : through (backwardBy plan (drop (scales + n) r) w) t last scale one (held r w src) ≡ after u .0
+      made =
+          ⊎-elim
+          (λ e. through-one (backwardBy plan (drop (scales + n) r) w) t last scale one (held r w src) e ∙ first u (omega arith))
+          (λ p. through-two (backwardBy plan (drop (scales + n) r) w) t last scale one (held r w src) (λ e. omega (arith, p .next))
+          ∙ ap (backwardBy plan (drop (scales + n) r) w last one) (first last (p .next)) ∙ second p)
+          turn
+
+      vector : held r₂ w dst ≡ after u .0
+      vector = wrote-same r r₂ w dst wrote fits ∙ made
+
+      kept-vector : (v : ℕ) → u ≤ v → v < n → 0 < backwardPlace plan v → held r₂ w (backwardPlace plan v) ≡ S.backward ieee J v
+      kept-vector v c d p =
+          dite (decLt v t)
+          (λ x.
+          let e : v ≡ u = ⊎-elim (λ e. omega arith) (λ pair. new x pair) turn in
+          let p′ : 0 < backwardPlace plan u = rw e at p in
+          rw e (ap (λ (q : ℕ). held r₂ w q) (sym (target .keeps p′)) ∙ vector ∙ sym (backward-is J u)))
+          (λ x.
+          let q = backwardPlace plan v in
+          let own = target-own aim v d (λ z. omega (arith, order)) p in
+          wrote-other r r₂ w dst wrote fits q (λ e. own (sym e)) (place-of (g .ready) q (g .ready .backward .fits v d p) .inside)
+          ∙ newest .kept .vectors v (omega arith) d p)
+        where
+          -- the vector between is not kept
+          new : v < t → BackwardPair plan w each t last → v ≡ u
+          new x pair =
+              dite (decLt u v)
+              (λ l. let e : v ≡ last = omega (arith, pair .next) in absurd (omega (arith, pair .passing, rw e at p)))
+              (λ l. omega arith)
+
+      newest-turn : NewestBackward J plan r₂ n w u dst most′
+      newest-turn =
+          let manner = ap (λ (m : Manner). S.stored ieee m 0 last (held r₂ w dst)) (sym (of .manner)) in
+          record {
+            vector = vector;
+            entry = taken ∙ manner ∙ ap (S.stored ieee (J .manner) 0 last) vector ∙ sym (entry-at J u (of .vertices) last-below next);
+            kept = record { vectors = kept-vector };
+          }
 
     pub coming-turn : Coming plan r₀ r₂ n w scales each u dst most′
     coming-turn =

@@ -2,12 +2,12 @@
 use mathlib.Core.Path.{_≡_, refl, sym, ap, _∙_}
 use mathlib.Core.Bool.{Bool, cond}
 use mathlib.Core.List.{List}
-use mathlib.Core.Logic.{dite}
+use mathlib.Core.Logic.{inl, inr, ⊎-elim, dite}
 use Prim.Native.Nat.{ℕ, suc, _+_, _≤_, _<_}
 use native.Mathlib.Numerals.{add-one}
 use native.Mathlib.Decide.{decLt}
 use native.Mathlib.Omega.{arith}
-use lib.ListN.{length, drop, set, length-set}
+use lib.ListN.{length, getD, drop, set, length-set}
 use lib.Seq.{getD-set-same, getD-set-other, drop-set-lt}
 use lib.Ieee.{Float, nan, binary64, div}
 use Rattle.transfer.specs.Job.{Job, Manner, Step, block, perElement, stepOf}
@@ -17,11 +17,14 @@ use Rattle.plan.specs.Layout.{stepIn, forwardPlace}
 use Rattle.sweep.specs.Place.{held, hold}
 use Rattle.vertex.specs.Frame.{Fits, moving-fits, Wrote, wrote-length, wrote-same, wrote-other, wrote-at, wrote-drop, set-held}
 use Rattle.vertex.specs.Ready.{Ready, PlanOf, Stepping}
+use Rattle.vertex.specs.Through.{Through, forwardBy, through, forward-full, through-one, through-two, through-full}
 use Rattle.sweeps.specs.Target.{Target}
 use Rattle.sweeps.specs.Kept.{SameFrom}
+use Rattle.sweeps.specs.Turn.{ForwardPair, ForwardTurn}
 use Rattle.sweeps.specs.Going.{NewestForward, Going}
 use Rattle.sweeps.proofs.Targets.{Aimed, target-fits, target-own, target-other, target-free}
-use Rattle.sweeps.proofs.Frames.{place-of, stepping, start-full, forward-full}
+use Rattle.sweeps.proofs.Frames.{place-of, stepping, start-full}
+use Rattle.sweeps.proofs.Unscaled.{unscaled}
 
 -- ---- the definition, opened
 
@@ -88,100 +91,188 @@ module _ {plan : List ℕ} (e : List Float) {r : List Float} {n w scales : ℕ} 
         };
       }
 
--- ---- a turn: the scale is stored, then the step is taken
+-- ---- a turn: the scales are stored, then the steps are taken
 
-module _ {plan : List ℕ} {r₀ r : List Float} {n w scales : ℕ} {each : Bool} {t src dst : ℕ} {most : Float}
-    (g : Going plan r₀ r n w scales each t src most) (b : t < n) (target : Target (forwardPlace plan t) src dst) where
-  aimed : Aimed (forwardPlace plan) n w scales t src dst
-  aimed = record { own = g .ready .forward; moving = g .ready .moving; below = b; target = target }
+pub turn-inside : {plan : List ℕ} {n w : ℕ} {each : Bool} {t last : ℕ} → ForwardTurn plan n w each t last → t < n → (t ≤ last) × (last < n)
+turn-inside (inl e) b = omega arith
+turn-inside (inr p) b = omega (arith, p .next, p .inside)
+
+module _ {plan : List ℕ} {r₀ r : List Float} {n w scales : ℕ} {each : Bool} {t last src dst : ℕ} {most : Float}
+    (g : Going plan r₀ r n w scales each t src most) (b : t < n) (turn : ForwardTurn plan n w each t last)
+    (target : Target (forwardPlace plan last) src dst) where
+  last-order : t ≤ last
+  last-order = turn-inside turn b .0
+
+  last-inside : last < n
+  last-inside = turn-inside turn b .1
+
+  aimed : Aimed (forwardPlace plan) n w scales last src dst
+  aimed = record { own = g .ready .forward; moving = g .ready .moving; below = last-inside; target = target }
 
   pub going-fits : Fits w scales dst
   going-fits = target-fits aimed
 
-  module _ (scale : Float) where
-    -- the room with the scale
+  module _ (one scale : Float) where
+    -- the room with the scales
     abbrev r₁ : List Float
-    r₁ = set r (scales + t) scale
+    r₁ = set (set r (scales + last) one) (scales + t) scale
 
     length-same : length r₁ ≡ length r
-    length-same = length-set r (scales + t) scale
+    length-same = length-set (set r (scales + last) one) (scales + t) scale ∙ length-set r (scales + last) one
 
     pub going-step : Stepping plan (length r₁) w (scales + n) t src dst
     going-step =
         rw length-same
-        (stepping (g .ready) t src dst b (g .free .fits) going-fits (target-other aimed (λ u. t ≤ u) (g .free) (omega arith)))
+        (stepping (g .ready) t src dst b (g .free .fits) going-fits (target-other aimed (λ u. t ≤ u) (g .free) last-order))
 
-    module _ {r₂ : List Float} {most′ : Float} (one-over : scale ≡ div binary64 (ieee .𝟙) most)
-        (step : r₂ ≡ hold r₁ w dst (S.forwardStep ieee w (stepIn plan (drop (scales + n) r₁) t) scale (held r₁ w src)))
-        (taken : most′ ≡ S.stored ieee (cond each perElement block) 3 t (held r₂ w dst)) where
+    pub going-through : Through plan (length r₁) w (scales + n) t last
+    going-through =
+        rw length-same
+        (⊎-elim inl
+        (λ p. inr (record { wide = p .wide; reads = stepping (g .ready) last src dst last-inside (g .free .fits) going-fits (target-other aimed (λ u. t ≤ u) (g .free) last-order) .reads }))
+        turn)
+
+    module _ {r₂ : List Float} {most′ : Float} (unit : one ≡ ieee .𝟙) (one-over : scale ≡ div binary64 (ieee .𝟙) most)
+        (step : r₂ ≡ hold r₁ w dst (through (forwardBy plan (drop (scales + n) r₁) w) t last scale one (held r₁ w src)))
+        (taken : most′ ≡ S.stored ieee (cond each perElement block) 3 last (held r₂ w dst)) where
       abbrev wrote : Wrote r₁ r₂ w dst
-      wrote = record { vector = _; full = forward-full w _ scale _; done = step }
+      wrote = record { vector = _; full = through-full (forwardBy plan (drop (scales + n) r₁) w) t last scale one (held r₁ w src) (forward-full plan (drop (scales + n) r₁) w); done = step }
 
       inside : (p : ℕ) → Fits w scales p → Fits w (length r₁) p
       inside p f = rw length-same (place-of (g .ready) p f .inside)
 
-      room : scales + t < length r
-      room = let e = g .ready .ends in omega arith
+      room : (u : ℕ) → u < n → scales + u < length r
+      room u l = let e = g .ready .ends in omega arith
 
       tail₁ : drop (scales + n) r₁ ≡ drop (scales + n) r₀
-      tail₁ = drop-set-lt (scales + n) r (scales + t) scale (omega arith) ∙ g .since .tail
+      tail₁ =
+          drop-set-lt (scales + n) (set r (scales + last) one) (scales + t) scale (omega arith)
+          ∙ drop-set-lt (scales + n) r (scales + last) one (omega (arith, last-inside)) ∙ g .since .tail
 
-      -- the scale lies behind the places
+      -- the scales lie behind the places
       places : (p : ℕ) → Fits w scales p → held r₁ w p ≡ held r w p
-      places p f = set-held r w (scales + t) p scale room (omega arith)
+      places p f =
+          let l = length-set r (scales + last) one in
+          set-held (set r (scales + last) one) w (scales + t) p scale (omega (arith, room t b)) (omega arith)
+          ∙ set-held r w (scales + last) p one (room last last-inside) (omega arith)
 
-      newest-turn : (J : Job Float) → PlanOf J plan (drop (scales + n) r₀) n w each → NewestForward J plan r₂ w scales (t + 1) dst most′
-      newest-turn J of =
-          let f = g .newest J of in
-          let old = S.beforeStep ieee J t in
-          let one : t + 1 ≡ suc t = add-one t in
-          let fits = inside dst going-fits in
-          let scale-now : scale ≡ div binary64 (ieee .𝟙) (old .1) = one-over ∙ ap (div binary64 (ieee .𝟙)) (f .entry) in
-          let said : stepIn plan (drop (scales + n) r₁) t ≡ stepOf J t = ap (λ (x : List Float). stepIn plan x t) tail₁ ∙ of .step t b in
-          let from : held r₁ w src ≡ old .0 = places src (g .free .fits) ∙ f .vector in
-          let vector : held r₂ w dst ≡ S.beforeStep ieee J (suc t) .0 =
-          wrote-same r₁ r₂ w dst wrote fits
-          ∙ ap (λ (s : Step Float). S.forwardStep ieee w s scale (held r₁ w src)) said
-          ∙ ap (λ (x : List Float). S.forwardStep ieee w (stepOf J t) scale x) from
-          ∙ ap (λ (c : Float). S.forwardStep ieee w (stepOf J t) c (old .0)) scale-now
-          ∙ ap (λ (k : ℕ). S.forwardStep ieee k (stepOf J t) (div binary64 (ieee .𝟙) (old .1)) (old .0)) (sym (of .window))
-          ∙ sym (vector-next J t) in
-          let manner = ap (λ (m : Manner). S.stored ieee m 3 t (held r₂ w dst)) (sym (of .manner)) in
-          record {
-            vector = rw one vector;
-            entry = rw one (taken ∙ manner ∙ ap (S.stored ieee (J .manner) 3 t) vector ∙ sym (entry-next J t));
-            kept = record {
-              vectors = λ u c p.
-                  dite (decLt u t)
-                  (λ d.
-                  let q = forwardPlace plan u in
-                  let l : u < n = omega arith in
-                  let fu = g .ready .forward .fits u l p in
-                  let own = target-own aimed u l (λ x. omega arith) p in
-                  wrote-other r₁ r₂ w dst wrote fits q (λ e. own (sym e)) (inside q fu) ∙ places q fu ∙ f .kept .vectors u d p)
-                  (λ d.
-                  let e : u ≡ t = omega arith in
-                  let p′ : 0 < forwardPlace plan t = rw e at p in
-                  rw e (ap (λ (q : ℕ). held r₂ w q) (sym (target .keeps p′)) ∙ vector ∙ sym (forward-is J t)));
-              scaled = λ u c.
-                  wrote-at r₁ r₂ w dst wrote fits (scales + u) (omega (arith, going-fits))
-                  ∙ dite (decLt u t)
-                  (λ d. getD-set-other r (scales + t) (scales + u) scale nan (λ x. omega arith) ∙ f .kept .scaled u d)
-                  (λ d. let e : u ≡ t = omega arith in rw e (getD-set-same r (scales + t) scale nan room ∙ scale-now ∙ sym (scale-is J t)));
-            };
-          }
+      -- in job J
+      module _ (J : Job Float) (of : PlanOf J plan (drop (scales + n) r₀) n w each) where
+        abbrev before : ℕ → List Float × Float
+        before u = S.beforeStep ieee J u
 
-      pub going-turn : Going plan r₀ r₂ n w scales each (t + 1) dst most′
+        newest : NewestForward J plan r w scales t src most
+        newest = g .newest J of
+
+        scale-now : scale ≡ div binary64 (ieee .𝟙) (before t .1)
+        scale-now = one-over ∙ ap (div binary64 (ieee .𝟙)) (newest .entry)
+
+        said : (u : ℕ) → u < n → stepIn plan (drop (scales + n) r₁) u ≡ stepOf J u
+        said u l = ap (λ (x : List Float). stepIn plan x u) tail₁ ∙ of .step u l
+
+        first : S.forwardStep ieee w (stepIn plan (drop (scales + n) r₁) t) scale (held r₁ w src) ≡ before (suc t) .0
+        first =
+            let from : held r₁ w src ≡ before t .0 = places src (g .free .fits) ∙ newest .vector in
+            ap (λ (s : Step Float). S.forwardStep ieee w s scale (held r₁ w src)) (said t b)
+            ∙ ap (λ (x : List Float). S.forwardStep ieee w (stepOf J t) scale x) from
+            ∙ ap (λ (c : Float). S.forwardStep ieee w (stepOf J t) c (before t .0)) scale-now
+            ∙ ap (λ (k : ℕ). S.forwardStep ieee k (stepOf J t) (div binary64 (ieee .𝟙) (before t .1)) (before t .0)) (sym (of .window))
+            ∙ sym (vector-next J t)
+
+        next-one : ForwardPair plan n w each t last → one ≡ div binary64 (ieee .𝟙) (before last .1)
+        next-one p =
+            let e : last ≡ suc t = omega (arith, p .next) in
+            unit
+            ∙ rw e (sym (ap (div binary64 (ieee .𝟙)) (entry-next J t) ∙ unscaled (J .manner) each 3 t (before (suc t) .0) (of .manner) (p .blocks) (p .due)))
+
+        second : ForwardPair plan n w each t last
+            → S.forwardStep ieee w (stepIn plan (drop (scales + n) r₁) last) one (before (suc t) .0) ≡ before (suc last) .0
+        second p =
+            let e : suc t ≡ last = omega (arith, p .next) in
+            ap (λ (s : Step Float). S.forwardStep ieee w s one (before (suc t) .0)) (said last last-inside)
+            ∙ ap (λ (u : ℕ). S.forwardStep ieee w (stepOf J last) one (before u .0)) e
+            ∙ ap (λ (c : Float). S.forwardStep ieee w (stepOf J last) c (before last .0)) (next-one p)
+            ∙ ap (λ (k : ℕ). S.forwardStep ieee k (stepOf J last) (div binary64 (ieee .𝟙) (before last .1)) (before last .0)) (sym (of .window))
+            ∙ sym (vector-next J last)
+
+        made : through (forwardBy plan (drop (scales + n) r₁) w) t last scale one (held r₁ w src) ≡ before (suc last) .0
+        made =
+            ⊎-elim
+            (λ e. through-one (forwardBy plan (drop (scales + n) r₁) w) t last scale one (held r₁ w src) e ∙ first ∙ ap (λ (u : ℕ). before (suc u) .0) (sym e))
+            (λ p. through-two (forwardBy plan (drop (scales + n) r₁) w) t last scale one (held r₁ w src) (λ e. omega (arith, p .next))
+            ∙ ap (λ (v : List Float). S.forwardStep ieee w (stepIn plan (drop (scales + n) r₁) last) one v) first ∙ second p)
+            turn
+
+        vector : held r₂ w dst ≡ before (suc last) .0
+        vector = wrote-same r₁ r₂ w dst wrote (inside dst going-fits) ∙ made
+
+        kept-vector : (u : ℕ) → u < last + 1 → 0 < forwardPlace plan u → held r₂ w (forwardPlace plan u) ≡ S.forward ieee J u
+        kept-vector u c p =
+            dite (decLt u last)
+            (λ d.
+            let q = forwardPlace plan u in
+            let l : u < n = omega (arith, last-inside) in
+            let fu = g .ready .forward .fits u l p in
+            let own = target-own aimed u l (λ x. omega arith) p in
+            let early : u < t = ⊎-elim (λ e. omega arith) (λ pair. passed d pair) turn in
+            wrote-other r₁ r₂ w dst wrote (inside dst going-fits) q (λ e. own (sym e)) (inside q fu) ∙ places q fu ∙ newest .kept .vectors u early p)
+            (λ d.
+            let e : u ≡ last = omega arith in
+            let p′ : 0 < forwardPlace plan last = rw e at p in
+            rw e (ap (λ (q : ℕ). held r₂ w q) (sym (target .keeps p′)) ∙ vector ∙ sym (forward-is J last)))
+          where
+            -- the vector between is not kept
+            passed : u < last → ForwardPair plan n w each t last → u < t
+            passed d pair = dite (decLt u t) (λ l. l) (λ l. let e : u ≡ t = omega (arith, pair .next) in absurd (omega (arith, pair .passing, rw e at p)))
+
+        kept-scale : (u : ℕ) → u < last + 1 → getD r₂ (scales + u) nan ≡ S.scale ieee J u
+        kept-scale u c =
+            wrote-at r₁ r₂ w dst wrote (inside dst going-fits) (scales + u) (omega (arith, going-fits))
+            ∙ dite (decLt u t)
+            (λ d.
+            getD-set-other (set r (scales + last) one) (scales + t) (scales + u) scale nan (λ x. omega arith)
+            ∙ getD-set-other r (scales + last) (scales + u) one nan (λ x. omega (arith, last-order)) ∙ newest .kept .scaled u d)
+            (λ d. later d)
+          where
+            l : length (set r (scales + last) one) ≡ length r
+            l = length-set r (scales + last) one
+
+            at-t : getD r₁ (scales + t) nan ≡ S.scale ieee J t
+            at-t =
+                getD-set-same (set r (scales + last) one) (scales + t) scale nan (omega (arith, room t b, l)) ∙ scale-now ∙ sym (scale-is J t)
+
+            at-last : ForwardPair plan n w each t last → getD r₁ (scales + last) nan ≡ S.scale ieee J last
+            at-last p =
+                getD-set-other (set r (scales + last) one) (scales + t) (scales + last) scale nan (λ x. omega (arith, p .next))
+                ∙ getD-set-same r (scales + last) one nan (room last last-inside) ∙ next-one p ∙ sym (scale-is J last)
+
+            later : (u < t → ⊥) → getD r₁ (scales + u) nan ≡ S.scale ieee J u
+            later d =
+                dite (decLt t u)
+                (λ x. ⊎-elim (λ e. absurd (omega arith)) (λ p. let e : u ≡ last = omega (arith, p .next) in rw e (at-last p)) turn)
+                (λ x. let e : u ≡ t = omega arith in rw e at-t)
+
+        newest-turn : NewestForward J plan r₂ w scales (last + 1) dst most′
+        newest-turn =
+            let one′ : last + 1 ≡ suc last = add-one last in
+            let manner = ap (λ (m : Manner). S.stored ieee m 3 last (held r₂ w dst)) (sym (of .manner)) in
+            record {
+              vector = rw one′ vector;
+              entry = rw one′ (taken ∙ manner ∙ ap (S.stored ieee (J .manner) 3 last) vector ∙ sym (entry-next J last));
+              kept = record { vectors = kept-vector; scaled = kept-scale };
+            }
+
+      pub going-turn : Going plan r₀ r₂ n w scales each (last + 1) dst most′
       going-turn =
           let fits = inside dst going-fits in
           let same : length r₂ ≡ length r = wrote-length r₁ r₂ w dst wrote fits ∙ length-same in
           record {
-            below = omega arith;
+            below = omega (arith, last-inside);
             ready = rw same (g .ready);
             since = record {
               same = same ∙ g .since .same;
               tail = wrote-drop r₁ r₂ w dst wrote fits (scales + n) (omega (arith, going-fits)) ∙ tail₁;
             };
-            free = target-free aimed (λ u. t + 1 ≤ u) (λ u q e. omega arith);
+            free = target-free aimed (λ u. last + 1 ≤ u) (λ u q e. omega arith);
             newest = newest-turn;
           }

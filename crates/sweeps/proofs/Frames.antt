@@ -6,7 +6,7 @@ use native.Mathlib.Omega.{arith}
 use lib.ListN.{length}
 use lib.Ieee.{Float}
 use Rattle.vector.specs.Tabulate.{tabulate-length}
-use Rattle.transfer.specs.Job.{Job, Step}
+use Rattle.transfer.specs.Job.{Job}
 use Rattle.transfer.specs.Rounded.{ieee}
 use Rattle.transfer.specs.Sweep as S
 use Rattle.plan.specs.Layout.{forwardPlace}
@@ -33,14 +33,6 @@ module _ {plan : List ℕ} {len n w scales : ℕ} (g : Ready plan len n w scales
 pub start-full : (w : ℕ) → length (S.start ieee w) ≡ 2 ^ w
 unfolding S.start
 start-full w = tabulate-length _ (2 ^ w)
-
-pub forward-full : (w : ℕ) (s : Step Float) (scale : Float) (v : List Float) → length (S.forwardStep ieee w s scale v) ≡ 2 ^ w
-unfolding S.forwardStep
-forward-full w s scale v = tabulate-length _ (2 ^ w)
-
-pub backward-full : (w : ℕ) (s : Step Float) (scale : Float) (v : List Float) → length (S.backwardStep ieee w s scale v) ≡ 2 ^ w
-unfolding S.backwardStep
-backward-full w s scale v = tabulate-length _ (2 ^ w)
 
 -- ---- the backward sweep
 

@@ -1,5 +1,6 @@
 -- Laws that the proofs share.
 mod Targets
 mod Frames
+mod Unscaled
 mod ForwardTurn
 mod BackwardTurn

@@ -1,5 +1,6 @@
 -- The definitions that the contracts cite, and what the loops keep.
 pub mod Target
 pub mod Kept
+pub mod Turn
 pub mod Going
 pub mod Coming

@@ -3,13 +3,39 @@ ghost use Prim.Native.Nat.{_+_, _≤_};
 ghost use lib.ListN.{length, drop};
 ghost use lib.Ieee.{Float};
 ghost use Rattle.transfer.specs.Job.{Job};
+ghost use Rattle.plan.specs.Layout.{Holds};
 ghost use Rattle.vertex.specs.Ready.{Ready, PlanOf, Backward};
 ghost use Rattle.sweeps.specs.Kept.{Since};
+ghost use Rattle.sweeps.specs.Turn.{BackwardTurn};
 use crate::target::place_for;
 use crate::target::start_at;
 use plan::backward_place;
 use sums::stored;
-use vertex::backward_at;
+use vertex::backward_through;
+
+// The last vertex of a turn from t on. Two steps are taken in one pass where no largest entry is due between them and the vector between
+// them is not kept; in a window below 6 one at a time is as quick.
+fn backward_last(plan: &[usize], w: usize, each: bool, t: usize) -> usize
+    requires { ⌜ Holds (now plan) t × (1 ≤ t) ⌝ }
+    ensures { λ r. ⌜ BackwardTurn (now (plan .entry)) w each t r ⌝ }
+{
+    if each {
+        return t;
+    }
+    if w < 6 {
+        return t;
+    }
+    if t < 2 {
+        return t;
+    }
+    if t % 4 == 0 {
+        return t;
+    }
+    if backward_place(plan, t - 1) > 0 {
+        return t;
+    }
+    t - 1
+}
 
 // Steps from the last vertex to vertex 1, the step at t giving the vector of t - 1: keeps the backward vectors that the plan has a place
 // for. In the block manner the largest entry is taken after steps with t % 4 = 0.
@@ -33,10 +59,11 @@ pub fn sweep_backward(
     let mut most = 1.0;
     while t > 0 {
         let scale = 1.0 / most;
-        let u = t - 1;
+        let last = backward_last(plan, w, each, t);
+        let u = last - 1;
         let dst = place_for(backward_place(plan, u), src);
-        backward_at(room, factors, plan, w, t, scale, src, dst);
-        most = stored(room, dst, w, each, 0, t);
+        backward_through(room, factors, plan, w, t, last, scale, 1.0, src, dst);
+        most = stored(room, dst, w, each, 0, last);
         src = dst;
         t = u;
     }

@@ -1,15 +1,41 @@
 // The forward sweep.
-ghost use Prim.Native.Nat.{_+_};
+ghost use Prim.Native.Nat.{_+_, _<_};
 ghost use lib.ListN.{length, drop};
 ghost use lib.Ieee.{Float};
 ghost use Rattle.transfer.specs.Job.{Job};
+ghost use Rattle.plan.specs.Layout.{Holds};
 ghost use Rattle.vertex.specs.Ready.{Ready, PlanOf, Forward};
 ghost use Rattle.sweeps.specs.Kept.{SameFrom};
+ghost use Rattle.sweeps.specs.Turn.{ForwardTurn};
 use crate::target::place_for;
 use crate::target::start_at;
 use plan::forward_place;
 use sums::stored;
-use vertex::forward_at;
+use vertex::forward_through;
+
+// The last vertex of a turn from t on. Two steps are taken in one pass where no largest entry is due between them and the vector between
+// them is not kept; in a window below 6 one at a time is as quick.
+fn forward_last(plan: &[usize], n: usize, w: usize, each: bool, t: usize) -> usize
+    requires { ⌜ Holds (now plan) n × (t < n) ⌝ }
+    ensures { λ r. ⌜ ForwardTurn (now (plan .entry)) n w each t r ⌝ }
+{
+    if each {
+        return t;
+    }
+    if w < 6 {
+        return t;
+    }
+    if t + 1 == n {
+        return t;
+    }
+    if t % 4 == 3 {
+        return t;
+    }
+    if forward_place(plan, t) > 0 {
+        return t;
+    }
+    t + 1
+}
 
 // Steps from vertex 0 to the last: stores every scale, and keeps the forward vectors that the plan has a place for. In the block manner
 // the largest entry is taken after steps with t % 4 = 3.
@@ -33,11 +59,13 @@ pub fn sweep_forward(
     let mut t = 0usize;
     while t < n {
         let scale = 1.0 / most;
+        let last = forward_last(plan, n, w, each, t);
+        room[scales + last] = 1.0;
         room[scales + t] = scale;
-        let dst = place_for(forward_place(plan, t), src);
-        forward_at(room, factors, plan, w, t, scale, src, dst);
-        most = stored(room, dst, w, each, 3, t);
+        let dst = place_for(forward_place(plan, last), src);
+        forward_through(room, factors, plan, w, t, last, scale, 1.0, src, dst);
+        most = stored(room, dst, w, each, 3, last);
         src = dst;
-        t += 1;
+        t = last + 1;
     }
 }

@@ -185,7 +185,7 @@ module _ {A : Type 0} where
   sets-comm d at s at′ (x ∷ t) h =
       ap (λ (l : List A). sets l (suc at′) t) (set-sets d at s at′ x (omega arith)) ∙ sets-comm (set d at′ x) at s (suc at′) t (omega arith)
 
-  put-comm : (d : List A) (at : ℕ) (s : List A) (at′ : ℕ) (t : List A) → at′ + length t ≤ at → at + length s ≤ length d
+  pub put-comm : (d : List A) (at : ℕ) (s : List A) (at′ : ℕ) (t : List A) → at′ + length t ≤ at → at + length s ≤ length d
       → put (put d at s) at′ t ≡ put (put d at′ t) at s
   unfolding put
   put-comm d at s at′ t h l =

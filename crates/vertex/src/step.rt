@@ -12,7 +12,7 @@ use sweep::step_backward;
 use sweep::step_forward;
 
 // The forward step at t, with the scale, from the vector at place src to place dst.
-pub fn forward_at(
+pub(crate) fn forward_at(
     room: &mut [f64],
     factors: usize,
     plan: &[usize],
@@ -45,7 +45,7 @@ pub fn forward_at(
 }
 
 // The backward step at t likewise.
-pub fn backward_at(
+pub(crate) fn backward_at(
     room: &mut [f64],
     factors: usize,
     plan: &[usize],

@@ -1,9 +1,9 @@
 -- Any propagated vector that was at place `at` has gone on to t; it lies at place src.
 use mathlib.Core.Path.{_≡_, refl}
-use Prim.Native.Nat.{_+_, _-_, _≤_, _<_}
+use Prim.Native.Nat.{_+_, _-_, _≤_}
 use native.Mathlib.Omega.{arith}
 use Rattle.answers.specs.Hand.{Advanced}
-use Rattle.answers.proofs.Propagation.{advance-none, advance-stepping, advance-turn}
+use Rattle.answers.proofs.Propagation.{advance-none, turn-inside, advance-stepping, advance-through, advance-turn}
 use Rattle.answers.proofs.propagate.advance.Statement.{statement}
 use Rattle.answers.proofs.propagate.advance.Tie as tie
 
@@ -13,6 +13,14 @@ Inv-loop room₀ plan n w scales from to at src₀ t₀ room src t = (t ≤ to) 
 abbrev μ-loop : tie.MeasureT-loop
 μ-loop room₀ plan n w scales from to at src₀ t₀ room src t = to - t
 
+-- the next vertex, and the last one of the turn
+order : (c : tie.In-loop Inv-loop μ-loop) → c .before .loop .t + 1 ≤ c .before .before .before .before .args .to
+order c = omega arith
+
+ends : (c : tie.After-advance-last Inv-loop μ-loop)
+    → (c .before .before .loop .t + 1 ≤ c .advance-last .result) × (c .advance-last .result ≤ c .before .before .before .before .before .args .to)
+ends c = turn-inside (c .advance-last .ensures) (order (c .before))
+
 loop-holds : tie.Need-loop-holds Inv-loop μ-loop
 loop-holds c =
     let s = c .before .before in
@@ -21,37 +29,53 @@ loop-holds c =
 add-next : tie.Need-add-next Inv-loop μ-loop
 add-next c = omega arith
 
+advance-last-requires : tie.Need-advance-last-requires Inv-loop μ-loop
+advance-last-requires c κs = omega arith
+
 add-scale : tie.Need-add-scale Inv-loop μ-loop
-add-scale c = omega arith
+add-scale c = omega (arith, ends c)
 
 mul-scale : tie.Need-mul-scale Inv-loop μ-loop
-mul-scale c = omega arith
+mul-scale c = omega (arith, ends c)
 
 slice-read-scale : tie.Need-slice-read-scale Inv-loop μ-loop
-slice-read-scale c = omega arith
+slice-read-scale c = omega (arith, ends (c .before))
+
+add-then : tie.Need-add-then Inv-loop μ-loop
+add-then c = omega (arith, ends (c .before))
+
+mul-then : tie.Need-mul-then Inv-loop μ-loop
+mul-then c = omega (arith, ends (c .before))
+
+slice-read-then : tie.Need-slice-read-then Inv-loop μ-loop
+slice-read-then c = omega (arith, ends (c .before .before))
 
 sub-dst : tie.Need-sub-dst Inv-loop μ-loop
 sub-dst c = omega arith
 
-add-forward-at : tie.Need-add-forward-at Inv-loop μ-loop
-add-forward-at c = omega arith
+add-forward-through : tie.Need-add-forward-through Inv-loop μ-loop
+add-forward-through c = omega arith
 
-forward-at-requires : tie.Need-forward-at-requires Inv-loop μ-loop
-forward-at-requires c κs =
-    let at = c .before .before .before in
+forward-through-requires : tie.Need-forward-through-requires Inv-loop μ-loop
+forward-through-requires c κs =
+    let at = c .before .before .before .before .before in
     let s = at .before .before .before in
-    let b : at .loop .t + 1 < s .args .n = omega arith in
-    advance-stepping _ _ _ _ _ _ _ _ _ _ (s .pre .0) (at .loop .inv .1) b
+    let turn = c .before .before .before .advance-last .ensures in (
+      advance-stepping _ _ _ _ _ _ _ _ _ _ (s .pre .0) (at .loop .inv .1) turn (order (c .before .before .before .before)) (s .pre .2),
+      advance-through _ _ _ _ _ _ _ _ _ _ (s .pre .0) (at .loop .inv .1) turn (order (c .before .before .before .before)) (s .pre .2),
+    )
 
 loop-less : tie.Need-loop-less Inv-loop μ-loop
-loop-less c = omega arith
+loop-less c = omega (arith, ends (c .before .before .before .before .before .before))
 
 loop-again : tie.Need-loop-again Inv-loop μ-loop
 loop-again c =
-    let at = c .before .before .before .before .before .before in
+    let at = c .before .before .before .before .before .before .before .before in
     let s = at .before .before .before in
-    let b : at .loop .t + 1 < s .args .n = omega arith in
-    (omega arith, advance-turn _ _ _ _ _ _ _ _ _ _ (s .pre .0) (at .loop .inv .1) b _ _ refl (c .before .before .forward-at .ensures))
+    let turn = c .before .before .before .before .before .before .advance-last .ensures in (
+      ends (c .before .before .before .before .before .before) .1,
+      advance-turn _ _ _ _ _ _ _ _ _ _ (s .pre .0) (at .loop .inv .1) turn (order (c .before .before .before .before .before .before .before)) (s .pre .2) _ _ _ refl refl (c .before .before .forward-through .ensures),
+    )
 
 same-length : tie.Need-same-length Inv-loop μ-loop
 same-length c = c .before .loop .inv .1 .still .same
@@ -70,12 +94,16 @@ advance-spec =
     μ-loop
     loop-holds
     add-next
+    advance-last-requires
     add-scale
     mul-scale
     slice-read-scale
+    add-then
+    mul-then
+    slice-read-then
     sub-dst
-    add-forward-at
-    forward-at-requires
+    add-forward-through
+    forward-through-requires
     loop-less
     loop-again
     same-length

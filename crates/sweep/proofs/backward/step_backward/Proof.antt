@@ -4,7 +4,7 @@ use native.Mathlib.Omega.{arith}
 use borrow.Author.Needs.{needs}
 use Rattle.vector.specs.Power.{pow-double}
 use Rattle.sweep.specs.Place.{places-apart}
-use Rattle.sweep.proofs.BackwardTurn.{backward-is}
+use Rattle.sweep.specs.BackwardIs.{backward-is}
 use Rattle.sweep.proofs.backward.step_backward.Statement.{statement}
 use Rattle.sweep.proofs.backward.step_backward.Tie as tie
 

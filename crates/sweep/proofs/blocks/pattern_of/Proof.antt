@@ -3,7 +3,8 @@ use mathlib.Core.Path.{_≡_}
 use Prim.Native.Nat.{_≤_, _<_, _-_}
 use native.Mathlib.Omega.{arith}
 use Rattle.sweep.specs.Step.{patternFrom}
-use Rattle.sweep.proofs.Patterns.{pattern-16, pattern-down}
+use Rattle.sweep.specs.Pattern.{pattern-16}
+use Rattle.sweep.proofs.Patterns.{pattern-down}
 use Rattle.sweep.proofs.blocks.pattern_of.Statement.{statement}
 use Rattle.sweep.proofs.blocks.pattern_of.Tie as tie
 

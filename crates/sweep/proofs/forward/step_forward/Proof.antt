@@ -4,7 +4,7 @@ use native.Mathlib.Omega.{arith}
 use borrow.Author.Needs.{needs}
 use Rattle.vector.specs.Power.{pow-double}
 use Rattle.sweep.specs.Place.{hold, places-apart}
-use Rattle.sweep.proofs.ForwardTurn.{forward-is}
+use Rattle.sweep.specs.ForwardIs.{forward-is}
 use Rattle.sweep.proofs.forward.step_forward.Statement.{statement}
 use Rattle.sweep.proofs.forward.step_forward.Tie as tie
 

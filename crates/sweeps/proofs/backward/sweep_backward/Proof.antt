@@ -1,6 +1,6 @@
 -- Each turn takes the step from the newest vector and keeps what it gave.
 use mathlib.Core.Path.{_≡_, _∙_}
-use Prim.Native.Nat.{_+_, _-_}
+use Prim.Native.Nat.{_+_, _-_, _≤_}
 use native.Mathlib.Omega.{arith}
 use borrow.Author.Needs.{needs}
 use Rattle.plan.specs.Layout.{backwardPlace}
@@ -9,7 +9,7 @@ use Rattle.vertex.specs.Ready.{tail-factors}
 use Rattle.sweeps.specs.Target.{Target}
 use Rattle.sweeps.specs.Coming.{Coming}
 use Rattle.sweeps.proofs.Frames.{place-of, since-then}
-use Rattle.sweeps.proofs.BackwardTurn.{written-fits, start-since, coming-start, coming-fits, coming-step, coming-turn}
+use Rattle.sweeps.proofs.BackwardTurn.{written-fits, start-since, coming-start, turn-inside, coming-fits, coming-step, coming-through, coming-turn}
 use Rattle.sweeps.proofs.backward.sweep_backward.Statement.{statement}
 use Rattle.sweeps.proofs.backward.sweep_backward.Tie as tie
 
@@ -28,15 +28,18 @@ first c = rw (c .before .backward-place .ensures) at (c .place-for .ensures)
 last : (c : tie.After-place-for Inv-loop μ-loop) → let a = c .before .before .before .before .args in a .n - 1 + 1 ≡ a .n
 last c = omega (arith, c .before .before .before .before .pre .0)
 
--- the target of the step at t, and its vertex
+-- the last vertex of a turn
+ends : (c : tie.After-backward-last Inv-loop μ-loop) → let l = c .before .before .loop in (c .backward-last .result ≤ l .t) × (1 ≤ c .backward-last .result)
+ends c = turn-inside (c .backward-last .ensures) (c .before .loop-test .taken)
+
+-- the target of its step, and its vertex
 target : (c : tie.After-place-for2 Inv-loop μ-loop)
-    → let a = c .before .before .before .before .before .before .before .before .before .before .before .before .args in
-    let l = c .before .before .before .loop in
-    Target (backwardPlace (a .plan .now) (l .t - 1)) (l .src) (c .place-for2 .result)
+    → let a = c .before .before .before .before .before .before .before .before .before .before .before .before .before .args in
+    Target (backwardPlace (a .plan .now) (c .before .before .backward-last .result - 1)) (c .before .before .before .before .loop .src) (c .place-for2 .result)
 target c = rw (c .before .backward-place2 .ensures) at (c .place-for2 .ensures)
 
-next : (c : tie.After-place-for2 Inv-loop μ-loop) → let l = c .before .before .before .loop in l .t ≡ l .t - 1 + 1
-next c = omega arith
+next : (c : tie.After-place-for2 Inv-loop μ-loop) → let r = c .before .before .backward-last .result in r ≡ r - 1 + 1
+next c = omega (arith, ends (c .before .before))
 
 add-factors : tie.Need-add-factors Inv-loop μ-loop
 add-factors c = search needs
@@ -62,33 +65,40 @@ loop-holds c =
     let placed = c .before .before .before .before in
     coming-start (s .args .room .now) _ (s .pre .1) (last placed) (first placed) (c .before .before .start-at .ensures) (s .args .each) one-is
 
+backward-last-requires : tie.Need-backward-last-requires Inv-loop μ-loop
+backward-last-requires c κs = (omega (arith, c .before .loop .inv .ready .holds, c .before .loop .inv .below), c .loop-test .taken)
+
 sub-u : tie.Need-sub-u Inv-loop μ-loop
-sub-u c = search needs
+sub-u c = omega (arith, ends c)
 
 backward-place-requires-2 : tie.Need-backward-place-requires-2 Inv-loop μ-loop
-backward-place-requires-2 c κs = omega (arith, c .before .loop .inv .ready .holds, c .before .loop .inv .below)
+backward-place-requires-2 c κs = omega (arith, ends c, c .before .before .loop .inv .ready .holds, c .before .before .loop .inv .below)
 
 place-for-requires-2 : tie.Need-place-for-requires-2 Inv-loop μ-loop
 place-for-requires-2 c κs = search needs
 
-backward-at-requires : tie.Need-backward-at-requires Inv-loop μ-loop
-backward-at-requires c κs = coming-step _ (c .before .before .before .before .loop .inv) (next (c .before)) (target (c .before))
+backward-through-requires : tie.Need-backward-through-requires Inv-loop μ-loop
+backward-through-requires c κs =
+    let g = c .before .before .before .before .before .loop .inv in
+    let placed = c .before in
+    let turn = c .before .before .before .backward-last .ensures in
+    (coming-step _ g turn (next placed) (target placed), coming-through _ g turn (next placed) (target placed))
 
 stored-requires : tie.Need-stored-requires Inv-loop μ-loop
 stored-requires c κs =
-    let g = c .before .before .before .before .before .before .before .before .loop .inv in
+    let g = c .before .before .before .before .before .before .before .before .before .loop .inv in
     let placed = c .before .before .before .before .before in
-    rw (c .before .before .before .backward-at .kept .0) (place-of (g .ready) _ (coming-fits _ g (next placed) (target placed)))
+    rw (c .before .before .before .backward-through .kept .0) (place-of (g .ready) _ (coming-fits _ g (c .before .before .before .before .before .before .before .backward-last .ensures) (next placed) (target placed)))
 
 loop-less : tie.Need-loop-less Inv-loop μ-loop
-loop-less c = search needs
+loop-less c = omega (arith, ends (c .before .before .before .before .before .before .before .before))
 
 loop-again : tie.Need-loop-again Inv-loop μ-loop
 loop-again c =
     let placed = c .before .before .before .before .before .before in
-    let stepped = c .before .before .before .before .backward-at in
-    let g = c .before .before .before .before .before .before .before .before .before .loop .inv in
-    coming-turn _ g (next placed) (target placed) (rw one-is) (stepped .ensures) (c .stored .ensures)
+    let stepped = c .before .before .before .before .backward-through in
+    let g = c .before .before .before .before .before .before .before .before .before .before .loop .inv in
+    coming-turn _ g (c .before .before .before .before .before .before .before .before .backward-last .ensures) (next placed) (target placed) one-is (rw one-is) (stepped .ensures) (c .stored .ensures)
 
 same-length : tie.Need-same-length Inv-loop μ-loop
 same-length c = c .before .loop .inv .since .same ∙ c .before .before .before .before .start-at .kept .0
@@ -116,10 +126,11 @@ sweep-backward-spec =
     place-for-requires
     start-at-requires
     loop-holds
+    backward-last-requires
     sub-u
     backward-place-requires-2
     place-for-requires-2
-    backward-at-requires
+    backward-through-requires
     stored-requires
     loop-less
     loop-again

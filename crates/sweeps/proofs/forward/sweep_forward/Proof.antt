@@ -1,6 +1,6 @@
 -- Each turn stores a scale, takes the step from the newest vector, and keeps what it gave.
 use mathlib.Core.Path.{_≡_, _∙_}
-use Prim.Native.Nat.{_-_, _<_}
+use Prim.Native.Nat.{_-_, _≤_, _<_}
 use native.Mathlib.Omega.{arith}
 use lib.ListN.{length, length-set}
 use borrow.Author.Needs.{needs}
@@ -10,7 +10,7 @@ use Rattle.vertex.specs.Frame.{moving-fits}
 use Rattle.sweeps.specs.Target.{Target}
 use Rattle.sweeps.specs.Going.{Going}
 use Rattle.sweeps.proofs.Frames.{place-of}
-use Rattle.sweeps.proofs.ForwardTurn.{start-same, going-start, going-fits, going-step, going-turn}
+use Rattle.sweeps.proofs.ForwardTurn.{start-same, going-start, turn-inside, going-fits, going-step, going-through, going-turn}
 use Rattle.sweeps.proofs.forward.sweep_forward.Statement.{statement}
 use Rattle.sweeps.proofs.forward.sweep_forward.Tie as tie
 
@@ -20,16 +20,17 @@ Inv-loop room₀ plan n w scales each factors src₀ most₀ t₀ room src most 
 abbrev μ-loop : tie.MeasureT-loop
 μ-loop room₀ plan n w scales each factors src₀ most₀ t₀ room src most t = n - t
 
--- the target of the step at t
-target : (c : tie.After-place-for Inv-loop μ-loop)
-    → let a = c .before .before .before .before .before .before .before .before .before .before .args in
-    let l = c .before .before .before .loop in
-    Target (forwardPlace (a .plan .now) (l .t)) (l .src) (c .place-for .result)
-target c = rw (c .before .forward-place .ensures) at (c .place-for .ensures)
+-- the last vertex of the turn
+ends : (c : tie.After-forward-last Inv-loop μ-loop)
+    → let l = c .before .before .loop in
+    (l .t ≤ c .forward-last .result) × (c .forward-last .result < c .before .before .before .before .before .before .before .before .before .args .n)
+ends c = turn-inside (c .forward-last .ensures) (c .before .loop-test .taken)
 
-below : (c : tie.After-place-for Inv-loop μ-loop)
-    → c .before .before .before .loop .t < c .before .before .before .before .before .before .before .before .before .before .args .n
-below c = omega arith
+-- the target of its step
+target : (c : tie.After-place-for Inv-loop μ-loop)
+    → let a = c .before .before .before .before .before .before .before .before .before .before .before .args in
+    Target (forwardPlace (a .plan .now) (c .before .before .forward-last .result)) (c .before .before .before .before .loop .src) (c .place-for .result)
+target c = rw (c .before .forward-place .ensures) at (c .place-for .ensures)
 
 add-factors : tie.Need-add-factors Inv-loop μ-loop
 add-factors c = search needs
@@ -42,44 +43,58 @@ loop-holds c =
     let s = c .before .before .before .before .before .before in
     going-start (s .args .room .now) (s .pre) (c .before .before .start-at .ensures) (s .args .each) one-is
 
+forward-last-requires : tie.Need-forward-last-requires Inv-loop μ-loop
+forward-last-requires c κs = (omega (arith, c .before .loop .inv .ready .holds), c .loop-test .taken)
+
 add-room : tie.Need-add-room Inv-loop μ-loop
-add-room c = search needs
+add-room c = omega (arith, ends c, c .before .before .loop .inv .ready .ends)
 
 mul-room : tie.Need-mul-room Inv-loop μ-loop
-mul-room c = search needs
+mul-room c = omega (arith, ends c, c .before .before .loop .inv .ready .ends)
 
 slice-write-room : tie.Need-slice-write-room Inv-loop μ-loop
-slice-write-room c = omega (arith, c .before .loop .inv .ready .ends)
+slice-write-room c = omega (arith, ends c, c .before .before .loop .inv .ready .ends)
+
+add-room-2 : tie.Need-add-room-2 Inv-loop μ-loop
+add-room-2 c = omega (arith, ends c, c .before .before .loop .inv .ready .ends)
+
+mul-room-2 : tie.Need-mul-room-2 Inv-loop μ-loop
+mul-room-2 c = omega (arith, ends c, c .before .before .loop .inv .ready .ends)
+
+slice-write-room-2 : tie.Need-slice-write-room-2 Inv-loop μ-loop
+slice-write-room-2 c = simp length-set (omega (arith, ends c, c .before .before .loop .inv .ready .ends))
 
 forward-place-requires : tie.Need-forward-place-requires Inv-loop μ-loop
-forward-place-requires c κs = omega (arith, c .before .loop .inv .ready .holds)
+forward-place-requires c κs = omega (arith, ends c, c .before .before .loop .inv .ready .holds)
 
 place-for-requires : tie.Need-place-for-requires Inv-loop μ-loop
 place-for-requires c κs = search needs
 
-forward-at-requires : tie.Need-forward-at-requires Inv-loop μ-loop
-forward-at-requires c κs = going-step (c .before .before .before .before .loop .inv) (below (c .before)) (target (c .before)) _
+forward-through-requires : tie.Need-forward-through-requires Inv-loop μ-loop
+forward-through-requires c κs =
+    let g = c .before .before .before .before .before .loop .inv in
+    let b = c .before .before .before .before .loop-test .taken in
+    let turn = c .before .before .before .forward-last .ensures in
+    (going-step g b turn (target (c .before)) _ _, going-through g b turn (target (c .before)) _ _)
 
 stored-requires : tie.Need-stored-requires Inv-loop μ-loop
 stored-requires c κs =
-    let turn = c .before .before .before .before .before .before .before .before .loop in
-    let placed = c .before .before .before .before .before in
-    let stepped = c .before .before .before .forward-at in
-    let same : length (stepped .last .0) ≡ length (turn .room) = stepped .kept .0 ∙ simp length-set in
-    rw same (place-of (turn .inv .ready) _ (going-fits (turn .inv) (below placed) (target placed)))
+    let at = c .before .before .before .before .before .before .before .before .before .loop in
+    let stepped = c .before .before .before .forward-through in
+    let same : length (stepped .last .0) ≡ length (at .room) = stepped .kept .0 ∙ simp length-set in
+    rw same (place-of (at .inv .ready) _ (going-fits (at .inv) (c .before .before .before .before .before .before .before .before .loop-test .taken) (c .before .before .before .before .before .before .before .forward-last .ensures) (target (c .before .before .before .before .before))))
 
 add-t : tie.Need-add-t Inv-loop μ-loop
-add-t c = search needs
+add-t c = omega (arith, ends (c .before .before .before .before .before .before .before .before), c .before .before .before .before .before .before .before .before .before .before .loop .inv .ready .ends)
 
 loop-less : tie.Need-loop-less Inv-loop μ-loop
-loop-less c = search needs
+loop-less c = omega (arith, ends (c .before .before .before .before .before .before .before .before))
 
 loop-again : tie.Need-loop-again Inv-loop μ-loop
 loop-again c =
-    let placed = c .before .before .before .before .before .before in
-    let stepped = c .before .before .before .before .forward-at in
-    let g = c .before .before .before .before .before .before .before .before .before .loop .inv in
-    going-turn g (below placed) (target placed) _ (rw one-is) (stepped .ensures) (c .stored .ensures)
+    let g = c .before .before .before .before .before .before .before .before .before .before .loop .inv in
+    let stepped = c .before .before .before .before .forward-through in
+    going-turn g (c .before .before .before .before .before .before .before .before .before .loop-test .taken) (c .before .before .before .before .before .before .before .before .forward-last .ensures) (target (c .before .before .before .before .before .before)) _ _ one-is (rw one-is) (stepped .ensures) (c .stored .ensures)
 
 same-length : tie.Need-same-length Inv-loop μ-loop
 same-length c = c .before .loop .inv .since .same ∙ c .before .before .before .before .start-at .kept .0
@@ -103,12 +118,16 @@ sweep-forward-spec =
     add-factors
     start-at-requires
     loop-holds
+    forward-last-requires
     add-room
     mul-room
     slice-write-room
+    add-room-2
+    mul-room-2
+    slice-write-room-2
     forward-place-requires
     place-for-requires
-    forward-at-requires
+    forward-through-requires
     stored-requires
     add-t
     loop-less

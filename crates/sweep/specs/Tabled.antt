@@ -10,7 +10,7 @@ use Rattle.transfer.specs.Rounded.{ieee}
 use Rattle.transfer.specs.Sweep as S
 use Rattle.sweep.specs.Step.{Tables, Tabled}
 use Rattle.sweep.specs.Rule.{weights}
-use Rattle.sweep.proofs.Patterns.{pattern-lt}
+use Rattle.sweep.specs.Pattern.{pattern-lt}
 
 -- the entries of the vector that lies at src
 abbrev pub before : ℕ → List Float → ℕ → ℕ → Float
