@@ -1,0 +1,292 @@
+//! Correlations and their room, against the original where the factors are exponentials, and against document 01's sweep rules.
+
+use crate::draw::Draw;
+use crate::guarded::{equal, Guarded};
+use crate::law::{factor_refusal, first, job_refusal, room, unless, Edges, Pairs};
+use crate::model::Model;
+use crate::shapes::{pairs, spoil_graph, swept_graph, Reach};
+use copperhook::sys;
+use oracle::glass::{correlations as original, Plan};
+use oracle::lattice::Graph;
+
+/// The most doubles that are lent as work memory; a job whose room is larger is lent too few.
+const MOST_LENT: usize = 1 << 23;
+/// The most entries of all vectors of a job for which the sweep rules are followed one by one, vector after vector.
+const MOST_MODELLED: usize = 1 << 20;
+
+/// A job as it is lent. The original takes the couplings, whose exponentials the factors are; where there are none it is not asked.
+struct Job {
+    edges: Edges,
+    pairs: Pairs,
+    couplings: Option<Vec<f64>>,
+    factors: Vec<f64>,
+    each: bool,
+    results: usize,
+    /// Work memory past the room, or short of it.
+    spare: isize,
+}
+
+/// What a call answers and leaves.
+struct Outcome {
+    number: usize,
+    results: Vec<f64>,
+    /// How much of the work memory is +0.0 afterwards.
+    cleared: usize,
+}
+
+pub fn try_one(draw: &mut Draw) -> Result<usize, String> {
+    let mut job = sound(draw);
+    for _ in 0..draw.of(&[0, 0, 0, 1, 1, 2]) {
+        spoil(draw, &mut job);
+    }
+    let what = format!(
+        "{} vertices, floor {}, {} edges, {} pairs, {}",
+        job.edges.n,
+        job.edges.floor,
+        job.edges.a.len(),
+        job.pairs.us.len(),
+        if job.each { "per element" } else { "block" }
+    );
+    let before = draw.of(&[0.25, f64::NAN, f64::NEG_INFINITY, -0.0, 1e300]);
+    compare_room(&job).and_then(|()| compare(&job, before)).map_err(|why| format!("{what}: {why}"))
+}
+
+/// How large a job may be: mostly small, now and then larger.
+fn reach(draw: &mut Draw) -> Reach {
+    let entries: usize = match draw.below(1500) {
+        0 => 1 << 24,
+        1..=20 => 1 << 20,
+        _ => 1 << 15,
+    };
+    let window = draw.within(1, 6).max(if draw.once_in(4) { draw.within(1, entries.ilog2() as usize - 3) } else { 1 }).min(18);
+    let most = draw.of(&[4, 12, 40, 1024]);
+    Reach { window, n: (entries >> window).clamp(1, most) }
+}
+
+fn sound(draw: &mut Draw) -> Job {
+    let reach = reach(draw);
+    let edges = swept_graph(draw, reach);
+    let window = edges.window();
+    let count = if draw.once_in(60) { 256 } else { draw.below(14) };
+    // a pair costs a sweep of its own at most
+    let count = count.min(((1 << 24) / (edges.n << window)).max(2));
+    let pairs = pairs(draw, edges.n, window, count);
+    let large = edges.n << window > MOST_MODELLED;
+    let (couplings, factors) = factors(draw, &edges, large);
+    let results = pairs.us.len();
+    Job { edges, pairs, couplings, factors, each: draw.once_in(2), results, spare: draw.below(9) as isize }
+}
+
+/// Factors of every strength. Exponentials have their couplings; other doubles have none.
+fn factors(draw: &mut Draw, edges: &Edges, gentle: bool) -> (Option<Vec<f64>>, Vec<f64>) {
+    let kept = edges.kept();
+    let style = if gentle { 0 } else { draw.below(10) };
+    if style >= 8 {
+        let some = [5e-324, f64::MIN_POSITIVE, 1.0, f64::MAX, f64::from_bits(1.0f64.to_bits() - 1)];
+        let ends = draw.once_in(3);
+        let factors = kept.iter().map(|_| if ends { draw.of(&some) } else { draw.factor() }).collect();
+        return (None, factors);
+    }
+    let most = draw.of(&[30.0, 90.0, 180.0, 350.0, 709.78]);
+    let couplings: Vec<f64> = kept
+        .iter()
+        .map(|e| match style {
+            0..=2 => draw.between(-1.5, 1.5),
+            3 => draw.of(&[0.44, -0.44]) * e.2.clamp(-2.0, 2.0),
+            4 => draw.between(-most, most),
+            5 => draw.between(-745.1, 709.78),
+            6 => most * e.2.signum(),
+            _ => draw.of(&[0.0, -0.0, 1.0, -1.0, 2f64.ln(), most]),
+        })
+        .collect();
+    let factors = couplings.iter().map(|x| x.exp()).collect();
+    (Some(couplings), factors)
+}
+
+/// One thing that document 01 may refuse.
+fn spoil(draw: &mut Draw, job: &mut Job) {
+    let (n, pairs, edges) = (job.edges.n, job.pairs.us.len(), job.factors.len());
+    let (pair, edge) = (pairs.checked_sub(1).map(|last| draw.within(0, last)), edges.checked_sub(1).map(|last| draw.within(0, last)));
+    match draw.below(16) {
+        0..=3 => spoil_graph(draw, &mut job.edges),
+        4 => job.edges.floor = draw.of(&[24, 25, 1 << 40, usize::MAX]),
+        5 => long_edge(draw, job),
+        6 => short_edges(draw, job),
+        7 => drop(if draw.once_in(2) { job.pairs.us.pop() } else { job.pairs.vs.pop() }),
+        8 => (job.pairs, job.results) = (Pairs { us: vec![0; 257], vs: vec![n.wrapping_sub(1); 257] }, 257),
+        9 => {
+            if let Some(i) = pair.filter(|&i| i < job.pairs.vs.len()) {
+                job.pairs.vs[i] = draw.of(&[n, usize::MAX, 1 << 63, job.pairs.us[i]]);
+            }
+        }
+        10 => {
+            if let Some(i) = edge {
+                job.factors[i] = draw.no_factor();
+                job.couplings = None;
+            }
+        }
+        11 => {
+            job.couplings = None;
+            if draw.once_in(2) {
+                job.factors.push(1.0);
+            } else {
+                job.factors.pop();
+            }
+        }
+        12 | 13 => job.results = draw.of(&[job.results + 1, job.results.saturating_sub(1), 0]),
+        _ => job.spare = draw.of(&[-1, -1, -2, -1000]),
+    }
+}
+
+/// One more kept edge with its factor.
+fn link(job: &mut Job, u: usize, v: usize) {
+    job.edges.a.push(u);
+    job.edges.b.push(v);
+    job.edges.m.push(1.0);
+    job.factors.push(0.5f64.exp());
+    if let Some(couplings) = &mut job.couplings {
+        couplings.push(0.5);
+    }
+}
+
+/// An edge of length 24 or more, where the graph has one.
+fn long_edge(draw: &mut Draw, job: &mut Job) {
+    if job.edges.n > 26 && job.edges.n <= 1024 {
+        let v = draw.within(25, job.edges.n - 1);
+        let length = draw.within(24, 25);
+        link(job, v, v - length);
+    }
+}
+
+/// Four to six short edges back from one vertex; some may be there twice, which is refused by 5.
+fn short_edges(draw: &mut Draw, job: &mut Job) {
+    if job.edges.n > 8 && job.edges.n <= 1024 {
+        let v = draw.within(7, job.edges.n - 1);
+        job.edges.floor = job.edges.floor.max(7);
+        for d in 1..=draw.within(4, 6) {
+            let joined = job.edges.kept().iter().any(|e| (e.0, e.1) == (v - d, v));
+            if !joined || draw.once_in(10) {
+                link(job, v, v - d);
+            }
+        }
+    }
+}
+
+/// That `room` answers what document 01 says.
+fn compare_room(job: &Job) -> Result<(), String> {
+    let (e, p) = (&job.edges, &job.pairs);
+    let mut answered = 99;
+    let lists = [Guarded::new(&e.a), Guarded::new(&e.b), Guarded::new(&p.us), Guarded::new(&p.vs)];
+    let [a, b, us, vs] = lists.each_ref().map(|list| (list.pointer(), list.len()));
+    let m = Guarded::new(&e.m);
+    let number =
+        unsafe { sys::copperhook_room(e.n, e.floor, a.0, a.1, b.0, b.1, m.pointer(), m.len(), us.0, us.1, vs.0, vs.1, &mut answered) };
+    let expected = job_refusal(e, p, &[]);
+    equal("answer of the room", number, expected)?;
+    equal("room", answered, if expected == 0 { room(e, p) } else { 99 })?;
+    m.holds("m", &e.m)?;
+    lists.iter().zip([&e.a, &e.b, &p.us, &p.vs]).try_for_each(|(list, expected)| list.holds("a list of the room", expected))
+}
+
+/// The call, and what it answers and leaves.
+fn compare(job: &Job, before: f64) -> Result<usize, String> {
+    let (e, p) = (&job.edges, &job.pairs);
+    let work_length = work_length(job);
+    let outcome = outcome(job, work_length, before)?;
+    let lists = [Guarded::new(&e.a), Guarded::new(&e.b), Guarded::new(&p.us), Guarded::new(&p.vs)];
+    let [a, b, us, vs] = lists.each_ref().map(|list| (list.pointer(), list.len()));
+    let (m, factors) = (Guarded::new(&e.m), Guarded::new(&job.factors));
+    let mut held = vec![before; work_length];
+    let (mut results, mut work) = (Guarded::new(&vec![before; job.results]), Guarded::new(&held));
+    let number = unsafe {
+        sys::copperhook_correlations(
+            e.n,
+            e.floor,
+            a.0,
+            a.1,
+            b.0,
+            b.1,
+            m.pointer(),
+            m.len(),
+            us.0,
+            us.1,
+            vs.0,
+            vs.1,
+            factors.pointer(),
+            factors.len(),
+            usize::from(!job.each),
+            results.pointer_mut(),
+            job.results,
+            work.pointer_mut(),
+            work_length,
+        )
+    };
+    equal("answer", number, outcome.number)?;
+    results.holds("results", &outcome.results)?;
+    held[..outcome.cleared].fill(0.0);
+    work.holds("work", &held)?;
+    m.holds("m", &e.m)?;
+    factors.holds("factors", &job.factors)?;
+    lists.iter().zip([&e.a, &e.b, &p.us, &p.vs]).try_for_each(|(list, expected)| list.holds("a list", expected))?;
+    Ok(number)
+}
+
+fn work_length(job: &Job) -> usize {
+    if job_refusal(&job.edges, &job.pairs, &[]) != 0 {
+        return job.spare.unsigned_abs();
+    }
+    let room = room(&job.edges, &job.pairs);
+    if room > MOST_LENT {
+        return 1000;
+    }
+    room.saturating_add_signed(job.spare)
+}
+
+/// By the checks, and where they pass by the sweep rules and the original.
+fn outcome(job: &Job, work: usize, before: f64) -> Result<Outcome, String> {
+    let (e, p) = (&job.edges, &job.pairs);
+    let number = first(job_refusal(e, p, &[]), || {
+        let factors = factor_refusal(&job.factors, e.kept().len());
+        first(factors, || first(unless(job.results == p.us.len(), 12), || unless(work >= room(e, p), 13)))
+    });
+    if number != 0 {
+        return Ok(Outcome { number, results: vec![before; job.results], cleared: 0 });
+    }
+    let cleared = room(e, p);
+    let answers = job.couplings.as_ref().map(|couplings| original_answers(job, couplings));
+    if e.n << e.window() > MOST_MODELLED {
+        let results = answers.ok_or("a large job is to have couplings")?;
+        return Ok(Outcome { number, results, cleared });
+    }
+    modelled(job, answers).map(|(number, results)| Outcome { number, results, cleared })
+}
+
+fn numbered_pairs(job: &Job) -> Vec<(usize, usize)> {
+    job.pairs.us.iter().copied().zip(job.pairs.vs.iter().copied()).collect()
+}
+
+/// The original's answers. It reads its manner from the environment.
+fn original_answers(job: &Job, couplings: &[f64]) -> Vec<f64> {
+    std::env::set_var("FDK_SLOW", if job.each { "1" } else { "0" });
+    let mut graph = Graph::new(job.edges.n, &job.edges.raw());
+    graph.win = graph.win.max(job.edges.floor);
+    let plan = Plan::new(&graph, &numbered_pairs(job));
+    let mut answers = vec![f64::INFINITY; job.results];
+    original(&plan, couplings, &mut plan.work(), &mut answers);
+    answers
+}
+
+/// 14 where some Z is not finite and above zero; else the answers, which the original's are to equal.
+fn modelled(job: &Job, answers: Option<Vec<f64>>) -> Result<(usize, Vec<f64>), String> {
+    let edges: Vec<(usize, usize, f64)> = job.edges.kept().iter().zip(&job.factors).map(|(e, &x)| (e.0, e.1, x)).collect();
+    let model = Model { n: job.edges.n, window: job.edges.window(), edges: &edges, each: job.each };
+    let modelled = model.answers(&numbered_pairs(job));
+    if !modelled.iter().all(|&(z, _)| z.is_finite() && z > 0.0) {
+        return Ok((14, vec![0.0; job.results]));
+    }
+    let results: Vec<f64> = modelled.iter().map(|x| x.1).collect();
+    if let Some(i) = answers.as_ref().and_then(|a| a.iter().zip(&results).position(|(x, y)| x.to_bits() != y.to_bits())) {
+        return Err(format!("pair {i}: the sweep rules answer {:e}, the original {:e}", results[i], answers.unwrap()[i]));
+    }
+    Ok((0, results))
+}
