@@ -1,6 +1,7 @@
 //! Compares the library with the original and document 01 on drawn jobs. `compare --help` tells the options.
 
 use compare::{line, run, Until, GROUPS};
+use std::io::Write;
 use std::process::ExitCode;
 use std::time::Duration;
 
@@ -56,10 +57,15 @@ fn parse(words: &[String]) -> Result<Options, String> {
     Ok(options)
 }
 
+/// A line of the report. A reader that has closed the pipe misses the rest, and the exit status still tells.
+fn say(line: &str) {
+    let _ = writeln!(std::io::stdout(), "{line}");
+}
+
 fn main() -> ExitCode {
     let words: Vec<String> = std::env::args().skip(1).collect();
     if words.iter().any(|w| w == "--help" || w == "-h") {
-        print!("{HELP}");
+        say(HELP.trim_end());
         return ExitCode::SUCCESS;
     }
     let options = match parse(&words) {
@@ -70,16 +76,16 @@ fn main() -> ExitCode {
         }
     };
     let groups: Vec<usize> = (0..GROUPS.len()).filter(|&g| options.only.is_none_or(|only| only == g)).collect();
-    println!("{} with seed {}, jobs from {}", copperhook::ARCHIVE, options.seed, options.from);
+    say(&format!("{} with seed {}, jobs from {}", copperhook::ARCHIVE, options.seed, options.from));
     let (mut jobs, mut mismatches) = (0, 0);
     for &group in &groups {
         let share = GROUPS[group].share / groups.iter().map(|&g| GROUPS[g].share).sum::<f64>();
         let until = options.jobs.map_or(Until::Time(Duration::from_secs_f64(options.seconds * share)), Until::Jobs);
-        let tally = run(group, options.seed, options.from, until, &mut |mismatch| println!("MISMATCH {mismatch}"));
-        println!("{}", line(GROUPS[group].name, &tally));
+        let tally = run(group, options.seed, options.from, until, &mut |mismatch| say(&format!("MISMATCH {mismatch}")));
+        say(&line(GROUPS[group].name, &tally));
         jobs += tally.jobs;
         mismatches += tally.mismatches;
     }
-    println!("seed {}: {jobs} jobs, {mismatches} mismatches", options.seed);
+    say(&format!("seed {}: {jobs} jobs, {mismatches} mismatches", options.seed));
     ExitCode::from(u8::from(mismatches != 0))
 }
