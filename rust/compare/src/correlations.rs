@@ -9,7 +9,7 @@ use copperhook::sys;
 use oracle::glass::{correlations as original, Plan};
 use oracle::lattice::Graph;
 
-/// The most doubles that are lent as work memory; a job whose room is larger is lent too few.
+/// The most doubles that are lent as work memory, but to wide jobs; a job whose room is larger is lent too few.
 const MOST_LENT: usize = 1 << 23;
 /// The most entries of all vectors of a job for which the sweep rules are followed one by one, vector after vector.
 const MOST_MODELLED: usize = 1 << 20;
@@ -24,6 +24,10 @@ struct Job {
     results: usize,
     /// Work memory past the room, or short of it.
     spare: isize,
+    /// Whether the couplings are small ones, so that no Z can fail.
+    gentle: bool,
+    /// Whether the room is lent, however large.
+    wide: bool,
 }
 
 /// What a call answers and leaves.
@@ -39,16 +43,31 @@ pub fn try_one(draw: &mut Draw) -> Result<usize, String> {
     for _ in 0..draw.of(&[0, 0, 0, 1, 1, 2]) {
         spoil(draw, &mut job);
     }
-    let what = format!(
-        "{} vertices, floor {}, {} edges, {} pairs, {}",
-        job.edges.n,
-        job.edges.floor,
-        job.edges.a.len(),
-        job.pairs.us.len(),
-        if job.each { "per element" } else { "block" }
-    );
     let before = draw.of(&[0.25, f64::NAN, f64::NEG_INFINITY, -0.0, 1e300]);
-    compare_room(&job).and_then(|()| compare(&job, before)).map_err(|why| format!("{what}: {why}"))
+    compare_room(&job).and_then(|()| compare(&job, before)).map_err(|why| format!("{}: {why}", job.told()))
+}
+
+/// A job of a window from 19 to 24, with a pair or two: hundreds of megabytes, and seconds.
+pub fn try_wide(draw: &mut Draw) -> Result<usize, String> {
+    let window = draw.within(19, 24);
+    let n = window + draw.within(1, 4);
+    let mut edges = swept_graph(draw, Reach { window, n });
+    edges.n = edges.n.max(n);
+    edges.floor = window;
+    let count = draw.within(1, 2);
+    let pairs = pairs(draw, edges.n, window, count);
+    let (couplings, factors) = factors(draw, &edges, 0);
+    let results = pairs.us.len();
+    let job = Job { edges, pairs, couplings, factors, each: draw.once_in(2), results, spare: 1, gentle: true, wide: true };
+    compare_room(&job).and_then(|()| compare(&job, 0.25)).map_err(|why| format!("{}: {why}", job.told()))
+}
+
+impl Job {
+    fn told(&self) -> String {
+        let manner = if self.each { "per element" } else { "block" };
+        let (n, floor, edges) = (self.edges.n, self.edges.floor, self.edges.a.len());
+        format!("{n} vertices, floor {floor}, {edges} edges, {} pairs, {manner}", self.pairs.us.len())
+    }
 }
 
 /// How large a job may be: mostly small, now and then larger.
@@ -71,16 +90,23 @@ fn sound(draw: &mut Draw) -> Job {
     // a pair costs a sweep of its own at most
     let count = count.min(((1 << 24) / (edges.n << window)).max(2));
     let pairs = pairs(draw, edges.n, window, count);
-    let large = edges.n << window > MOST_MODELLED;
-    let (couplings, factors) = factors(draw, &edges, large);
-    let results = pairs.us.len();
-    Job { edges, pairs, couplings, factors, each: draw.once_in(2), results, spare: draw.below(9) as isize }
+    let style = if is_large(&edges) { 0 } else { draw.below(10) };
+    let (couplings, factors) = factors(draw, &edges, style);
+    let (results, gentle) = (pairs.us.len(), style <= GENTLE);
+    Job { edges, pairs, couplings, factors, each: draw.once_in(2), results, spare: draw.below(9) as isize, gentle, wide: false }
 }
 
-/// Factors of every strength. Exponentials have their couplings; other doubles have none.
-fn factors(draw: &mut Draw, edges: &Edges, gentle: bool) -> (Option<Vec<f64>>, Vec<f64>) {
+/// Whether there are too many entries to follow the sweep rules one by one.
+fn is_large(edges: &Edges) -> bool {
+    edges.n << edges.window() > MOST_MODELLED
+}
+
+/// Up to this style couplings are small.
+const GENTLE: usize = 3;
+
+/// Factors of some style, each of another strength. Exponentials have their couplings; other doubles have none.
+fn factors(draw: &mut Draw, edges: &Edges, style: usize) -> (Option<Vec<f64>>, Vec<f64>) {
     let kept = edges.kept();
-    let style = if gentle { 0 } else { draw.below(10) };
     if style >= 8 {
         let some = [5e-324, f64::MIN_POSITIVE, 1.0, f64::MAX, f64::from_bits(1.0f64.to_bits() - 1)];
         let ends = draw.once_in(3);
@@ -236,7 +262,8 @@ fn work_length(job: &Job) -> usize {
         return job.spare.unsigned_abs();
     }
     let room = room(&job.edges, &job.pairs);
-    if room > MOST_LENT {
+    // what can be neither lent nor followed is lent too few
+    if room > MOST_LENT && !job.wide || is_large(&job.edges) && (!job.gentle || job.couplings.is_none()) {
         return 1000;
     }
     room.saturating_add_signed(job.spare)
@@ -254,7 +281,7 @@ fn outcome(job: &Job, work: usize, before: f64) -> Result<Outcome, String> {
     }
     let cleared = room(e, p);
     let answers = job.couplings.as_ref().map(|couplings| original_answers(job, couplings));
-    if e.n << e.window() > MOST_MODELLED {
+    if is_large(e) {
         let results = answers.ok_or("a large job is to have couplings")?;
         return Ok(Outcome { number, results, cleared });
     }

@@ -23,7 +23,8 @@ use std::time::{Duration, Instant};
 /// One job of a group: how the call was answered, 0 for accepted, or what differs.
 type Try = fn(&mut Draw) -> Result<usize, String>;
 
-/// The entries that are compared together, with the refusals that a long enough run meets and their share of its time.
+/// The entries that are compared together, with the refusals that a long enough run meets and their share of its time, 0.0 for
+/// those that run only where they are named.
 pub struct Group {
     pub name: &'static str,
     pub share: f64,
@@ -31,13 +32,14 @@ pub struct Group {
     try_one: Try,
 }
 
-pub const GROUPS: [Group; 6] = [
+pub const GROUPS: [Group; 7] = [
     Group { name: "generators", share: 1.0, refusals: &[], try_one: generators::try_one },
     Group { name: "graphs", share: 1.0, refusals: &[1, 2, 3, 4, 5, 8, 12], try_one: graphs::try_one },
     Group { name: "strips", share: 1.0, refusals: &[12, 15, 16, 17], try_one: strips::try_one },
     Group { name: "couplings", share: 1.0, refusals: &[1, 2, 3, 4, 5, 12], try_one: couplings::try_one },
     Group { name: "correlations", share: 5.0, refusals: &[1, 2, 3, 4, 5, 6, 7, 8, 10, 12, 13, 14], try_one: correlations::try_one },
     Group { name: "estimates", share: 1.0, refusals: &[18], try_one: estimates::try_one },
+    Group { name: "wide", share: 0.0, refusals: &[], try_one: correlations::try_wide },
 ];
 
 /// How long a group is run.

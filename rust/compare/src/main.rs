@@ -14,7 +14,8 @@ usage: compare [options]
     --jobs N       so many jobs of each group instead
     --seed N       where the draws start; 1 by default
     --from N       the number of the first job; 0 by default
-    --only NAME    one group: generators, graphs, strips, couplings, correlations, estimates
+    --only NAME    one group: generators, graphs, strips, couplings, correlations, estimates; or wide, which runs only where it is
+                   named: windows from 19 to 24, with up to 3 GB of memory
     --help         this text
 
 examples:
@@ -75,11 +76,15 @@ fn main() -> ExitCode {
             return ExitCode::from(2);
         }
     };
-    let groups: Vec<usize> = (0..GROUPS.len()).filter(|&g| options.only.is_none_or(|only| only == g)).collect();
+    let groups: Vec<usize> = match options.only {
+        Some(group) => vec![group],
+        None => (0..GROUPS.len()).filter(|&g| GROUPS[g].share > 0.0).collect(),
+    };
     say(&format!("{} with seed {}, jobs from {}", copperhook::ARCHIVE, options.seed, options.from));
     let (mut jobs, mut mismatches) = (0, 0);
     for &group in &groups {
-        let share = GROUPS[group].share / groups.iter().map(|&g| GROUPS[g].share).sum::<f64>();
+        let all: f64 = groups.iter().map(|&g| GROUPS[g].share).sum();
+        let share = if groups.len() == 1 { 1.0 } else { GROUPS[group].share / all };
         let until = options.jobs.map_or(Until::Time(Duration::from_secs_f64(options.seconds * share)), Until::Jobs);
         let tally = run(group, options.seed, options.from, until, &mut |mismatch| say(&format!("MISMATCH {mismatch}")));
         say(&line(GROUPS[group].name, &tally));
