@@ -17,7 +17,8 @@
  * magnitude m[i]. An edge of magnitude +0.0 or -0.0 is dropped; the others are kept, in their order. `floor` is a lower bound for the
  * window; 0 for none.
  *
- * Doubles are IEEE 754 binary64, in the default rounding. The library keeps no state, and calls of several threads do not meet.
+ * Doubles are IEEE 754 binary64, in the default rounding. The library keeps no state, and calls of several threads do not meet. A call takes
+ * less than 1 MB of stack, and no heap.
  */
 #ifndef COPPERHOOK_H
 #define COPPERHOOK_H

@@ -19,11 +19,13 @@ use Rattle.lattice.specs.declared.graph.Reached.{Reached}
 use Rattle.lattice.specs.declared.graph.Reached.the-variants as Reached
 use Rattle.strip.specs.Strips.{edges, earlyEnds, lateEnds}
 use Rattle.strip.specs.declared.strip.Strip.{Strip}
+use Rattle.strip.specs.declared.vertices.Sited.{Sited}
 use Rattle.pairset.specs.PairSet.{Pair, firsts, seconds, labelBytes}
 use Rattle.copperhook.specs.Graphs.{Listed}
 use Rattle.copperhook.specs.Strips.{StripEdges}
 use Rattle.copperhook.specs.PairSets.{Paired}
 use Rattle.copperhook.specs.Distances.{Told}
+use Rattle.copperhook.specs.Vertices.{numberOf, insideOf, vertexOf}
 
 -- 1 for a refusal, else 0
 abbrev refusals : Answer → ℕ
@@ -73,6 +75,12 @@ module _ (k : ℕ) (ps : List Pair) (us vs labels : List ℕ) {us′ vs′ label
   pairs-refused r p q =
       let t = refused-told k (length ps) r p q (length ps) count in
       record { answer = t .0; first-ends = u; second-ends = v; labelled = l; counted = rw (← (t .0)) (t .1) }
+
+-- ---- the vertex at a site
+
+pub sited-told : (a b : Sited) (inside : Bool) (vertex : ℕ) → a ≡ b
+    → (numberOf a ≡ numberOf b) × ((insideOf a inside ≡ insideOf b inside) × (vertexOf a vertex ≡ vertexOf b vertex))
+sited-told a b inside vertex e = (ap numberOf e, (ap (λ x. insideOf x inside) e, ap (λ x. vertexOf x vertex) e))
 
 -- ---- the kept edges of a graph
 

@@ -2,7 +2,7 @@
 //!
 //! Every call is total: whatever the numbers and however long the lists, it ends and touches nothing but what it is lent, and a bad job gets
 //! a [`Refusal`]. A refused call leaves every list as it was, but for [`Refusal::PartitionSum`]. Lists that are read are `&[T]` and lists
-//! that are written are `&mut [T]`, so none that overlap can be lent.
+//! that are written are `&mut [T]`, so none that overlap can be lent. A call takes less than 1 MB of stack.
 //!
 //! ```
 //! use copperhook::{Job, Kind, Manner, Strip};

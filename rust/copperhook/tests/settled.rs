@@ -112,3 +112,25 @@ fn the_generator_is_xoshiro256_plus_plus() {
     assert_eq!(Rng::stream(5, 6), Rng::stream(5, 6));
     assert!((0.0..1.0).contains(&Rng::new(1).uniform()));
 }
+
+/// Correlations and every graph entry, on as many vertices as there may be.
+fn largest_calls() -> Result<(), Refusal> {
+    let strip = Strip { kind: Kind::Triangular, width: 4, length: 256, periodic: true };
+    let (edges, pairs) = (strip.edge_list()?, strip.labelled_pairs()?);
+    let (us, vs): (Vec<usize>, Vec<usize>) = pairs.iter().map(|p| (p.u, p.v)).unzip();
+    let graph = edges.graph(strip.n()?);
+    let job = Job { graph, us: &us, vs: &vs };
+    let (mut results, mut work) = (vec![0.0; us.len()], vec![0.0; job.room()?]);
+    job.correlations(&vec![1.5; edges.m.len()], Manner::Block, &mut results, &mut work)?;
+    graph.rotated(&mut [0; 4096], &mut [0; 4096], &mut [0.0; 4096])?;
+    graph.spanning_forest(&mut vec![false; edges.m.len()])?;
+    graph.components(&mut vec![0; 1024])?;
+    graph.factors(&[0.5; 64])?;
+    graph.distance(0, 1023).map(drop)
+}
+
+#[test]
+fn a_megabyte_of_stack_is_enough() {
+    let thread = std::thread::Builder::new().stack_size(1 << 20).spawn(largest_calls).unwrap();
+    assert_eq!(thread.join().unwrap(), Ok(()));
+}

@@ -1,6 +1,11 @@
 -- What the answer holds, taken apart, for the strip that the numbers name.
-use mathlib.Core.Path.{sym, ap, _∙_}
-use Rattle.copperhook.specs.Vertices.{numberOf, insideOf, vertexOf}
+use mathlib.Core.Path.{sym, _∙_}
+use mathlib.Core.Bool.{false}
+use Rattle.checks.specs.StripRequest.{stripRefusal, ofSides}
+use Rattle.strip.specs.Listing.{stripRequest}
+use Rattle.strip.specs.Vertices.{sited}
+use Rattle.copperhook.specs.Strips.{stripNumbered}
+use Rattle.copperhook.proofs.Told.{sited-told}
 use borrow.Author.Needs.{needs}
 use Rattle.copperhook.proofs.strips.copperhook_strip_vid.Statement.{statement}
 use Rattle.copperhook.proofs.strips.copperhook_strip_vid.Tie as tie
@@ -22,18 +27,21 @@ enum-known-answer-2 c = search needs
 
 returns : tie.Need-returns
 returns c =
-    let e = sym (c .before .answer .given .1) ∙ (rw (c .before .before .before .before .strip-numbered .ensures) at (c .before .before .before .vid .ensures)) in
-    (ap numberOf e, (ap (λ a. insideOf a (c .before .before .before .before .before .args .inside .now)) e, ap (λ a. vertexOf a (c .before .before .before .before .before .args .vertex .now)) e))
+    let s = c .before .before .before .before .before .args in
+    let named = stripNumbered (s .kind) (s .w) (s .l) (s .periodic) in
+    sited-told _ (sited (stripRefusal ofSides (stripRequest named false)) named (s .x) (s .y)) (s .inside .now) (s .vertex .now) (sym (c .before .answer .given .1) ∙ (rw (c .before .before .before .before .strip-numbered .ensures) at (c .before .before .before .vid .ensures)))
 
 returns-2 : tie.Need-returns-2
 returns-2 c =
-    let e = sym (c .enum-told .given .1) ∙ (rw (c .before .before .before .strip-numbered .ensures) at (c .before .before .vid .ensures)) in
-    (ap numberOf e, (ap (λ a. insideOf a (c .before .before .before .before .args .inside .now)) e, ap (λ a. vertexOf a (c .before .before .before .before .args .vertex .now)) e))
+    let s = c .before .before .before .before .args in
+    let named = stripNumbered (s .kind) (s .w) (s .l) (s .periodic) in
+    sited-told _ (sited (stripRefusal ofSides (stripRequest named false)) named (s .x) (s .y)) (s .inside .now) (s .vertex .now) (sym (c .enum-told .given .1) ∙ (rw (c .before .before .before .strip-numbered .ensures) at (c .before .before .vid .ensures)))
 
 returns-3 : tie.Need-returns-3
 returns-3 c =
-    let e = sym (c .before .answer2 .given .1) ∙ (rw (c .before .before .before .before .strip-numbered .ensures) at (c .before .before .before .vid .ensures)) in
-    (ap numberOf e, (ap (λ a. insideOf a (c .before .before .before .before .before .args .inside .now)) e, ap (λ a. vertexOf a (c .before .before .before .before .before .args .vertex .now)) e))
+    let s = c .before .before .before .before .before .args in
+    let named = stripNumbered (s .kind) (s .w) (s .l) (s .periodic) in
+    sited-told _ (sited (stripRefusal ofSides (stripRequest named false)) named (s .x) (s .y)) (s .inside .now) (s .vertex .now) (sym (c .before .answer2 .given .1) ∙ (rw (c .before .before .before .before .strip-numbered .ensures) at (c .before .before .before .vid .ensures)))
 
 pub copperhook-strip-vid-spec : {M : Type 1} → statement M
 copperhook-strip-vid-spec =
