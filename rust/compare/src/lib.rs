@@ -1,5 +1,6 @@
 //! Every entry of the library on drawn jobs, good and bad: what it answers and leaves against the original, bit for bit, and against
-//! document 01's refusals. A list that is lent has guard words around it.
+//! document 01's refusals. A list that is lent has guard words around it. The calls are those of the archive itself, `unsafe` for their
+//! pointers alone: each is a guarded list's or a variable's.
 
 mod correlations;
 mod couplings;

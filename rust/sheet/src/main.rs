@@ -15,21 +15,20 @@ use board::Board;
 use cost::{tell, work_memory, Cost, Progress};
 use options::{Asked, Format, Options};
 use sheet::Sheet;
-use source::{Configuration, Source};
 use std::process::ExitCode;
 use trouble::Trouble;
 
 /// The sheet as its format spells it.
 fn make(options: &Options) -> Result<String, Trouble> {
     let board = Board::new(options)?;
-    let source = Configuration::new(&options.signs, board.kept)?;
+    let source = source::chosen(options, &board)?;
     let cost = Cost::of(&board, source.sweeps());
     cost.say();
     let mut work = work_memory(&board)?;
     let progress = Progress::new(&cost);
     let values = source.values(&board, &mut work, &mut |done| progress.done(done, board.betas.len()));
     progress.end();
-    let sheet = Sheet::new(&board, &source, values?, options.bits);
+    let sheet = Sheet::new(&board, source.as_ref(), values?, options.bits);
     Ok(match options.format {
         Format::Text => text::text(&sheet),
         Format::Csv => data::csv(&sheet),

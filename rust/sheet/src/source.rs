@@ -1,7 +1,7 @@
 //! Where the numbers of a sheet come from.
 
 use crate::board::Board;
-use crate::options::Signs;
+use crate::options::{Options, Signs};
 use crate::trouble::Trouble;
 use copperhook::Rng;
 
@@ -22,14 +22,19 @@ pub trait Source {
     fn values(&self, board: &Board, work: &mut [f64], done: &mut dyn FnMut(usize)) -> Result<Values, Trouble>;
 }
 
+/// The source that the options ask for.
+pub fn chosen(options: &Options, board: &Board) -> Result<Box<dyn Source>, Trouble> {
+    Ok(Box::new(Configuration::new(&options.signs, board.kept)?))
+}
+
 /// One configuration: the sign of each kept edge, true for minus.
-pub struct Configuration {
+struct Configuration {
     minus: Vec<bool>,
     title: String,
 }
 
 impl Configuration {
-    pub fn new(signs: &Signs, kept: usize) -> Result<Configuration, Trouble> {
+    fn new(signs: &Signs, kept: usize) -> Result<Configuration, Trouble> {
         let (minus, title) = match signs {
             Signs::Plus => (vec![false; kept], "all signs plus".to_string()),
             Signs::Drawn(seed) => (drawn(*seed, kept), format!("signs drawn with seed {seed}")),
