@@ -18,7 +18,7 @@
  * window; 0 for none.
  *
  * Doubles are IEEE 754 binary64, in the default rounding. The library keeps no state, and calls of several threads do not meet. A call takes
- * less than 1 MB of stack, and no heap.
+ * less than 1 MB of stack, and no heap. Of the C library the archive needs memcpy and memset alone.
  */
 #ifndef COPPERHOOK_H
 #define COPPERHOOK_H
