@@ -198,62 +198,72 @@ fn short_edges(draw: &mut Draw, job: &mut Job) {
     }
 }
 
+/// A job's lists, lent: a, b, us and vs, the magnitudes and the factors.
+struct Lent<'a> {
+    job: &'a Job,
+    numbers: [Guarded<usize>; 4],
+    m: Guarded<f64>,
+    factors: Guarded<f64>,
+}
+
+impl Lent<'_> {
+    fn new(job: &Job) -> Lent<'_> {
+        let (e, p) = (&job.edges, &job.pairs);
+        let numbers = [&e.a, &e.b, &p.us, &p.vs].map(|list| Guarded::new(list));
+        Lent { job, numbers, m: Guarded::new(&e.m), factors: Guarded::new(&job.factors) }
+    }
+
+    fn room(&self, room: &mut usize) -> usize {
+        let [a, b, us, vs] = self.numbers.each_ref().map(|list| (list.pointer(), list.len()));
+        let (e, m) = (&self.job.edges, (self.m.pointer(), self.m.len()));
+        unsafe { sys::copperhook_room(e.n, e.floor, a.0, a.1, b.0, b.1, m.0, m.1, us.0, us.1, vs.0, vs.1, room) }
+    }
+
+    #[rustfmt::skip]
+    fn correlations(&self, results: &mut Guarded<f64>, work: &mut Guarded<f64>) -> usize {
+        let [a, b, us, vs] = self.numbers.each_ref().map(|list| (list.pointer(), list.len()));
+        let (e, m, f) = (&self.job.edges, (self.m.pointer(), self.m.len()), (self.factors.pointer(), self.factors.len()));
+        let (results, work) = ((results.pointer_mut(), results.len()), (work.pointer_mut(), work.len()));
+        unsafe {
+            sys::copperhook_correlations(
+                e.n, e.floor, a.0, a.1, b.0, b.1, m.0, m.1, us.0, us.1, vs.0, vs.1, f.0, f.1, usize::from(!self.job.each),
+                results.0, results.1, work.0, work.1,
+            )
+        }
+    }
+
+    fn unchanged(&self) -> Result<(), String> {
+        let (e, p) = (&self.job.edges, &self.job.pairs);
+        let named = [("a", &e.a), ("b", &e.b), ("us", &p.us), ("vs", &p.vs)];
+        self.numbers.iter().zip(named).try_for_each(|(list, (name, lent))| list.holds(name, lent))?;
+        self.m.holds("m", &e.m)?;
+        self.factors.holds("factors", &self.job.factors)
+    }
+}
+
 /// That `room` answers what document 01 says.
 fn compare_room(job: &Job) -> Result<(), String> {
-    let (e, p) = (&job.edges, &job.pairs);
     let mut answered = 99;
-    let lists = [Guarded::new(&e.a), Guarded::new(&e.b), Guarded::new(&p.us), Guarded::new(&p.vs)];
-    let [a, b, us, vs] = lists.each_ref().map(|list| (list.pointer(), list.len()));
-    let m = Guarded::new(&e.m);
-    let number =
-        unsafe { sys::copperhook_room(e.n, e.floor, a.0, a.1, b.0, b.1, m.pointer(), m.len(), us.0, us.1, vs.0, vs.1, &mut answered) };
-    let expected = job_refusal(e, p, &[]);
+    let lent = Lent::new(job);
+    let number = lent.room(&mut answered);
+    let expected = job_refusal(&job.edges, &job.pairs, &[]);
     equal("answer of the room", number, expected)?;
-    equal("room", answered, if expected == 0 { room(e, p) } else { 99 })?;
-    m.holds("m", &e.m)?;
-    lists.iter().zip([&e.a, &e.b, &p.us, &p.vs]).try_for_each(|(list, expected)| list.holds("a list of the room", expected))
+    equal("room", answered, if expected == 0 { room(&job.edges, &job.pairs) } else { 99 })?;
+    lent.unchanged()
 }
 
 /// The call, and what it answers and leaves.
 fn compare(job: &Job, before: f64) -> Result<usize, String> {
-    let (e, p) = (&job.edges, &job.pairs);
-    let work_length = work_length(job);
-    let outcome = outcome(job, work_length, before)?;
-    let lists = [Guarded::new(&e.a), Guarded::new(&e.b), Guarded::new(&p.us), Guarded::new(&p.vs)];
-    let [a, b, us, vs] = lists.each_ref().map(|list| (list.pointer(), list.len()));
-    let (m, factors) = (Guarded::new(&e.m), Guarded::new(&job.factors));
-    let mut held = vec![before; work_length];
+    let mut held = vec![before; work_length(job)];
+    let outcome = outcome(job, held.len(), before)?;
+    let lent = Lent::new(job);
     let (mut results, mut work) = (Guarded::new(&vec![before; job.results]), Guarded::new(&held));
-    let number = unsafe {
-        sys::copperhook_correlations(
-            e.n,
-            e.floor,
-            a.0,
-            a.1,
-            b.0,
-            b.1,
-            m.pointer(),
-            m.len(),
-            us.0,
-            us.1,
-            vs.0,
-            vs.1,
-            factors.pointer(),
-            factors.len(),
-            usize::from(!job.each),
-            results.pointer_mut(),
-            job.results,
-            work.pointer_mut(),
-            work_length,
-        )
-    };
+    let number = lent.correlations(&mut results, &mut work);
     equal("answer", number, outcome.number)?;
     results.holds("results", &outcome.results)?;
     held[..outcome.cleared].fill(0.0);
     work.holds("work", &held)?;
-    m.holds("m", &e.m)?;
-    factors.holds("factors", &job.factors)?;
-    lists.iter().zip([&e.a, &e.b, &p.us, &p.vs]).try_for_each(|(list, expected)| list.holds("a list", expected))?;
+    lent.unchanged()?;
     Ok(number)
 }
 
