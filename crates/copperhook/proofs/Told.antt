@@ -140,12 +140,12 @@ unreached (Reached.Refused k) = k
 
 pub length-told : (k : ℕ) (early late : List ℕ) (u v d : ℕ) {a : Reached} {joined : Bool} {length : ℕ} → a ≡ Reached.Length d → Distanced k early late u v a
     → Told k early late u v 0 joined true length d
-length-told zero early late u v d p q = record { answer = refl; told = rw p at q; kept = refl }
+length-told zero early late u v d p q = record { answer = refl; told = rw p at q; held = refl }
 length-told (suc k) early late u v d p q = let apart = ap unreached (sym p ∙ q) in absurd (omega arith)
 
 pub unjoined-told : (k : ℕ) (early late : List ℕ) (u v : ℕ) {a : Reached} {joined : Bool} {length : ℕ} → a ≡ Reached.NotJoined → Distanced k early late u v a
     → Told k early late u v 0 joined false length length
-unjoined-told zero early late u v p q = record { answer = refl; told = rw p at q; kept = refl }
+unjoined-told zero early late u v p q = record { answer = refl; told = rw p at q; held = refl }
 unjoined-told (suc k) early late u v p q = let apart = ap unreached (sym p ∙ q) in absurd (omega arith)
 
 pub distance-refused : (k : ℕ) (early late : List ℕ) (u v r : ℕ) {a : Reached} {joined : Bool} {length : ℕ} → a ≡ Reached.Refused r → Distanced k early late u v a
@@ -153,4 +153,4 @@ pub distance-refused : (k : ℕ) (early late : List ℕ) (u v r : ℕ) {a : Reac
 distance-refused zero early late u v r p q = absurd (rw p at q)
 distance-refused (suc k) early late u v r p q =
     let e : r ≡ suc k = ap unreached (sym p ∙ q) in
-    rw e (record { answer = refl; told = refl; kept = (refl, refl) })
+    rw e (record { answer = refl; told = refl; held = (refl, refl) })

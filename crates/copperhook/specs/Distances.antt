@@ -13,14 +13,14 @@ reached zero true k = Length k
 reached zero false k = NotJoined
 reached (suc j) joined k = Refused (suc j)
 
--- what the references keep: both of a refused call, and the length where there is no walk
-abbrev pub Keeps : Reached → Bool → Bool → ℕ → ℕ → Type 0
-Keeps (Length k) joined joined′ length length′ = length′ ≡ k
-Keeps NotJoined joined joined′ length length′ = length′ ≡ length
-Keeps (Refused k) joined joined′ length length′ = (joined′ ≡ joined) × (length′ ≡ length)
+-- what the references hold: the length; where there is no walk, the length as it was; after a refused call, both as they were
+abbrev pub Holds : Reached → Bool → Bool → ℕ → ℕ → Type 0
+Holds (Length k) joined joined′ length length′ = length′ ≡ k
+Holds NotJoined joined joined′ length length′ = length′ ≡ length
+Holds (Refused k) joined joined′ length length′ = (joined′ ≡ joined) × (length′ ≡ length)
 
 -- The answer r of a call, and what it leaves in the references.
 pub record Told (refused : ℕ) (early late : List ℕ) (u v r : ℕ) (joined joined′ : Bool) (length length′ : ℕ) : Type 0 where
   pub answer : r ≡ refused
   pub told : Distanced refused early late u v (reached r joined′ length′)
-  pub kept : Keeps (reached r joined′ length′) joined joined′ length length′
+  pub held : Holds (reached r joined′ length′) joined joined′ length length′
