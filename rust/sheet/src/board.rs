@@ -22,6 +22,11 @@ pub struct Board {
     vs: Vec<usize>,
 }
 
+/// So many of something.
+pub fn counted(count: usize, one: &str, many: &str) -> String {
+    format!("{count} {}", if count == 1 { one } else { many })
+}
+
 /// Options as they are written on a line.
 struct Names<'a>(&'a Options);
 
@@ -94,13 +99,8 @@ impl Board {
     pub fn title(&self) -> String {
         let (s, boundary) = (&self.strip, if self.strip.periodic { "cylinder" } else { "free" });
         let diluted = self.diluted.as_ref().map_or(String::new(), |by| format!(", diluted ({by})"));
-        let (n, kept, window) = (self.n, self.kept, self.window);
-        format!(
-            "{} strip, {boundary}, {} by {}{diluted}: {n} vertices, {kept} kept edges, window {window}",
-            s.kind.name(),
-            s.width,
-            s.length
-        )
+        let (n, kept, window) = (counted(self.n, "vertex", "vertices"), counted(self.kept, "kept edge", "kept edges"), self.window);
+        format!("{} strip, {boundary}, {} by {}{diluted}: {n}, {kept}, window {window}", s.kind.name(), s.width, s.length)
     }
 
     /// Entries that the sweeps of one call step over: forward, backward, and from the earlier vertex of each far pair to its last.

@@ -1,6 +1,6 @@
 //! Where the numbers of a sheet come from.
 
-use crate::board::Board;
+use crate::board::{counted, Board};
 use crate::options::{Options, Signs};
 use crate::trouble::Trouble;
 use copperhook::Rng;
@@ -41,7 +41,8 @@ impl Configuration {
             Signs::Given(minus) => (minus.clone(), spelled(minus)),
         };
         if minus.len() != kept {
-            let why = format!("it has {} signs, and the strip {kept} kept edges", minus.len());
+            let (signs, edges) = (counted(minus.len(), "sign", "signs"), counted(kept, "kept edge", "kept edges"));
+            let why = format!("it has {signs}, and the strip {edges}");
             return Err(Trouble::option("--signs", why));
         }
         Ok(Configuration { minus, title })
@@ -109,6 +110,6 @@ mod tests {
     #[test]
     fn signs_that_do_not_fit_are_told() {
         let why = Configuration::new(&Signs::Given(vec![true]), 4).err().unwrap();
-        assert_eq!(why.to_string(), "--signs: it has 1 signs, and the strip 4 kept edges");
+        assert_eq!(why.to_string(), "--signs: it has 1 sign, and the strip 4 kept edges");
     }
 }
