@@ -5,7 +5,7 @@ ghost use Rattle.copperhook.specs.Manners.{mannerNumbered};
 use glass::Manner;
 
 // 0 is per element and any other number block, so that no number is a bad manner.
-fn manner_numbered(number: usize) -> Manner
+pub(crate) fn manner_numbered(number: usize) -> Manner
     ensures { λ r. ⌜ r ≡ mannerNumbered number ⌝ }
 {
     if number == 0 {

@@ -1,5 +1,17 @@
 // The shipped library: its entries by the C calling convention. A slice is a pointer and the number of its elements; an answer is the
 // refusal's number, 0 for accepted, and a value goes out through a reference.
 mod correlations;
+mod counts;
+mod coupling;
+mod distances;
+mod edges;
+mod estimates;
+mod generator;
+mod graph;
+mod kinds;
+mod pairs;
 mod room;
 mod sqrt;
+mod strips;
+mod total;
+mod trees;

@@ -21,16 +21,16 @@ use std::ops::RangeInclusive;
 
 const KINDS: [Kind; 3] = [Kind::Square, Kind::Tri, Kind::Honey];
 
-/// How often a sweep is rescaled, as the original's FDK_SLOW and as our number.
+/// How often a sweep is rescaled, as the original's FDK_SLOW and as our manner.
 #[derive(Clone, Copy)]
 struct Manner {
     name: &'static str,
     slow: &'static str,
-    number: usize,
+    ours: copperhook::Manner,
 }
 
-const BLOCK: Manner = Manner { name: "block", slow: "0", number: 1 };
-const EACH: Manner = Manner { name: "each", slow: "1", number: 0 };
+const BLOCK: Manner = Manner { name: "block", slow: "0", ours: copperhook::Manner::Block };
+const EACH: Manner = Manner { name: "each", slow: "1", ours: copperhook::Manner::PerElement };
 const MANNERS: [Manner; 2] = [BLOCK, EACH];
 
 /// About how many entries a sweep steps over: a call then takes up to some hundred milliseconds.
@@ -91,10 +91,7 @@ impl Job {
     }
 
     fn room(&self) -> usize {
-        let mut room = 0;
-        let refused = self.lists.room(&mut room);
-        assert_eq!(refused, 0, "the room of this strip is refused");
-        room
+        self.lists.room().expect("the room of this strip is refused")
     }
 }
 
@@ -113,8 +110,7 @@ fn measure(job: &Job, manner: Manner, rounds: &Rounds) -> Times {
     let mut work = vec![0.0; job.room()];
 
     correlations(&plan, &job.couplings, &mut memory, &mut theirs);
-    let refused = job.lists.correlations(&job.factors, manner.number, &mut results, &mut work);
-    assert_eq!(refused, 0, "this strip is refused");
+    job.lists.correlations(&job.factors, manner.ours, &mut results, &mut work).expect("this strip is refused");
     for (i, (x, y)) in theirs.iter().zip(&results).enumerate() {
         assert_eq!(x.to_bits(), y.to_bits(), "pair {i} differs: the original has {x}, ours is {y}");
     }
@@ -124,7 +120,7 @@ fn measure(job: &Job, manner: Manner, rounds: &Rounds) -> Times {
         &mut [
             &mut || correlations(black_box(&plan), black_box(&job.couplings), &mut memory, &mut theirs),
             &mut || {
-                black_box(job.lists.correlations(black_box(&job.factors), manner.number, &mut results, &mut work));
+                let _ = black_box(job.lists.correlations(black_box(&job.factors), manner.ours, &mut results, &mut work));
             },
         ],
     );
@@ -260,8 +256,8 @@ fn before_the_sweeps(job: &Job) -> Vec<f64> {
                 black_box(job.room());
             },
             &mut || {
-                let refused = job.lists.correlations(black_box(&job.factors), BLOCK.number, &mut results, &mut []);
-                assert_eq!(refused, 13);
+                let refused = job.lists.correlations(black_box(&job.factors), BLOCK.ours, &mut results, &mut []);
+                assert_eq!(refused, Err(copperhook::Refusal::WorkMemory));
             },
         ],
     )
@@ -281,7 +277,7 @@ fn from_the_edges(job: &Job) -> Vec<f64> {
                 correlations(&plan, black_box(&job.couplings), &mut plan.work(), &mut theirs);
             },
             &mut || {
-                black_box(job.lists.correlations(black_box(&job.factors), BLOCK.number, &mut results, &mut work));
+                let _ = black_box(job.lists.correlations(black_box(&job.factors), BLOCK.ours, &mut results, &mut work));
             },
         ],
     )
@@ -291,7 +287,7 @@ fn main() {
     let words: Vec<String> = std::env::args().skip(1).collect();
     let words: Vec<&str> = words.iter().map(String::as_str).collect();
     let rounds = Rounds { least: 5, round: 0.003, total: 0.8 };
-    println!("Copperhook from {}", env!("ARCHIVE"));
+    println!("Copperhook from {}", copperhook::ARCHIVE);
     println!();
     match words[..] {
         [] => {

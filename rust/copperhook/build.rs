@@ -1,4 +1,4 @@
-//! Where the archive is: in the folder that COPPERHOOK_LIB names, else where `rt staticlib copperhook` puts it. Without it nothing is built.
+//! Links the archive: in the folder that COPPERHOOK_LIB names, else where `rt staticlib copperhook` puts it.
 use std::env;
 use std::path::PathBuf;
 
@@ -10,10 +10,12 @@ fn main() {
     println!("cargo:rerun-if-env-changed=COPPERHOOK_LIB");
     println!("cargo:rerun-if-changed={}", archive.display());
     if !archive.is_file() {
-        eprintln!("there is no {}: run `rt staticlib copperhook` first", archive.display());
+        eprintln!("error: {} is not there. In the repository's folder,", archive.display());
+        eprintln!("    rt staticlib copperhook");
+        eprintln!("proves the library and makes it; or set COPPERHOOK_LIB to the folder of another libcopperhook.a.");
         std::process::exit(1);
     }
-    println!("cargo:rustc-env=ARCHIVE={}", archive.display());
+    println!("cargo:rustc-env=COPPERHOOK_ARCHIVE={}", archive.display());
     println!("cargo:rustc-link-search=native={}", folder.display());
     println!("cargo:rustc-link-lib=static=copperhook");
 }

@@ -16,7 +16,7 @@ struct Sheet {
 impl Sheet {
     fn compare(&mut self, bits: u64) {
         let x = f64::from_bits(bits);
-        let (theirs, ours) = (x.sqrt(), archive::sqrt(x));
+        let (theirs, ours) = (x.sqrt(), copperhook::sqrt(x));
         let same = if theirs.is_nan() { ours.is_nan() } else { theirs.to_bits() == ours.to_bits() };
         self.patterns += 1;
         if !same {
@@ -94,7 +94,7 @@ fn main() {
     println!("square roots: {} patterns in {:.1} s, {} wrong", sheet.patterns, start.elapsed().as_secs_f64(), sheet.wrong.len());
     for bits in sheet.wrong.iter().take(10) {
         let x = f64::from_bits(*bits);
-        println!("{bits:#018x} = {x:e}: the machine's root is {:#018x}, ours {:#018x}", x.sqrt().to_bits(), archive::sqrt(x).to_bits());
+        println!("{bits:#018x} = {x:e}: the machine's root is {:#018x}, ours {:#018x}", x.sqrt().to_bits(), copperhook::sqrt(x).to_bits());
     }
     assert!(sheet.wrong.is_empty(), "the proved square root differs from the machine's, with seed {seed}");
     assert!(sheet.patterns >= 4_000_000);

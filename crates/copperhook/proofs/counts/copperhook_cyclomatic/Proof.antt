@@ -1,0 +1,25 @@
+-- What the answer holds, taken apart.
+use Rattle.copperhook.proofs.Told.{number-told, refused-told}
+use borrow.Author.Needs.{needs}
+use Rattle.copperhook.proofs.counts.copperhook_cyclomatic.Statement.{statement}
+use Rattle.copperhook.proofs.counts.copperhook_cyclomatic.Tie as tie
+
+cyclomatic-requires : tie.Need-cyclomatic-requires
+cyclomatic-requires c κs = search needs
+
+enum-known-answer : tie.Need-enum-known-answer
+enum-known-answer c = search needs
+
+enum-known-answer-2 : tie.Need-enum-known-answer-2
+enum-known-answer-2 c = search needs
+
+returns : tie.Need-returns
+returns c = number-told _ _ _ (c .before .answer .given .1) (c .before .before .before .cyclomatic .ensures)
+
+returns-2 : tie.Need-returns-2
+returns-2 c = refused-told _ _ _ (c .before .answer2 .given .1) (c .before .before .before .cyclomatic .ensures) _ _
+
+pub copperhook-cyclomatic-spec : {M : Type 1} → statement M
+copperhook-cyclomatic-spec =
+    tie.close
+    (tie.spec cyclomatic-requires enum-known-answer enum-known-answer-2 returns returns-2)

@@ -1,0 +1,20 @@
+-- What a vertex's answer is as a number, and what it leaves in references that held `old`.
+use mathlib.Core.Bool.{Bool, true, false}
+use Prim.Native.Nat.{ℕ}
+use Rattle.strip.specs.declared.vertices.Sited.{Sited}
+use Rattle.strip.specs.declared.vertices.Sited.the-variants.{Vertex, Outside, Refused}
+
+abbrev pub numberOf : Sited → ℕ
+numberOf (Vertex v) = 0
+numberOf Outside = 0
+numberOf (Refused k) = k
+
+abbrev pub insideOf : Sited → Bool → Bool
+insideOf (Vertex v) old = true
+insideOf Outside old = false
+insideOf (Refused k) old = old
+
+abbrev pub vertexOf : Sited → ℕ → ℕ
+vertexOf (Vertex v) old = v
+vertexOf Outside old = old
+vertexOf (Refused k) old = old

@@ -1,0 +1,81 @@
+// What one number says of a graph: its window, its components and its free edges.
+ghost use mathlib.Core.Path.{_≡_};
+ghost use mathlib.Core.Bool.{false};
+ghost use Rattle.forest.specs.Components.{componentCount};
+ghost use Rattle.checks.specs.Edges.{kept, earlyEnds, lateEnds, windowFrom};
+ghost use Rattle.checks.specs.Request.{graphRequest};
+ghost use Rattle.checks.specs.Refusal.{refusal, ofGraph};
+ghost use Rattle.checks.specs.Answers.{left};
+ghost use Rattle.lattice.specs.Graphs.{freeCount};
+use checks::Answer;
+
+// As `lattice::window`, the window in `window`; where the call is refused, that keeps what it held.
+#[no_mangle]
+pub extern "C" fn copperhook_window(
+    n: usize,
+    floor: usize,
+    a: &[usize],
+    b: &[usize],
+    m: &[f64],
+    window: &mut usize,
+) -> usize
+    ensures { λ r. ⌜ r ≡ refusal ofGraph (graphRequest n (now (a .entry)) (now (b .entry)) (now (m .entry)) false) ⌝ }
+    ensures { λ r. ⌜ now (window .exit) ≡ left r (windowFrom floor (now (a .entry)) (now (b .entry)) (now (m .entry))) (now (window .entry)) ⌝ }
+{
+    let answer = lattice::window(n, a, b, m, floor);
+    match answer {
+        Answer::Number(width) => {
+            *window = width;
+            0
+        }
+        Answer::Refused(number) => number,
+    }
+}
+
+// As `lattice::n_components`, how many there are in `count`.
+#[no_mangle]
+pub extern "C" fn copperhook_n_components(
+    n: usize,
+    a: &[usize],
+    b: &[usize],
+    m: &[f64],
+    count: &mut usize,
+) -> usize
+    ensures { λ r. ⌜ r ≡ refusal ofGraph (graphRequest n (now (a .entry)) (now (b .entry)) (now (m .entry)) false) ⌝ }
+    ensures { λ r. ⌜ now (count .exit) ≡ left r
+        (componentCount n (earlyEnds (kept (now (a .entry)) (now (b .entry)) (now (m .entry))))
+        (lateEnds (kept (now (a .entry)) (now (b .entry)) (now (m .entry))))) (now (count .entry)) ⌝ }
+{
+    let answer = lattice::n_components(n, a, b, m);
+    match answer {
+        Answer::Number(components) => {
+            *count = components;
+            0
+        }
+        Answer::Refused(number) => number,
+    }
+}
+
+// As `lattice::cyclomatic`, how many edges are free in `free`.
+#[no_mangle]
+pub extern "C" fn copperhook_cyclomatic(
+    n: usize,
+    a: &[usize],
+    b: &[usize],
+    m: &[f64],
+    free: &mut usize,
+) -> usize
+    ensures { λ r. ⌜ r ≡ refusal ofGraph (graphRequest n (now (a .entry)) (now (b .entry)) (now (m .entry)) false) ⌝ }
+    ensures { λ r. ⌜ now (free .exit) ≡ left r
+        (freeCount (earlyEnds (kept (now (a .entry)) (now (b .entry)) (now (m .entry))))
+        (lateEnds (kept (now (a .entry)) (now (b .entry)) (now (m .entry))))) (now (free .entry)) ⌝ }
+{
+    let answer = lattice::cyclomatic(n, a, b, m);
+    match answer {
+        Answer::Number(edges) => {
+            *free = edges;
+            0
+        }
+        Answer::Refused(number) => number,
+    }
+}

@@ -1,0 +1,39 @@
+// The distance of two vertices, and whether there is one.
+ghost use mathlib.Core.Path.{_≡_};
+ghost use Rattle.checks.specs.Edges.{kept, earlyEnds, lateEnds};
+ghost use Rattle.checks.specs.Request.{distanceRequest};
+ghost use Rattle.checks.specs.Refusal.{refusal, ofDistance};
+ghost use Rattle.copperhook.specs.Distances.{Told};
+use lattice::Reached;
+
+// As `lattice::distance`: `joined` tells whether a walk leads from u to v, and `length` the least number of its edges. Where the call is
+// refused both keep what they held, and where no walk leads there `length` does.
+#[no_mangle]
+pub extern "C" fn copperhook_distance(
+    n: usize,
+    a: &[usize],
+    b: &[usize],
+    m: &[f64],
+    u: usize,
+    v: usize,
+    joined: &mut bool,
+    length: &mut usize,
+) -> usize
+    ensures { λ r. ⌜ Told (refusal ofDistance (distanceRequest n (now (a .entry)) (now (b .entry)) (now (m .entry)) u v))
+        (earlyEnds (kept (now (a .entry)) (now (b .entry)) (now (m .entry)))) (lateEnds (kept (now (a .entry)) (now (b .entry)) (now (m .entry))))
+        u v r (now (joined .entry)) (now (joined .exit)) (now (length .entry)) (now (length .exit)) ⌝ }
+{
+    let answer = lattice::distance(n, a, b, m, u, v);
+    match answer {
+        Reached::Length(edges) => {
+            *joined = true;
+            *length = edges;
+            0
+        }
+        Reached::NotJoined => {
+            *joined = false;
+            0
+        }
+        Reached::Refused(number) => number,
+    }
+}

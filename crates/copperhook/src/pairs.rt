@@ -1,0 +1,33 @@
+// The standard pair set of a strip, and how many pairs it has through a reference.
+ghost use mathlib.Core.Path.{_≡_};
+ghost use Rattle.pairset.specs.PairSet.{pairSet, pairsRefusal};
+ghost use Rattle.copperhook.specs.Strips.{stripNumbered};
+ghost use Rattle.copperhook.specs.PairSets.{Paired};
+use crate::strips::strip_numbered;
+use checks::Answer;
+
+// As `pairset::pairs`, how many there are in `pairs`; where the call is refused, that keeps what it held.
+#[no_mangle]
+pub extern "C" fn copperhook_pairs(
+    kind: usize,
+    w: usize,
+    l: usize,
+    periodic: bool,
+    us: &mut [usize],
+    vs: &mut [usize],
+    labels: &mut [u8],
+    pairs: &mut usize,
+) -> usize
+    ensures { λ r. ⌜ Paired (pairsRefusal (stripNumbered kind w l periodic) (now (us .entry)) (now (vs .entry)) (now (labels .entry)))
+        (pairSet (stripNumbered kind w l periodic)) r (now (us .entry)) (now (us .exit)) (now (vs .entry)) (now (vs .exit))
+        (now (labels .entry)) (now (labels .exit)) (now (pairs .entry)) (now (pairs .exit)) ⌝ }
+{
+    let answer = pairset::pairs(strip_numbered(kind, w, l, periodic), us, vs, labels);
+    match answer {
+        Answer::Number(count) => {
+            *pairs = count;
+            0
+        }
+        Answer::Refused(number) => number,
+    }
+}

@@ -1,0 +1,154 @@
+// Totals over configurations, and every configuration's correlations, with the count through a reference.
+ghost use mathlib.Core.Path.{_≡_};
+ghost use Rattle.checks.specs.Answers.{answered, left};
+ghost use Rattle.totals.specs.Calls.{Enumerated, EnumeratedEach, Sampled};
+ghost use Rattle.copperhook.specs.Manners.{mannerNumbered};
+use crate::correlations::manner_numbered;
+use checks::Answer;
+
+// As `totals::exhaustive`, how many configurations there are in `count`; where the call is refused, that keeps what it held.
+#[no_mangle]
+pub extern "C" fn copperhook_exhaustive(
+    n: usize,
+    floor: usize,
+    a: &[usize],
+    b: &[usize],
+    m: &[f64],
+    us: &[usize],
+    vs: &[usize],
+    betas: &[f64],
+    factors: &[f64],
+    manner: usize,
+    squares: &mut [f64],
+    fourths: &mut [f64],
+    work: &mut [f64],
+    count: &mut usize,
+) -> usize
+    ensures { λ r. ⌜ Enumerated n floor (now (a .entry)) (now (b .entry)) (now (m .entry)) (now (us .entry)) (now (vs .entry))
+        (now (betas .entry)) (now (factors .entry)) (mannerNumbered manner)
+        (answered r (now (count .exit))) (now (squares .entry)) (now (squares .exit)) (now (fourths .entry)) (now (fourths .exit)) (now (work .entry)) (now (work .exit)) ⌝ }
+    ensures { λ r. ⌜ now (count .exit) ≡ left r (now (count .exit)) (now (count .entry)) ⌝ }
+{
+    let answer = totals::exhaustive(
+        n,
+        floor,
+        a,
+        b,
+        m,
+        us,
+        vs,
+        betas,
+        factors,
+        manner_numbered(manner),
+        squares,
+        fourths,
+        work,
+    );
+    match answer {
+        Answer::Number(configurations) => {
+            *count = configurations;
+            0
+        }
+        Answer::Refused(number) => number,
+    }
+}
+
+// As `totals::exhaustive_c`, likewise.
+#[no_mangle]
+pub extern "C" fn copperhook_exhaustive_c(
+    n: usize,
+    floor: usize,
+    a: &[usize],
+    b: &[usize],
+    m: &[f64],
+    us: &[usize],
+    vs: &[usize],
+    betas: &[f64],
+    factors: &[f64],
+    manner: usize,
+    stored: &mut [f64],
+    work: &mut [f64],
+    count: &mut usize,
+) -> usize
+    ensures { λ r. ⌜ EnumeratedEach n floor (now (a .entry)) (now (b .entry)) (now (m .entry)) (now (us .entry)) (now (vs .entry))
+        (now (betas .entry)) (now (factors .entry)) (mannerNumbered manner)
+        (answered r (now (count .exit))) (now (stored .entry)) (now (stored .exit)) (now (work .entry)) (now (work .exit)) ⌝ }
+    ensures { λ r. ⌜ now (count .exit) ≡ left r (now (count .exit)) (now (count .entry)) ⌝ }
+{
+    let answer = totals::exhaustive_c(
+        n,
+        floor,
+        a,
+        b,
+        m,
+        us,
+        vs,
+        betas,
+        factors,
+        manner_numbered(manner),
+        stored,
+        work,
+    );
+    match answer {
+        Answer::Number(configurations) => {
+            *count = configurations;
+            0
+        }
+        Answer::Refused(number) => number,
+    }
+}
+
+// As `totals::sample`, likewise.
+#[no_mangle]
+pub extern "C" fn copperhook_sample(
+    n: usize,
+    floor: usize,
+    a: &[usize],
+    b: &[usize],
+    m: &[f64],
+    us: &[usize],
+    vs: &[usize],
+    betas: &[f64],
+    factors: &[f64],
+    manner: usize,
+    seed: u64,
+    from: u64,
+    to: u64,
+    samples: usize,
+    squares: &mut [f64],
+    fourths: &mut [f64],
+    work: &mut [f64],
+    count: &mut usize,
+) -> usize
+    ensures { λ r. ⌜ Sampled n floor (now (a .entry)) (now (b .entry)) (now (m .entry)) (now (us .entry)) (now (vs .entry))
+        (now (betas .entry)) (now (factors .entry)) (mannerNumbered manner) seed from to samples
+        (answered r (now (count .exit))) (now (squares .entry)) (now (squares .exit)) (now (fourths .entry)) (now (fourths .exit)) (now (work .entry)) (now (work .exit)) ⌝ }
+    ensures { λ r. ⌜ now (count .exit) ≡ left r (now (count .exit)) (now (count .entry)) ⌝ }
+{
+    let answer = totals::sample(
+        n,
+        floor,
+        a,
+        b,
+        m,
+        us,
+        vs,
+        betas,
+        factors,
+        manner_numbered(manner),
+        seed,
+        from,
+        to,
+        samples,
+        squares,
+        fourths,
+        work,
+    );
+    match answer {
+        Answer::Number(configurations) => {
+            *count = configurations;
+            0
+        }
+        Answer::Refused(number) => number,
+    }
+}

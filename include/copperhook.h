@@ -1,0 +1,235 @@
+/*
+ * Copperhook: exact pair correlations of disordered Ising strips. The C interface of libcopperhook.a, for x86-64 Linux.
+ *
+ *     rt staticlib copperhook                         makes target/staticlib/libcopperhook.a
+ *     cc -std=c11 -Iinclude sheet.c target/staticlib/libcopperhook.a
+ *
+ * Lists. A list is a pointer and, right behind it, the number of its elements (not of bytes). A list that is read is `const`; one that is
+ * written is not. The pointer is aligned and not NULL, of an empty list too. A list that is written overlaps no other argument of the call,
+ * and nobody else touches a lent list before the call returns. That is all that a caller owes: whatever the lists hold and however long
+ * they are, the call ends, and touches nothing but what it is lent.
+ *
+ * Answers. A function that can refuse a job returns the refusal's number, 0 for accepted; of several that fit, the first is returned. What
+ * an accepted call answers goes out through pointers. A refused call leaves every list and every value as it was, but for refusal 14,
+ * COPPERHOOK_PARTITION_SUM, which sets the results and the work memory's room to +0.0.
+ *
+ * A graph is its number of vertices `n` and three lists of one length: edge i joins vertices a[i] and b[i], in either order, with
+ * magnitude m[i]. An edge of magnitude +0.0 or -0.0 is dropped; the others are kept, in their order. `floor` is a lower bound for the
+ * window; 0 for none.
+ *
+ * Doubles are IEEE 754 binary64, in the default rounding. The library keeps no state, and calls of several threads do not meet. A call takes
+ * less than 1 MB of stack, and no heap. Of the C library the archive needs memcpy and memset alone.
+ */
+#ifndef COPPERHOOK_H
+#define COPPERHOOK_H
+
+#include <stdbool.h>
+#include <stddef.h>
+#include <stdint.h>
+
+#ifdef __cplusplus
+extern "C" {
+#endif
+
+/* Why a call is refused, in checking order. */
+enum copperhook_refusal {
+    COPPERHOOK_ACCEPTED = 0,
+    COPPERHOOK_VERTEX_COUNT = 1,    /* the vertex count is 0 or above 1,024 */
+    COPPERHOOK_LIST_LENGTHS = 2,    /* lists of one kind differ in length, or over 4,096 edges, 256 pairs or 64 betas */
+    COPPERHOOK_EDGE_ENDS = 3,       /* an edge has equal ends or an end outside the graph */
+    COPPERHOOK_MAGNITUDE = 4,       /* a magnitude or beta is not finite, or its size is above 1,024 */
+    COPPERHOOK_PARALLEL_EDGES = 5,  /* two kept edges join the same vertices */
+    COPPERHOOK_WINDOW = 6,          /* the window is above 24 */
+    COPPERHOOK_BACK_EDGES = 7,      /* a vertex has over four back edges shorter than the window */
+    COPPERHOOK_PAIR_ENDS = 8,       /* a pair has equal ends or an end outside the graph */
+    COPPERHOOK_FREE_EDGES = 9,      /* over 34 free edges for enumerated totals, or over 24 for stored correlations */
+    COPPERHOOK_FACTORS = 10,        /* the factor list has another length, or an entry is not finite and above zero */
+    COPPERHOOK_SAMPLES = 11,        /* chunks times samples per chunk exceed 2^32 */
+    COPPERHOOK_BUFFER = 12,         /* a result list is not of its exact length (edges, labels and pair sets: too short) */
+    COPPERHOOK_WORK_MEMORY = 13,    /* the work memory is shorter than the room */
+    COPPERHOOK_PARTITION_SUM = 14,  /* some pair's partition sum Z is not finite and above zero */
+    COPPERHOOK_STRIP_SIDES = 15,    /* a strip side is 0, or the sides multiply above 1,024 */
+    COPPERHOOK_ODD_CYLINDER = 16,   /* a honeycomb cylinder has odd width */
+    COPPERHOOK_DILUTION = 17,       /* keep is not finite, or a magnitude bound is not finite or its size is above 1,024 */
+    COPPERHOOK_SUMS = 18            /* the count is 0 or above 2^53, or 0 <= fourth powers <= squares <= count fails */
+};
+
+/* The most of each that a job may have, and how much a standard pair set takes at most. */
+enum copperhook_limit {
+    COPPERHOOK_MOST_VERTICES = 1024,
+    COPPERHOOK_MOST_EDGES = 4096,
+    COPPERHOOK_MOST_PAIRS = 256,
+    COPPERHOOK_MOST_BETAS = 64,
+    COPPERHOOK_MOST_WINDOW = 24,
+    COPPERHOOK_STANDARD_PAIRS = 18,
+    COPPERHOOK_LABEL_BYTES = 306
+};
+
+/* How often a sweep is rescaled: by every step's largest entry, or by every fourth's. Any number but 0 is block. */
+enum copperhook_manner { COPPERHOOK_PER_ELEMENT = 0, COPPERHOOK_BLOCK = 1 };
+
+/* The lattice of a strip. Any number but 0 and 1 is honeycomb. */
+enum copperhook_kind { COPPERHOOK_SQUARE = 0, COPPERHOOK_TRIANGULAR = 1, COPPERHOOK_HONEYCOMB = 2 };
+
+/* ---- Correlations of one configuration. */
+
+/*
+ * The number of doubles of work memory that copperhook_correlations needs, in *room.
+ * Pair i is us[i] and vs[i], in either order; pairs may repeat.
+ * Refusals: 1 to 8.
+ */
+size_t copperhook_room(size_t n, size_t floor, const size_t *a, size_t a_len, const size_t *b, size_t b_len, const double *m,
+                       size_t m_len, const size_t *us, size_t us_len, const size_t *vs, size_t vs_len, size_t *room);
+
+/*
+ * The pair correlations <s_u s_v>, one for each pair, in `results`.
+ * `factors` has one double for each kept edge, in their order: exp(beta times magnitude times sign). `results` is as long as the pairs;
+ * `work` at least as long as the room, of which an accepted call leaves every double +0.0, and what lies behind it untouched.
+ * Refusals: 1 to 8, 10, 12, 13, 14.
+ */
+size_t copperhook_correlations(size_t n, size_t floor, const size_t *a, size_t a_len, const size_t *b, size_t b_len, const double *m,
+                               size_t m_len, const size_t *us, size_t us_len, const size_t *vs, size_t vs_len, const double *factors,
+                               size_t factors_len, size_t manner, double *results, size_t results_len, double *work,
+                               size_t work_len);
+
+/*
+ * The couplings that the caller makes factors of: beta times magnitude, rounded once. That of beta i and kept edge e, of k kept ones, is
+ * at i * k + e of `results`, which has exactly betas_len * k doubles.
+ * Refusals: 1 to 5 (4 of the betas too), 12.
+ */
+size_t copperhook_couplings(size_t n, const size_t *a, size_t a_len, const size_t *b, size_t b_len, const double *m, size_t m_len,
+                            const double *betas, size_t betas_len, double *results, size_t results_len);
+
+/*
+ * What a count of configurations and the sums of their squared correlations and of the fourth powers estimate. From count 2 on *enough is
+ * true, *mean the mean square and *error its standard error. At count 1 *enough is false, *mean the mean, and *error as it was.
+ * Refusal: 18.
+ */
+size_t copperhook_estimate(size_t count, double squares, double fourths, bool *enough, double *mean, double *error);
+
+/* The square root of IEEE 754, rounded to the nearest, of any double. No call is refused. */
+double copperhook_sqrt(double x);
+
+/* ---- Graphs. */
+
+/*
+ * The kept edges, the smaller end first, at the fronts of `early`, `late` and `mag`; what lies behind them stays. *window is the largest
+ * of 1, `floor` and the longest kept edge, and *edges the number of kept edges.
+ * Refusals: 1 to 5, 12 (too short).
+ */
+size_t copperhook_graph(size_t n, size_t floor, const size_t *a, size_t a_len, const size_t *b, size_t b_len, const double *m,
+                        size_t m_len, size_t *early, size_t early_len, size_t *late, size_t late_len, double *mag, size_t mag_len,
+                        size_t *window, size_t *edges);
+
+/*
+ * The same of the graph turned by 180 degrees, vertex v being n - 1 - v; the edges keep their order.
+ * Refusals: 1 to 5, 12 (too short).
+ */
+size_t copperhook_rotated(size_t n, size_t floor, const size_t *a, size_t a_len, const size_t *b, size_t b_len, const double *m,
+                          size_t m_len, size_t *early, size_t early_len, size_t *late, size_t late_len, double *mag, size_t mag_len,
+                          size_t *window, size_t *edges);
+
+/* The window alone, in *window; one above 24 is answered too. Refusals: 1 to 5. */
+size_t copperhook_window(size_t n, size_t floor, const size_t *a, size_t a_len, const size_t *b, size_t b_len, const double *m,
+                         size_t m_len, size_t *window);
+
+/* How many components the graph has, in *count. Refusals: 1 to 5. */
+size_t copperhook_n_components(size_t n, const size_t *a, size_t a_len, const size_t *b, size_t b_len, const double *m, size_t m_len,
+                               size_t *count);
+
+/* How many edges are free, kept edges and components less the vertices, in *free_edges. Refusals: 1 to 5. */
+size_t copperhook_cyclomatic(size_t n, const size_t *a, size_t a_len, const size_t *b, size_t b_len, const double *m, size_t m_len,
+                             size_t *free_edges);
+
+/*
+ * For each kept edge, in `tree`, whether it is a tree edge: no path of earlier kept edges joins its ends. `tree` is as long as there are
+ * kept edges.
+ * Refusals: 1 to 5, 12.
+ */
+size_t copperhook_spanning_forest(size_t n, const size_t *a, size_t a_len, const size_t *b, size_t b_len, const double *m,
+                                  size_t m_len, bool *tree, size_t tree_len);
+
+/*
+ * For each vertex, in `names`, the vertex that names its component. `names` has n elements.
+ * Refusals: 1 to 5, 12.
+ */
+size_t copperhook_components(size_t n, const size_t *a, size_t a_len, const size_t *b, size_t b_len, const double *m, size_t m_len,
+                             size_t *names, size_t names_len);
+
+/*
+ * Whether a walk of kept edges leads from u to v, in *joined, and the least number of its edges, in *length, which stays as it was where
+ * there is none. Equal ends are allowed.
+ * Refusals: 1 to 5, 8 (an end outside the graph).
+ */
+size_t copperhook_distance(size_t n, const size_t *a, size_t a_len, const size_t *b, size_t b_len, const double *m, size_t m_len,
+                           size_t u, size_t v, bool *joined, size_t *length);
+
+/* ---- Strips: w vertices across and l along, free or periodic across. Vertex (x, y), x along and y across, is x * w + y. */
+
+/* The number of vertices, in *n. Refusal: 15. */
+size_t copperhook_strip_n(size_t kind, size_t w, size_t l, bool periodic, size_t *n);
+
+/*
+ * Whether the strip has the site (x, y), in *inside, and its vertex, in *vertex, which stays as it was where there is none.
+ * Refusal: 15.
+ */
+size_t copperhook_strip_vid(size_t kind, size_t w, size_t l, bool periodic, size_t x, size_t y, bool *inside, size_t *vertex);
+
+/* The window of the whole strip, which is the floor of a diluted one's, in *window. Refusals: 15, 16. */
+size_t copperhook_strip_window(size_t kind, size_t w, size_t l, bool periodic, size_t *window);
+
+/*
+ * The edges, of magnitude 1.0, at the fronts of the three lists, and how many there are, in *edges; what lies behind them stays.
+ * Refusals: 15, 16, 12 (too short).
+ */
+size_t copperhook_raw_edges(size_t kind, size_t w, size_t l, bool periodic, size_t *early, size_t early_len, size_t *late,
+                            size_t late_len, double *mag, size_t mag_len, size_t *edges);
+
+/*
+ * The same with drawn magnitudes: each edge is kept with probability `keep`, its magnitude drawn uniformly from `low` to `high`; a dropped
+ * edge is listed too, with magnitude +0.0.
+ * Refusals: 15, 16, 17, 12 (too short).
+ */
+size_t copperhook_diluted(size_t kind, size_t w, size_t l, bool periodic, double keep, double low, double high, uint64_t seed,
+                          size_t *early, size_t early_len, size_t *late, size_t late_len, double *mag, size_t mag_len,
+                          size_t *edges);
+
+/*
+ * The standard pairs at the fronts of `us` and `vs`, their labels in `labels`, one after another, each closed by a zero byte, and how many
+ * pairs there are, in *pairs. COPPERHOOK_STANDARD_PAIRS and COPPERHOOK_LABEL_BYTES are always enough.
+ * Refusals: 15, 12 (too short).
+ */
+size_t copperhook_pairs(size_t kind, size_t w, size_t l, bool periodic, size_t *us, size_t us_len, size_t *vs, size_t vs_len,
+                        uint8_t *labels, size_t labels_len, size_t *pairs);
+
+/*
+ * Whether a name, of name_len bytes and no zero behind them, means a kind: square or sq, tri or triangular, honey, honeycomb or hex.
+ * *kind is then its number, and else as it was.
+ */
+bool copperhook_kind_parse(const uint8_t *name, size_t name_len, size_t *kind);
+
+/* The length of a kind's name, and the name in the first bytes of name[0] to name[5], the others 0. */
+size_t copperhook_kind_name(size_t kind, uint8_t *name);
+
+/* The same of a boundary, "cyl" where it is periodic, else "free". */
+size_t copperhook_boundary_name(bool periodic, uint8_t *name);
+
+/* ---- The generator: xoshiro256++ seeded by splitmix64. Its state is state[0] to state[3]. */
+
+/* The state of a seed. */
+void copperhook_rng_new(uint64_t seed, uint64_t *state);
+
+/* The state of an independent stream of a seed. */
+void copperhook_rng_stream(uint64_t seed, uint64_t index, uint64_t *state);
+
+/* The next word. */
+uint64_t copperhook_rng_next_u64(uint64_t *state);
+
+/* The top 53 bits of the next word times 2^-53: from 0 up to, and without, 1. */
+double copperhook_rng_uniform(uint64_t *state);
+
+#ifdef __cplusplus
+}
+#endif
+
+#endif

@@ -1,0 +1,61 @@
+//! Couplings: beta times magnitude, rounded once.
+
+use crate::draw::Draw;
+use crate::guarded::{equal, Guarded};
+use crate::law::{first, unless, Pairs};
+use crate::shapes::{any_graph, spoil_graph};
+use copperhook::sys;
+
+/// Betas of any size, up to 64; now and then too many, or a bad one.
+fn betas(draw: &mut Draw) -> Vec<f64> {
+    let count = draw.of(&[0, 1, 2, 5, 5, 64]) + if draw.once_in(40) { 64 } else { 0 };
+    let mut betas: Vec<f64> = (0..count)
+        .map(|_| {
+            let any = draw.between(-1024.0, 1024.0);
+            draw.of(&[0.44, any, 1024.0, -1024.0, 0.0, -0.0, 5e-324])
+        })
+        .collect();
+    if count > 0 && draw.once_in(12) {
+        let i = draw.below(count);
+        betas[i] = draw.no_magnitude();
+    }
+    betas
+}
+
+pub fn try_one(draw: &mut Draw) -> Result<usize, String> {
+    let mut edges = any_graph(draw);
+    for _ in 0..draw.of(&[0, 0, 0, 1, 2]) {
+        spoil_graph(draw, &mut edges);
+    }
+    let betas = betas(draw);
+    let kept = edges.kept();
+    let wanted = betas.len() * kept.len();
+    let length = draw.of(&[wanted, wanted, wanted, wanted, wanted + 1, wanted.saturating_sub(1)]);
+    let before = vec![2.5; length];
+    let (a, b, m) = (Guarded::new(&edges.a), Guarded::new(&edges.b), Guarded::new(&edges.m));
+    let (lent, mut results) = (Guarded::new(&betas), Guarded::new(&before));
+    let number = unsafe {
+        sys::copperhook_couplings(
+            edges.n,
+            a.pointer(),
+            a.len(),
+            b.pointer(),
+            b.len(),
+            m.pointer(),
+            m.len(),
+            lent.pointer(),
+            lent.len(),
+            results.pointer_mut(),
+            length,
+        )
+    };
+    let expected = first(edges.refusal(&Pairs::default(), &betas), || unless(length == wanted, 12));
+    equal("answer", number, expected)?;
+    let all: Vec<f64> = betas.iter().flat_map(|beta| kept.iter().map(move |e| beta * e.2)).collect();
+    results.holds("results", if expected == 0 { &all } else { &before })?;
+    a.holds("a", &edges.a)?;
+    b.holds("b", &edges.b)?;
+    m.holds("m", &edges.m)?;
+    lent.holds("betas", &betas)?;
+    Ok(number)
+}

@@ -1,0 +1,96 @@
+//! Every entry of the library on drawn jobs, good and bad: what it answers and leaves against the original, bit for bit, and against
+//! document 01's refusals. A list that is lent has guard words around it. The calls are those of the archive itself, `unsafe` for their
+//! pointers alone: each is a guarded list's or a variable's.
+
+mod correlations;
+mod couplings;
+mod draw;
+mod estimates;
+mod generators;
+mod graphs;
+mod guarded;
+mod law;
+// The rules of document 01 as the oracle's own program has them, laid out there.
+#[rustfmt::skip]
+#[path = "../../oracle/src/bin/answers/model.rs"]
+mod model;
+mod shapes;
+mod strips;
+
+use draw::Draw;
+use std::collections::BTreeMap;
+use std::time::{Duration, Instant};
+
+/// One job of a group: how the call was answered, 0 for accepted, or what differs.
+type Try = fn(&mut Draw) -> Result<usize, String>;
+
+/// The entries that are compared together, with the refusals that a long enough run meets and their share of its time, 0.0 for
+/// those that run only where they are named.
+pub struct Group {
+    pub name: &'static str,
+    pub share: f64,
+    pub refusals: &'static [usize],
+    try_one: Try,
+}
+
+pub const GROUPS: [Group; 7] = [
+    Group { name: "generators", share: 1.0, refusals: &[], try_one: generators::try_one },
+    Group { name: "graphs", share: 1.0, refusals: &[1, 2, 3, 4, 5, 8, 12], try_one: graphs::try_one },
+    Group { name: "strips", share: 1.0, refusals: &[12, 15, 16, 17], try_one: strips::try_one },
+    Group { name: "couplings", share: 1.0, refusals: &[1, 2, 3, 4, 5, 12], try_one: couplings::try_one },
+    Group { name: "correlations", share: 5.0, refusals: &[1, 2, 3, 4, 5, 6, 7, 8, 10, 12, 13, 14], try_one: correlations::try_one },
+    Group { name: "estimates", share: 1.0, refusals: &[18], try_one: estimates::try_one },
+    Group { name: "wide", share: 0.0, refusals: &[], try_one: correlations::try_wide },
+];
+
+/// How long a group is run.
+#[derive(Clone, Copy, Debug)]
+pub enum Until {
+    Jobs(u64),
+    Time(Duration),
+}
+
+/// What came of a group.
+#[derive(Default)]
+pub struct Tally {
+    pub jobs: u64,
+    /// Jobs by how they were answered, 0 for accepted.
+    pub answered: BTreeMap<usize, u64>,
+    pub mismatches: u64,
+}
+
+/// How many mismatches are told in full.
+const TOLD: u64 = 5;
+
+/// Runs the jobs of a group from a number on; `tell` gets a line for each of the first mismatches.
+pub fn run(group: usize, seed: u64, from: u64, until: Until, tell: &mut dyn FnMut(String)) -> Tally {
+    let Group { name, try_one, .. } = GROUPS[group];
+    let mut tally = Tally::default();
+    let start = Instant::now();
+    let more = |jobs: u64| match until {
+        Until::Jobs(most) => jobs < most,
+        Until::Time(most) => start.elapsed() < most,
+    };
+    while more(tally.jobs) {
+        let job = from + tally.jobs;
+        match try_one(&mut Draw::new(seed, group as u64, job)) {
+            Ok(number) => *tally.answered.entry(number).or_default() += 1,
+            Err(why) => {
+                if tally.mismatches < TOLD {
+                    tell(format!(
+                        "{name}, job {job} of seed {seed}: {why}\n    again: compare --only {name} --seed {seed} --from {job} --jobs 1"
+                    ));
+                }
+                tally.mismatches += 1;
+            }
+        }
+        tally.jobs += 1;
+    }
+    tally
+}
+
+/// One line: the jobs, how they were answered, the mismatches.
+pub fn line(name: &str, tally: &Tally) -> String {
+    let by: Vec<String> = tally.answered.iter().map(|(number, jobs)| format!("{number}: {jobs}")).collect();
+    format!("{name}: {} jobs, {} mismatches; by answer {}", tally.jobs, tally.mismatches, by.join(", "))
+}

@@ -1,0 +1,92 @@
+//! Lists that are made here, for callers that do not count doubles themselves.
+
+use crate::graph::Graph;
+use crate::limits;
+use crate::refusal::Refusal;
+use crate::strip::{Dilution, Strip};
+
+/// The edges of a graph, in lists of its own.
+#[derive(Clone, Debug, PartialEq)]
+pub struct EdgeList {
+    pub a: Vec<usize>,
+    pub b: Vec<usize>,
+    pub m: Vec<f64>,
+}
+
+/// Two vertices, and what a strip calls them.
+#[derive(Clone, Debug, PartialEq, Eq)]
+pub struct LabelledPair {
+    pub label: String,
+    pub u: usize,
+    pub v: usize,
+}
+
+/// The signed factors of a graph's kept edges at some betas, both signs of each: at 2 (i k + e) for plus and next to it for minus, with k
+/// kept edges, beta i and edge e.
+#[derive(Clone, Debug, PartialEq)]
+pub struct Factors {
+    pub kept: usize,
+    pub all: Vec<f64>,
+}
+
+impl EdgeList {
+    /// As many as `fill` says that it wrote, of lists with room for all.
+    fn filled(fill: impl FnOnce(&mut [usize], &mut [usize], &mut [f64]) -> Result<usize, Refusal>) -> Result<EdgeList, Refusal> {
+        let most = limits::EDGES;
+        let mut list = EdgeList { a: vec![0; most], b: vec![0; most], m: vec![0.0; most] };
+        let edges = fill(&mut list.a, &mut list.b, &mut list.m)?;
+        list.a.truncate(edges);
+        list.b.truncate(edges);
+        list.m.truncate(edges);
+        Ok(list)
+    }
+
+    pub fn graph(&self, n: usize) -> Graph<'_> {
+        Graph::new(n, &self.a, &self.b, &self.m)
+    }
+}
+
+impl Strip {
+    /// The edges, of magnitude 1.0, in lists of their own.
+    pub fn edge_list(&self) -> Result<EdgeList, Refusal> {
+        EdgeList::filled(|early, late, mag| self.raw_edges(early, late, mag))
+    }
+
+    /// The diluted edges, dropped ones with magnitude +0.0, in lists of their own.
+    pub fn diluted_list(&self, by: &Dilution) -> Result<EdgeList, Refusal> {
+        EdgeList::filled(|early, late, mag| self.diluted(by, early, late, mag))
+    }
+
+    /// The standard pairs with their labels.
+    pub fn labelled_pairs(&self) -> Result<Vec<LabelledPair>, Refusal> {
+        let (mut us, mut vs) = ([0; limits::STANDARD_PAIRS], [0; limits::STANDARD_PAIRS]);
+        let mut bytes = [0; limits::LABEL_BYTES];
+        let count = self.pairs(&mut us, &mut vs, &mut bytes)?;
+        let labels = bytes.split(|&b| b == 0).map(|label| String::from_utf8_lossy(label).into_owned());
+        let pairs = labels.zip(us.iter().zip(&vs)).take(count);
+        Ok(pairs.map(|(label, (&u, &v))| LabelledPair { label, u, v }).collect())
+    }
+}
+
+impl Graph<'_> {
+    /// The kept edges in lists of their own, smaller end first.
+    pub fn kept_list(&self) -> Result<EdgeList, Refusal> {
+        EdgeList::filled(|early, late, mag| self.kept(early, late, mag).map(|kept| kept.edges))
+    }
+
+    /// The exponentials of the couplings at these betas, of either sign.
+    pub fn factors(&self, betas: &[f64]) -> Result<Factors, Refusal> {
+        let kept = self.kept_list()?.m.len();
+        let mut couplings = vec![0.0; kept * betas.len()];
+        self.couplings(betas, &mut couplings)?;
+        let all = couplings.iter().flat_map(|&x: &f64| [x.exp(), (-x).exp()]).collect();
+        Ok(Factors { kept, all })
+    }
+}
+
+impl Factors {
+    /// One factor for each kept edge, at beta i, for the signs of a configuration: true is minus.
+    pub fn of_signs(&self, i: usize, minus: &[bool]) -> Vec<f64> {
+        (0..self.kept).map(|e| self.all[2 * (i * self.kept + e) + minus[e] as usize]).collect()
+    }
+}

@@ -1,0 +1,247 @@
+//! The entries as they are in the archive; `include/copperhook.h` says what each means.
+//!
+//! A list is a pointer and the number of its elements. The pointer is aligned and not null, and a list that is written overlaps no other.
+//! Each call is total: nothing else is asked of the caller.
+
+extern "C" {
+    pub fn copperhook_room(
+        n: usize,
+        floor: usize,
+        a: *const usize,
+        a_len: usize,
+        b: *const usize,
+        b_len: usize,
+        m: *const f64,
+        m_len: usize,
+        us: *const usize,
+        us_len: usize,
+        vs: *const usize,
+        vs_len: usize,
+        room: *mut usize,
+    ) -> usize;
+
+    pub fn copperhook_correlations(
+        n: usize,
+        floor: usize,
+        a: *const usize,
+        a_len: usize,
+        b: *const usize,
+        b_len: usize,
+        m: *const f64,
+        m_len: usize,
+        us: *const usize,
+        us_len: usize,
+        vs: *const usize,
+        vs_len: usize,
+        factors: *const f64,
+        factors_len: usize,
+        manner: usize,
+        results: *mut f64,
+        results_len: usize,
+        work: *mut f64,
+        work_len: usize,
+    ) -> usize;
+
+    pub fn copperhook_couplings(
+        n: usize,
+        a: *const usize,
+        a_len: usize,
+        b: *const usize,
+        b_len: usize,
+        m: *const f64,
+        m_len: usize,
+        betas: *const f64,
+        betas_len: usize,
+        results: *mut f64,
+        results_len: usize,
+    ) -> usize;
+
+    pub fn copperhook_estimate(count: usize, squares: f64, fourths: f64, enough: *mut bool, mean: *mut f64, error: *mut f64) -> usize;
+
+    pub fn copperhook_sqrt(x: f64) -> f64;
+
+    pub fn copperhook_graph(
+        n: usize,
+        floor: usize,
+        a: *const usize,
+        a_len: usize,
+        b: *const usize,
+        b_len: usize,
+        m: *const f64,
+        m_len: usize,
+        early: *mut usize,
+        early_len: usize,
+        late: *mut usize,
+        late_len: usize,
+        mag: *mut f64,
+        mag_len: usize,
+        window: *mut usize,
+        edges: *mut usize,
+    ) -> usize;
+
+    pub fn copperhook_rotated(
+        n: usize,
+        floor: usize,
+        a: *const usize,
+        a_len: usize,
+        b: *const usize,
+        b_len: usize,
+        m: *const f64,
+        m_len: usize,
+        early: *mut usize,
+        early_len: usize,
+        late: *mut usize,
+        late_len: usize,
+        mag: *mut f64,
+        mag_len: usize,
+        window: *mut usize,
+        edges: *mut usize,
+    ) -> usize;
+
+    pub fn copperhook_window(
+        n: usize,
+        floor: usize,
+        a: *const usize,
+        a_len: usize,
+        b: *const usize,
+        b_len: usize,
+        m: *const f64,
+        m_len: usize,
+        window: *mut usize,
+    ) -> usize;
+
+    pub fn copperhook_n_components(
+        n: usize,
+        a: *const usize,
+        a_len: usize,
+        b: *const usize,
+        b_len: usize,
+        m: *const f64,
+        m_len: usize,
+        count: *mut usize,
+    ) -> usize;
+
+    pub fn copperhook_cyclomatic(
+        n: usize,
+        a: *const usize,
+        a_len: usize,
+        b: *const usize,
+        b_len: usize,
+        m: *const f64,
+        m_len: usize,
+        free_edges: *mut usize,
+    ) -> usize;
+
+    pub fn copperhook_spanning_forest(
+        n: usize,
+        a: *const usize,
+        a_len: usize,
+        b: *const usize,
+        b_len: usize,
+        m: *const f64,
+        m_len: usize,
+        tree: *mut bool,
+        tree_len: usize,
+    ) -> usize;
+
+    pub fn copperhook_components(
+        n: usize,
+        a: *const usize,
+        a_len: usize,
+        b: *const usize,
+        b_len: usize,
+        m: *const f64,
+        m_len: usize,
+        names: *mut usize,
+        names_len: usize,
+    ) -> usize;
+
+    pub fn copperhook_distance(
+        n: usize,
+        a: *const usize,
+        a_len: usize,
+        b: *const usize,
+        b_len: usize,
+        m: *const f64,
+        m_len: usize,
+        u: usize,
+        v: usize,
+        joined: *mut bool,
+        length: *mut usize,
+    ) -> usize;
+
+    pub fn copperhook_strip_n(kind: usize, w: usize, l: usize, periodic: bool, n: *mut usize) -> usize;
+
+    pub fn copperhook_strip_vid(
+        kind: usize,
+        w: usize,
+        l: usize,
+        periodic: bool,
+        x: usize,
+        y: usize,
+        inside: *mut bool,
+        vertex: *mut usize,
+    ) -> usize;
+
+    pub fn copperhook_strip_window(kind: usize, w: usize, l: usize, periodic: bool, window: *mut usize) -> usize;
+
+    pub fn copperhook_raw_edges(
+        kind: usize,
+        w: usize,
+        l: usize,
+        periodic: bool,
+        early: *mut usize,
+        early_len: usize,
+        late: *mut usize,
+        late_len: usize,
+        mag: *mut f64,
+        mag_len: usize,
+        edges: *mut usize,
+    ) -> usize;
+
+    pub fn copperhook_diluted(
+        kind: usize,
+        w: usize,
+        l: usize,
+        periodic: bool,
+        keep: f64,
+        low: f64,
+        high: f64,
+        seed: u64,
+        early: *mut usize,
+        early_len: usize,
+        late: *mut usize,
+        late_len: usize,
+        mag: *mut f64,
+        mag_len: usize,
+        edges: *mut usize,
+    ) -> usize;
+
+    pub fn copperhook_pairs(
+        kind: usize,
+        w: usize,
+        l: usize,
+        periodic: bool,
+        us: *mut usize,
+        us_len: usize,
+        vs: *mut usize,
+        vs_len: usize,
+        labels: *mut u8,
+        labels_len: usize,
+        pairs: *mut usize,
+    ) -> usize;
+
+    pub fn copperhook_kind_parse(name: *const u8, name_len: usize, kind: *mut usize) -> bool;
+
+    pub fn copperhook_kind_name(kind: usize, name: *mut u8) -> usize;
+
+    pub fn copperhook_boundary_name(periodic: bool, name: *mut u8) -> usize;
+
+    pub fn copperhook_rng_new(seed: u64, state: *mut u64);
+
+    pub fn copperhook_rng_stream(seed: u64, index: u64, state: *mut u64);
+
+    pub fn copperhook_rng_next_u64(state: *mut u64) -> u64;
+
+    pub fn copperhook_rng_uniform(state: *mut u64) -> f64;
+}

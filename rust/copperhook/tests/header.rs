@@ -1,0 +1,139 @@
+//! The C header: it compiles as C11 and as C++17 without a warning, it declares what the bindings declare, and a C program that uses it
+//! prints what the bindings answer.
+
+use copperhook::{Job, Kind, Manner, Refusal, Strip};
+use std::collections::BTreeMap;
+use std::path::{Path, PathBuf};
+use std::process::{Command, Output};
+
+const STRICT: [&str; 4] = ["-Wall", "-Wextra", "-Werror", "-pedantic"];
+
+fn repository() -> PathBuf {
+    Path::new(env!("CARGO_MANIFEST_DIR")).join("../..")
+}
+
+fn include() -> String {
+    format!("-I{}", repository().join("include").display())
+}
+
+/// A folder of this test alone, under cargo's own.
+fn folder(name: &str) -> PathBuf {
+    let folder = Path::new(env!("CARGO_TARGET_TMPDIR")).join(name);
+    std::fs::create_dir_all(&folder).unwrap();
+    folder
+}
+
+fn succeeded(output: Output) -> String {
+    assert!(output.status.success(), "{}", String::from_utf8_lossy(&output.stderr));
+    String::from_utf8(output.stdout).unwrap()
+}
+
+/// Compiles a file that includes the header twice.
+fn compiles_as(compiler: &str, standard: &str, name: &str) {
+    let source = folder("header").join(name);
+    std::fs::write(&source, "#include \"copperhook.h\"\n#include \"copperhook.h\"\nint main() { return COPPERHOOK_ACCEPTED; }\n").unwrap();
+    let mut command = Command::new(compiler);
+    command.arg(standard).args(STRICT).arg(include()).arg("-fsyntax-only").arg(&source);
+    match command.output() {
+        Ok(output) => drop(succeeded(output)),
+        Err(e) => eprintln!("not tried: {compiler} does not run here ({e})"),
+    }
+}
+
+#[test]
+fn it_is_c11() {
+    compiles_as("gcc", "-std=c11", "header.c");
+}
+
+#[test]
+fn it_is_cpp17() {
+    compiles_as("g++", "-std=c++17", "header.cpp");
+}
+
+/// Each function that a text declares, with its number of parameters.
+fn declared(text: &str) -> BTreeMap<String, usize> {
+    let mut functions = BTreeMap::new();
+    for (at, _) in text.match_indices("copperhook_") {
+        let name: String = text[at..].chars().take_while(|c| c.is_alphanumeric() || *c == '_').collect();
+        let rest = &text[at + name.len()..];
+        if let Some(parameters) = rest.strip_prefix('(').and_then(|r| r.split_once(')')).map(|r| r.0) {
+            functions.insert(name, parameters.split(',').filter(|p| !p.trim().is_empty()).count());
+        }
+    }
+    functions
+}
+
+fn read(path: &str) -> String {
+    std::fs::read_to_string(repository().join(path)).unwrap_or_else(|e| panic!("{path}: {e}"))
+}
+
+#[test]
+fn header_and_bindings_declare_the_same() {
+    let header = declared(&read("include/copperhook.h"));
+    assert!(!header.is_empty());
+    assert_eq!(header, declared(&read("rust/copperhook/src/sys.rs")));
+}
+
+/// Each function that the library's source exports, with its number of parameters over C: a slice is two.
+fn exported() -> BTreeMap<String, usize> {
+    let mut functions = BTreeMap::new();
+    for file in std::fs::read_dir(repository().join("crates/copperhook/src")).unwrap() {
+        let text = std::fs::read_to_string(file.unwrap().path()).unwrap();
+        for part in text.split("extern \"C\" fn ").skip(1) {
+            let (name, rest) = part.split_once('(').unwrap();
+            let parameters = rest.split_once(')').unwrap().0;
+            let slice = |p: &str| (p.contains("&[") || p.contains("&mut [")) && !p.contains(';');
+            let count = parameters.split(',').filter(|p| !p.trim().is_empty()).map(|p| if slice(p) { 2 } else { 1 }).sum();
+            functions.insert(name.to_string(), count);
+        }
+    }
+    functions
+}
+
+#[test]
+fn header_declares_what_the_library_exports() {
+    let header = declared(&read("include/copperhook.h"));
+    let missing: Vec<_> = exported().into_iter().filter(|(name, count)| header.get(name) != Some(count)).collect();
+    assert!(missing.is_empty(), "not in the header, or with other parameters: {missing:?}");
+    assert_eq!(header.len(), exported().len());
+}
+
+#[test]
+fn header_numbers_the_refusals() {
+    let header = read("include/copperhook.h");
+    for r in Refusal::ALL {
+        assert_eq!(header.matches(&format!(" = {},  ", r.number())).count() + header.matches(&format!(" = {}  ", r.number())).count(), 1);
+    }
+}
+
+/// What tests/square.c prints, from the bindings.
+fn square_sheet() -> Result<String, Refusal> {
+    let strip = Strip { kind: Kind::Square, width: 2, length: 2, periodic: false };
+    let (edges, pairs) = (strip.edge_list()?, strip.labelled_pairs()?);
+    let (us, vs): (Vec<usize>, Vec<usize>) = pairs.iter().map(|p| (p.u, p.v)).unzip();
+    let job = Job { graph: edges.graph(strip.n()?), us: &us, vs: &vs };
+    let mut work = vec![0.0; job.room()?];
+    let mut text = String::new();
+    for last in [2.0, 0.5] {
+        let mut results = vec![0.0; us.len()];
+        job.correlations(&[2.0, 2.0, 2.0, last], Manner::Block, &mut results, &mut work)?;
+        for (pair, x) in pairs.iter().zip(&results) {
+            text += &format!("{} {} {} {:016x}\n", pair.label, pair.u, pair.v, x.to_bits());
+        }
+    }
+    Ok(text)
+}
+
+#[test]
+fn a_c_program_prints_what_the_bindings_answer() {
+    let program = folder("square").join("square");
+    let source = repository().join("rust/copperhook/tests/square.c");
+    let mut compile = Command::new("gcc");
+    compile.arg("-std=c11").args(STRICT).arg(include()).arg(source).arg(copperhook::ARCHIVE).arg("-o").arg(&program);
+    succeeded(compile.output().expect("gcc runs"));
+    let printed = succeeded(Command::new(program).output().unwrap());
+    assert_eq!(printed, square_sheet().unwrap());
+    for line in ["corner-adj-a 0 1", "opp-corners 0 3"] {
+        assert!(printed.contains(line), "{printed}");
+    }
+}

@@ -1,0 +1,136 @@
+//! The settled examples of document 01, through the bindings, and what lists hold after calls that are refused.
+
+use copperhook::{estimate, Dilution, Estimate, Graph, Job, Kind, Manner, Refusal, Rng, Strip};
+
+const MANNERS: [Manner; 2] = [Manner::PerElement, Manner::Block];
+
+fn alone(n: usize, floor: usize, factor: f64, pair: (usize, usize), manner: Manner) -> (usize, f64) {
+    let graph = Graph::new(n, &[0], &[1], &[1.0]).with_floor(floor);
+    let (us, vs) = ([pair.0], [pair.1]);
+    let job = Job { graph, us: &us, vs: &vs };
+    let room = job.room().unwrap();
+    let mut results = [7.0];
+    let mut work = vec![7.0; room + 3];
+    job.correlations(&[factor], manner, &mut results, &mut work).unwrap();
+    assert!(work[..room].iter().all(|x| x.to_bits() == 0) && work[room..] == [7.0; 3]);
+    (room, results[0])
+}
+
+#[test]
+fn one_edge() {
+    for manner in MANNERS {
+        assert_eq!(alone(2, 1, 2.0, (0, 1), manner), (13, 0.6));
+        assert_eq!(alone(2, 2, 2.0, (0, 1), manner), (19, 0.6));
+        assert_eq!(alone(2, 1, 0.5, (0, 1), manner).1, -0.6);
+        assert_eq!(alone(2, 1, 1.0, (0, 1), manner).1.to_bits(), 0);
+        assert_eq!(alone(3, 1, 2.0, (0, 2), manner).1.to_bits(), 0);
+    }
+}
+
+#[test]
+fn the_square() {
+    let strip = Strip { kind: Kind::Square, width: 2, length: 2, periodic: false };
+    let edges = strip.edge_list().unwrap();
+    assert_eq!((&edges.a[..], &edges.b[..]), (&[0, 0, 1, 2][..], &[1, 2, 3, 3][..]));
+    let graph = edges.graph(4);
+    let mut tree = [false; 4];
+    graph.spanning_forest(&mut tree).unwrap();
+    assert_eq!((graph.window(), tree, graph.cyclomatic()), (Ok(2), [true, true, true, false], Ok(1)));
+    assert_eq!((graph.distance(0, 3), graph.distance(3, 3), graph.distance(0, 4)), (Ok(Some(2)), Ok(Some(0)), Err(Refusal::PairEnds)));
+    let job = Job { graph, us: &[0, 0], vs: &[1, 3] };
+    let mut work = vec![0.0; job.room().unwrap()];
+    for (last, expected) in [(2.0, [255.0 / 353.0, 225.0 / 353.0]), (0.5, [15.0 / 34.0, 0.0])] {
+        let mut results = [9.0; 2];
+        job.correlations(&[2.0, 2.0, 2.0, last], Manner::Block, &mut results, &mut work).unwrap();
+        assert_eq!(results.map(f64::to_bits), expected.map(f64::to_bits));
+    }
+}
+
+#[test]
+fn estimates() {
+    assert_eq!(estimate(2, 1.0, 1.0), Ok(Estimate::Estimated { mean: 0.5, error: 0.5 }));
+    assert_eq!(estimate(1, 1.0, 1.0), Ok(Estimate::TooFew { mean: 1.0 }));
+    assert_eq!(estimate(0, 0.0, 0.0), Err(Refusal::Sums));
+    assert_eq!(estimate(2, 0.5, f64::NAN), Err(Refusal::Sums));
+}
+
+#[test]
+fn limits() {
+    let job = |floor| Job { graph: Graph::new(30, &[], &[], &[]).with_floor(floor), us: &[], vs: &[] };
+    assert_eq!((job(24).room(), job(25).room()), (Ok((1 << 25) + 30), Err(Refusal::Window)));
+    let cylinder = |width| Strip { kind: Kind::Honeycomb, width, length: 3, periodic: true };
+    assert_eq!((cylinder(2).window(), cylinder(3).window()), (Ok(2), Err(Refusal::OddCylinder)));
+    assert!(cylinder(3).labelled_pairs().is_ok());
+    let five = [(6, 7), (5, 7), (4, 7), (3, 7), (2, 7)];
+    let (a, b): (Vec<usize>, Vec<usize>) = five.into_iter().unzip();
+    let near = |edges: usize| Job { graph: Graph::new(8, &a[..edges], &b[..edges], &[1.0; 5][..edges]).with_floor(6), us: &[0], vs: &[7] };
+    assert!(near(4).room().is_ok());
+    assert_eq!(near(5).room(), Err(Refusal::BackEdges));
+}
+
+#[test]
+fn a_partition_sum_that_overflows_clears_results_and_room() {
+    let job = Job { graph: Graph::new(2, &[0], &[1], &[1.0]), us: &[0], vs: &[1] };
+    let (mut results, mut work) = ([7.0], [7.0; 14]);
+    assert_eq!(job.correlations(&[5e307], Manner::Block, &mut results, &mut work), Err(Refusal::PartitionSum));
+    assert!(results[0].to_bits() == 0 && work[..13].iter().all(|x| x.to_bits() == 0) && work[13] == 7.0);
+    let (mut results, mut work) = ([7.0], [7.0; 12]);
+    assert_eq!(job.correlations(&[2.0], Manner::Block, &mut results, &mut work), Err(Refusal::WorkMemory));
+    assert!(results == [7.0] && work == [7.0; 12]);
+}
+
+#[test]
+fn a_diluted_strip_keeps_the_strips_edges() {
+    let strip = Strip { kind: Kind::Triangular, width: 3, length: 4, periodic: true };
+    let by = Dilution { keep: 0.5, low: 0.5, high: 1.5, seed: 7 };
+    let (whole, diluted) = (strip.edge_list().unwrap(), strip.diluted_list(&by).unwrap());
+    assert_eq!((&whole.a, &whole.b), (&diluted.a, &diluted.b));
+    assert!(diluted.m.iter().all(|&m| m.to_bits() == 0 || (0.5..1.5).contains(&m)));
+    let floor = strip.window().unwrap();
+    assert!(diluted.graph(12).with_floor(floor).window() == Ok(floor) && floor == 4);
+    assert_eq!(strip.diluted_list(&Dilution { keep: f64::NAN, ..by }), Err(Refusal::Dilution));
+}
+
+#[test]
+fn names() {
+    for (name, kind) in [("sq", Kind::Square), ("triangular", Kind::Triangular), ("hex", Kind::Honeycomb)] {
+        assert_eq!(Kind::parse(name), Some(kind));
+        assert_eq!(Kind::parse(&kind.name()), Some(kind));
+    }
+    assert_eq!((Kind::parse("Square"), Kind::parse("")), (None, None));
+    let strip = |periodic| Strip { kind: Kind::Square, width: 2, length: 3, periodic };
+    assert_eq!((strip(true).boundary(), strip(false).boundary()), ("cyl".to_string(), "free".to_string()));
+    assert_eq!((strip(false).vertex(2, 1), strip(false).vertex(3, 0)), (Ok(Some(5)), Ok(None)));
+}
+
+#[test]
+fn the_generator_is_xoshiro256_plus_plus() {
+    // The words that follow the state 1, 2, 3, 4 in the published reference.
+    let mut rng = Rng { state: [1, 2, 3, 4] };
+    let words = [41943041, 58720359, 3588806011781223, 3591011842654386, 9228616714210784205];
+    assert!(words.iter().all(|&word| rng.next_u64() == word));
+    assert_eq!(Rng::stream(5, 6), Rng::stream(5, 6));
+    assert!((0.0..1.0).contains(&Rng::new(1).uniform()));
+}
+
+/// Correlations and every graph entry, on as many vertices as there may be.
+fn largest_calls() -> Result<(), Refusal> {
+    let strip = Strip { kind: Kind::Triangular, width: 4, length: 256, periodic: true };
+    let (edges, pairs) = (strip.edge_list()?, strip.labelled_pairs()?);
+    let (us, vs): (Vec<usize>, Vec<usize>) = pairs.iter().map(|p| (p.u, p.v)).unzip();
+    let graph = edges.graph(strip.n()?);
+    let job = Job { graph, us: &us, vs: &vs };
+    let (mut results, mut work) = (vec![0.0; us.len()], vec![0.0; job.room()?]);
+    job.correlations(&vec![1.5; edges.m.len()], Manner::Block, &mut results, &mut work)?;
+    graph.rotated(&mut [0; 4096], &mut [0; 4096], &mut [0.0; 4096])?;
+    graph.spanning_forest(&mut vec![false; edges.m.len()])?;
+    graph.components(&mut vec![0; 1024])?;
+    graph.factors(&[0.5; 64])?;
+    graph.distance(0, 1023).map(drop)
+}
+
+#[test]
+fn a_megabyte_of_stack_is_enough() {
+    let thread = std::thread::Builder::new().stack_size(1 << 20).spawn(largest_calls).unwrap();
+    assert_eq!(thread.join().unwrap(), Ok(()));
+}

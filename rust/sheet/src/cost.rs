@@ -1,0 +1,135 @@
+//! What a run will take, said before it starts, and how far it is.
+
+use crate::board::Board;
+use crate::trouble::Trouble;
+use copperhook::{Job, Kind, Manner, Strip};
+use std::io::{IsTerminal, Write};
+use std::time::Instant;
+
+/// A run is long from so many seconds on, and large from so many bytes on.
+const LONG: f64 = 2.0;
+const LARGE: f64 = 1e9;
+
+pub struct Cost {
+    pub seconds: f64,
+    pub bytes: f64,
+}
+
+impl Cost {
+    pub fn of(board: &Board, sweeps: f64) -> Cost {
+        let entries = board.entries() * sweeps * board.betas.len() as f64;
+        // a rate need not be measured for what is short at any rate
+        let seconds = if entries < 1e8 { 0.0 } else { entries / entries_in_a_second() };
+        Cost { seconds, bytes: 8.0 * board.room as f64 }
+    }
+
+    pub fn is_long(&self) -> bool {
+        self.seconds >= LONG
+    }
+
+    /// One line on standard error where the run is long or large.
+    pub fn say(&self) {
+        if self.is_long() || self.bytes >= LARGE {
+            tell(&format!("sheet: about {}, with {} of work memory\n", time(self.seconds), size(self.bytes)));
+        }
+    }
+}
+
+/// Of a trial of some milliseconds.
+fn entries_in_a_second() -> f64 {
+    let strip = Strip { kind: Kind::Square, width: 12, length: 8, periodic: false };
+    let trial = || -> Result<f64, copperhook::Refusal> {
+        let edges = strip.edge_list()?;
+        let job = Job { graph: edges.graph(strip.n()?), us: &[0], vs: &[11] };
+        let (factors, mut results, mut work) = (vec![1.5; edges.m.len()], [0.0], vec![0.0; job.room()?]);
+        let start = Instant::now();
+        for _ in 0..4 {
+            job.correlations(&factors, Manner::Block, &mut results, &mut work)?;
+        }
+        let entries = 4.0 * (2.0 * 96.0 + 2.0) * 4096.0;
+        Ok(entries / start.elapsed().as_secs_f64().max(1e-9))
+    };
+    trial().unwrap_or(5e8)
+}
+
+/// Work memory, all +0.0; a sentence where this machine has too little.
+pub fn work_memory(board: &Board) -> Result<Vec<f64>, Trouble> {
+    let bytes = 8.0 * board.room as f64;
+    let lacking = |free: String| {
+        let strip = &board.strip;
+        Trouble::Machine(format!("--width {} --length {}: the work memory is {}, {free}", strip.width, strip.length, size(bytes)))
+    };
+    if let Some(free) = free_memory().filter(|&free| free < bytes) {
+        return Err(lacking(format!("and {} are free", size(free))));
+    }
+    let mut work = Vec::new();
+    work.try_reserve_exact(board.room).map_err(|_| lacking("which cannot be had".to_string()))?;
+    work.resize(board.room, 0.0);
+    Ok(work)
+}
+
+/// What the system says, if it says it.
+fn free_memory() -> Option<f64> {
+    let text = std::fs::read_to_string("/proc/meminfo").ok()?;
+    let line = text.lines().find(|l| l.starts_with("MemAvailable:"))?;
+    let kilobytes: f64 = line.split_whitespace().nth(1)?.parse().ok()?;
+    Some(1024.0 * kilobytes)
+}
+
+fn time(seconds: f64) -> String {
+    match seconds {
+        s if s < 1.0 => "a second at most".to_string(),
+        s if s < 120.0 => format!("{s:.0} seconds"),
+        s if s < 7200.0 => format!("{:.0} minutes", s / 60.0),
+        s => format!("{:.1} hours", s / 3600.0),
+    }
+}
+
+fn size(bytes: f64) -> String {
+    match bytes {
+        b if b < 1e6 => format!("{:.1} kB", b / 1e3),
+        b if b < 1e9 => format!("{:.1} MB", b / 1e6),
+        b => format!("{:.1} GB", b / 1e9),
+    }
+}
+
+/// A standard error that is closed is no reason to end.
+pub fn tell(text: &str) {
+    let _ = std::io::stderr().write_all(text.as_bytes());
+}
+
+/// A line that is written over, on a terminal alone.
+pub struct Progress {
+    start: Instant,
+    shown: bool,
+}
+
+impl Progress {
+    pub fn new(cost: &Cost) -> Progress {
+        Progress { start: Instant::now(), shown: cost.is_long() && std::io::stderr().is_terminal() }
+    }
+
+    pub fn done(&self, done: usize, all: usize) {
+        if self.shown && done < all {
+            let left = self.start.elapsed().as_secs_f64() / done as f64 * (all - done) as f64;
+            tell(&format!("\r\x1b[Ksheet: {done} of {all} betas, about {} left", time(left)));
+        }
+    }
+
+    pub fn end(&self) {
+        if self.shown {
+            tell("\r\x1b[K");
+        }
+    }
+}
+
+#[cfg(test)]
+mod tests {
+    use super::{size, time};
+
+    #[test]
+    fn sizes_and_times_are_short() {
+        assert_eq!([size(104.0), size(2.5e6), size(1.34e9)], ["0.1 kB", "2.5 MB", "1.3 GB"]);
+        assert_eq!([time(0.2), time(59.6), time(600.0), time(9000.0)], ["a second at most", "60 seconds", "10 minutes", "2.5 hours"]);
+    }
+}

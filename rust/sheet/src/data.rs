@@ -1,0 +1,84 @@
+//! The sheet for other programs: comma-separated values, and JSON. Each double is written so that it reads back as the same bits.
+
+use crate::sheet::{bits, Row, Sheet};
+
+pub fn csv(sheet: &Sheet) -> String {
+    let mut text = "kind,boundary,width,length,beta,pair,u,v,distance".to_string();
+    for column in sheet.columns {
+        text += &format!(",{column}");
+        if sheet.bits {
+            text += &format!(",{column} bits");
+        }
+    }
+    text.push('\n');
+    for (i, beta) in sheet.betas.iter().enumerate() {
+        for row in &sheet.rows {
+            let distance = row.distance.map_or(String::new(), |d| d.to_string());
+            let strip = format!("{},{},{},{}", sheet.kind, sheet.boundary, sheet.width, sheet.length);
+            text += &format!("{strip},{beta},{},{},{},{distance}", row.label, row.u, row.v);
+            for &x in &row.values[i] {
+                text += &format!(",{x:?}");
+                if sheet.bits {
+                    text += &format!(",{}", bits(x));
+                }
+            }
+            text.push('\n');
+        }
+    }
+    text
+}
+
+pub fn json(sheet: &Sheet) -> String {
+    let betas: Vec<String> = sheet.betas.iter().map(|b| string(b)).collect();
+    let rows: Vec<String> = sheet.rows.iter().map(|row| format!("    {}", json_row(sheet, row))).collect();
+    format!(
+        "{{\n  \"kind\": {},\n  \"boundary\": {},\n  \"width\": {},\n  \"length\": {},\n  \"title\": {},\n  \"source\": {},\n  \"manner\": {},\n  \
+         \"betas\": [{}],\n  \"pairs\": [\n{}\n  ]\n}}\n",
+        string(&sheet.kind),
+        string(&sheet.boundary),
+        sheet.width,
+        sheet.length,
+        string(&sheet.title),
+        string(&sheet.source),
+        string(sheet.manner),
+        betas.join(", "),
+        rows.join(",\n")
+    )
+}
+
+/// A pair with a list for each column, by beta.
+fn json_row(sheet: &Sheet, row: &Row) -> String {
+    let distance = row.distance.map_or("null".to_string(), |d| d.to_string());
+    let mut text = format!("{{\"pair\": {}, \"u\": {}, \"v\": {}, \"distance\": {distance}", string(&row.label), row.u, row.v);
+    for (c, column) in sheet.columns.iter().enumerate() {
+        let list = |cell: fn(f64) -> String| row.values.iter().map(|of_beta| cell(of_beta[c])).collect::<Vec<_>>().join(", ");
+        text += &format!(", {}: [{}]", string(column), list(|x| format!("{x:?}")));
+        if sheet.bits {
+            text += &format!(", {}: [{}]", string(&format!("{column} bits")), list(|x| string(&bits(x))));
+        }
+    }
+    text + "}"
+}
+
+/// Quoted; control characters, quotes and backslashes by their escapes.
+fn string(text: &str) -> String {
+    let escaped: String = text
+        .chars()
+        .map(|c| match c {
+            '"' | '\\' => format!("\\{c}"),
+            c if c < ' ' => format!("\\u{:04x}", c as u32),
+            c => c.to_string(),
+        })
+        .collect();
+    format!("\"{escaped}\"")
+}
+
+#[cfg(test)]
+mod tests {
+    use super::string;
+
+    #[test]
+    fn strings_are_escaped() {
+        assert_eq!(string("a\"\\\n"), "\"a\\\"\\\\\\u000a\"");
+    }
+}

@@ -1,0 +1,62 @@
+//! The program that makes a sheet: `sheet --help` tells its options.
+
+mod board;
+mod cost;
+mod data;
+mod options;
+mod output;
+mod plot;
+mod sheet;
+mod source;
+mod text;
+mod trouble;
+
+use board::Board;
+use cost::{tell, work_memory, Cost, Progress};
+use options::{Asked, Format, Options};
+use sheet::Sheet;
+use std::process::ExitCode;
+use trouble::Trouble;
+
+/// The sheet as its format spells it.
+fn make(options: &Options) -> Result<String, Trouble> {
+    let board = Board::new(options)?;
+    let source = source::chosen(options, &board)?;
+    let cost = Cost::of(&board, source.sweeps());
+    cost.say();
+    let mut work = work_memory(&board)?;
+    let progress = Progress::new(&cost);
+    let values = source.values(&board, &mut work, &mut |done| progress.done(done, board.betas.len()));
+    progress.end();
+    let sheet = Sheet::new(&board, source.as_ref(), values?, options.bits);
+    Ok(match options.format {
+        Format::Text => text::text(&sheet),
+        Format::Csv => data::csv(&sheet),
+        Format::Json => data::json(&sheet),
+        Format::Svg => plot::svg(&sheet),
+    })
+}
+
+fn run(words: &[String]) -> Result<(), Trouble> {
+    match options::parse(words)? {
+        Asked::Help => output::to_stdout(options::HELP),
+        Asked::Sheet(options) => {
+            let text = make(&options)?;
+            match &options.output {
+                None => output::to_stdout(&text),
+                Some(path) => output::to_file(path, &text),
+            }
+        }
+    }
+}
+
+fn main() -> ExitCode {
+    let words: Vec<String> = std::env::args_os().skip(1).map(|w| w.to_string_lossy().into_owned()).collect();
+    match run(&words) {
+        Ok(()) => ExitCode::SUCCESS,
+        Err(trouble) => {
+            tell(&format!("sheet: {trouble}\n"));
+            ExitCode::from(trouble.status())
+        }
+    }
+}

@@ -1,0 +1,56 @@
+//! A sheet: a table of values with what they are of.
+
+use crate::board::Board;
+use crate::source::{Source, Values};
+
+pub struct Row {
+    pub label: String,
+    pub u: usize,
+    pub v: usize,
+    pub distance: Option<usize>,
+    /// By beta, then by column.
+    pub values: Vec<Vec<f64>>,
+}
+
+pub struct Sheet {
+    pub kind: String,
+    pub boundary: String,
+    pub width: usize,
+    pub length: usize,
+    pub title: String,
+    pub source: String,
+    pub manner: &'static str,
+    /// As they were written.
+    pub betas: Vec<String>,
+    pub columns: &'static [&'static str],
+    pub rows: Vec<Row>,
+    pub bits: bool,
+}
+
+impl Sheet {
+    pub fn new(board: &Board, source: &dyn Source, values: Values, bits: bool) -> Sheet {
+        let row = |i: usize| {
+            let pair = &board.pairs[i];
+            let values = values.iter().map(|of_beta| of_beta[i].clone()).collect();
+            Row { label: pair.label.clone(), u: pair.u, v: pair.v, distance: board.distances[i], values }
+        };
+        Sheet {
+            kind: board.strip.kind.name(),
+            boundary: board.strip.boundary(),
+            width: board.strip.width,
+            length: board.strip.length,
+            title: board.title(),
+            source: source.title(),
+            manner: if board.manner == copperhook::Manner::Block { "block" } else { "element" },
+            betas: board.betas.iter().map(|b| b.text.clone()).collect(),
+            columns: source.columns(),
+            rows: (0..board.pairs.len()).map(row).collect(),
+            bits,
+        }
+    }
+}
+
+/// The bits of a double, as every format spells them.
+pub fn bits(x: f64) -> String {
+    format!("0x{:016x}", x.to_bits())
+}

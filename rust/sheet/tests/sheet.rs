@@ -1,0 +1,182 @@
+//! The program as it is run: what it prints, writes and refuses.
+
+use oracle::glass::{correlations, Plan};
+use oracle::lattice::{Graph, Kind, Strip};
+use oracle::rng::Rng;
+use std::io::Read;
+use std::path::PathBuf;
+use std::process::{Command, Output, Stdio};
+
+fn sheet(line: &str) -> Output {
+    Command::new(env!("CARGO_BIN_EXE_sheet")).args(line.split_whitespace()).output().unwrap()
+}
+
+fn printed(line: &str) -> String {
+    let output = sheet(line);
+    assert!(output.status.success() && output.stderr.is_empty(), "{line}: {}", String::from_utf8_lossy(&output.stderr));
+    String::from_utf8(output.stdout).unwrap()
+}
+
+fn folder(name: &str) -> PathBuf {
+    let folder = PathBuf::from(env!("CARGO_TARGET_TMPDIR")).join(name);
+    let _ = std::fs::remove_dir_all(&folder);
+    std::fs::create_dir_all(&folder).unwrap();
+    folder
+}
+
+const SQUARE: &str = "--kind square --width 2 --length 2 --beta 0.6931471805599453";
+
+#[test]
+fn the_settled_square() {
+    let expected = "\
+square strip, free, 2 by 2: 4 vertices, 4 kept edges, window 2
+signs +++-; manner block
+
+pair              u  v  distance  beta 0.6931471805599453
+corner-adj-a      0  1         1           0.441176470588
+corner-adj-l      0  2         1           0.441176470588
+short-end-to-end  0  1         1           0.441176470588
+end-to-end-l      0  2         1           0.441176470588
+opp-corners       0  3         2           0.000000000000
+";
+    assert_eq!(printed(&format!("{SQUARE} --signs +++-")), expected);
+    let first = |line: &str| printed(&format!("{SQUARE} --format csv --bits {line}")).lines().nth(1).unwrap().to_string();
+    let row = format!("square,free,2,2,0.6931471805599453,corner-adj-a,0,1,1,{:?},0x{:016x}", 255.0 / 353.0, (255.0f64 / 353.0).to_bits());
+    assert_eq!(first(""), row);
+    assert_eq!(first("--signs ++++"), row);
+}
+
+/// The original's answers for a strip's standard pairs, its signs drawn as the program draws them.
+fn original(strip: &Strip, graph: &Graph, beta: f64, seed: u64) -> Vec<(String, u64)> {
+    let mut rng = Rng::stream(seed, 0);
+    let mut word = 0;
+    let mut couplings = Vec::new();
+    for (e, m) in graph.mag.iter().enumerate() {
+        if e % 64 == 0 {
+            word = rng.next_u64();
+        }
+        let sign = if word >> (e % 64) & 1 == 0 { 1.0 } else { -1.0 };
+        couplings.push(beta * m * sign);
+    }
+    let pairs: Vec<(usize, usize)> = strip.pairs().iter().map(|p| (p.1, p.2)).collect();
+    let plan = Plan::new(graph, &pairs);
+    let mut out = vec![0.0; pairs.len()];
+    correlations(&plan, &couplings, &mut plan.work(), &mut out);
+    strip.pairs().into_iter().zip(out).map(|(p, x)| (p.0, x.to_bits())).collect()
+}
+
+/// Labels and bits of a table of comma-separated values.
+fn labels_and_bits(csv: &str) -> Vec<(String, u64)> {
+    let cell = |line: &str, i: usize| line.split(',').nth(i).unwrap().to_string();
+    csv.lines().skip(1).map(|line| (cell(line, 5), u64::from_str_radix(&cell(line, 10)[2..], 16).unwrap())).collect()
+}
+
+#[test]
+fn strips_are_the_originals() {
+    for (kind, name, w, l, periodic) in [
+        (Kind::Square, "square", 4, 6, false),
+        (Kind::Square, "sq", 5, 7, true),
+        (Kind::Tri, "tri", 3, 8, true),
+        (Kind::Tri, "triangular", 6, 5, false),
+        (Kind::Honey, "honey", 4, 9, true),
+        (Kind::Honey, "hex", 7, 4, false),
+    ] {
+        let strip = Strip { kind, w, l, periodic };
+        let cylinder = if periodic { "--cylinder" } else { "" };
+        let line = format!("--kind {name} --width {w} --length {l} {cylinder} --beta 0.7 --seed 12 --format csv --bits");
+        assert_eq!(labels_and_bits(&printed(&line)), original(&strip, &strip.graph(), 0.7, 12), "{line}");
+        let diluted = strip.diluted(0.8, 0.5, 1.5, 99);
+        assert_eq!(labels_and_bits(&printed(&format!("{line} --dilute 0.8,0.5,1.5,99"))), original(&strip, &diluted, 0.7, 12), "{line}");
+    }
+}
+
+#[test]
+fn other_formats() {
+    let json = printed(&format!("{SQUARE} --format json --bits"));
+    assert!(
+        json.contains("\"pair\": \"opp-corners\", \"u\": 0, \"v\": 3, \"distance\": 2, \"correlation\": [0.6373937677053825]"),
+        "{json}"
+    );
+    assert_eq!(json.matches('{').count(), json.matches('}').count());
+    let svg = printed("--kind tri --width 4 --length 8 --beta 0.2,0.5,1 --seed 3 --format svg");
+    assert!(svg.starts_with("<svg ") && svg.ends_with("</svg>\n"));
+    assert_eq!(svg.matches("<polyline").count(), 3);
+    assert_eq!(svg.matches("<g ").count(), svg.matches("</g>").count());
+    let apart = printed("--kind square --width 1 --length 3 --beta 1 --dilute 0,1,1,5 --pairs 0-2,1-0");
+    assert!(apart.contains("\n0-2   0  2         -  0.000000000000\n"), "{apart}");
+    assert_eq!(printed("--help"), printed("-h --kind"));
+}
+
+#[test]
+fn troubles_name_the_option_and_the_number() {
+    for (line, told) in [
+        ("--kind square --width 4 --length 6", "sheet: --beta: it is missing; sheet --help tells the options\n"),
+        ("--kind cube", "sheet: --kind cube: there is no such kind: square, tri or honey\n"),
+        (
+            "--kind square --width 40 --length 40 --beta 1",
+            "sheet: --width 40 --length 40: a strip side is 0, or the sides multiply above 1,024 (refusal 15)\n",
+        ),
+        ("--kind square --width 25 --length 3 --beta 1", "sheet: --width 25 --length 3: the window is above 24 (refusal 6)\n"),
+        (
+            "--kind hex --width 3 --length 4 --cylinder --beta 1",
+            "sheet: --cylinder --width 3: a honeycomb cylinder has odd width (refusal 16)\n",
+        ),
+        (
+            "--kind sq --width 2 --length 2 --beta 1 --pairs 0-1,2-4",
+            "sheet: --pairs 0-1,2-4: a pair has equal ends or an end outside the graph (refusal 8)\n",
+        ),
+        (
+            "--kind sq --width 2 --length 2 --beta 1,nan",
+            "sheet: --beta 1,nan: a magnitude or beta isn't finite, or its size is above 1,024 (refusal 4)\n",
+        ),
+        (
+            "--kind sq --width 2 --length 2 --beta 800",
+            "sheet: --beta 800: the factor list has another length, or an entry isn't finite and above zero (refusal 10)\n",
+        ),
+        (
+            "--kind sq --width 2 --length 2 --beta 700",
+            "sheet: --beta 700: some pair's partition sum Z isn't finite and above zero (refusal 14)\n",
+        ),
+        (
+            "--kind sq --width 2 --length 2 --beta 1 --dilute 0.5,0,inf,3",
+            "sheet: --dilute 0.5,0,inf,3: keep isn't finite, or a magnitude bound isn't finite or its size is above 1,024 (refusal 17)\n",
+        ),
+        ("--kind sq --width 2 --length 2 --beta 1 --signs +-", "sheet: --signs: it has 2 signs, and the strip 4 kept edges\n"),
+    ] {
+        let output = sheet(line);
+        assert_eq!(String::from_utf8_lossy(&output.stderr), told);
+        assert!(output.status.code() == Some(2) && output.stdout.is_empty(), "{line}");
+    }
+}
+
+#[test]
+fn a_file_is_there_whole_or_not_at_all() {
+    let folder = folder("output");
+    let file = folder.join("square.txt");
+    for _ in 0..2 {
+        assert_eq!(printed(&format!("{SQUARE} --output {}", file.display())), "");
+        assert_eq!(std::fs::read_to_string(&file).unwrap(), printed(SQUARE));
+    }
+    let refused = sheet(&format!("{SQUARE} --signs + --output {}", folder.join("none").display()));
+    assert_eq!(refused.status.code(), Some(2));
+    assert_eq!(std::fs::read_dir(&folder).unwrap().count(), 1);
+    let nowhere = sheet(&format!("{SQUARE} --output {}", folder.join("none/none").display()));
+    assert_eq!(nowhere.status.code(), Some(1));
+    assert!(String::from_utf8_lossy(&nowhere.stderr).starts_with("sheet: --output "));
+    assert_eq!(printed(&format!("{SQUARE} --output /dev/null")), "");
+    assert!(!std::fs::metadata("/dev/null").unwrap().is_file());
+}
+
+#[test]
+fn a_closed_pipe_ends_it_quietly() {
+    let mut child = Command::new(env!("CARGO_BIN_EXE_sheet"))
+        .args(SQUARE.split_whitespace())
+        .stdout(Stdio::piped())
+        .stderr(Stdio::piped())
+        .spawn()
+        .unwrap();
+    drop(child.stdout.take());
+    let mut told = String::new();
+    child.stderr.take().unwrap().read_to_string(&mut told).unwrap();
+    assert!(child.wait().unwrap().success() && told.is_empty(), "{told}");
+}
