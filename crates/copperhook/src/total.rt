@@ -145,8 +145,8 @@ pub extern "C" fn copperhook_sample(
         work,
     );
     match answer {
-        Answer::Number(configurations) => {
-            *count = configurations;
+        Answer::Number(drawn) => {
+            *count = drawn;
             0
         }
         Answer::Refused(number) => number,

@@ -1,8 +1,9 @@
 -- The job of a call that passes its checks is what the theorems of the definition ask for.
 use mathlib.Core.Path.{_≡_, refl, sym, ap, _∙_, subst}
-use mathlib.Core.Bool.{Bool, true, false, not, _&&_}
+use mathlib.Core.Bool.{Bool, true, false, cond, not, _&&_}
 use mathlib.Core.List.{List}
-use Prim.Native.Nat.{ℕ, _+_, _-_, _≤_, _<_}
+use Prim.Native.Nat.{ℕ, _+_, _-_, _*_, _≤_, _<_}
+use native.Mathlib.Nat.{mul-le-mul-right}
 use native.Mathlib.Omega.{arith}
 use lib.Dec.{T, eqb}
 use lib.Ieee.{Float, nan}
@@ -11,15 +12,17 @@ use lib.ListN.{length, getD, length-map}
 use borrow.Author.Tests.{eq-eqb}
 use Rattle.vector.specs.Search.{some, none-at}
 use Rattle.vector.specs.Most.{most-above}
-use Rattle.transfer.specs.Job.{Edge, Job, longest, windowOf}
-use Rattle.transfer.specs.Configuration.{edgesWith}
+use Rattle.transfer.specs.Job.{Edge, Manner, Job, longest, windowOf}
+use Rattle.transfer.specs.Configuration.{lentAt, edgesWith, configured}
 use Rattle.transfer.specs.Checked.{Kept, SameEnds, Checked}
 use Rattle.checks.specs.Edges.{kept, earlyEnds, lateEnds, windowFrom}
-use Rattle.checks.specs.Request.{sameEnds, joinedTwice}
+use Rattle.checks.specs.Request.{sameEnds, joinedTwice, signedFactors}
 use Rattle.checks.specs.Accepted.{kept-inside}
-use Rattle.checks.specs.AcceptedJob.{AcceptedCorrelations, passes-positive}
-use Rattle.glass.specs.Correlations.{jobGiven}
-use Rattle.glass.specs.declared.Manner.{Manner}
+use Rattle.checks.specs.AcceptedJob.{AcceptedJob, AcceptedCorrelations, passes-positive}
+use Rattle.checks.specs.AcceptedTotals.{AcceptedTotals}
+use Rattle.glass.specs.Correlations.{mannerOf, jobGiven}
+use Rattle.glass.specs.declared.Manner as Given
+use Rattle.totals.specs.Jobs.{jobSigned}
 use Rattle.demands.specs.Lists.{all-made, apart-made}
 
 -- no edge is longer than the window
@@ -36,36 +39,60 @@ ends-differ early late h i j a b p q =
     let u : true ≡ false = sym (rw (eq-eqb _ _ p, eq-eqb _ _ q)) ∙ t in
     (let z : _≡_ {A = ℕ} 0 1 = cc in omega arith)
 
-module _ (n floor : ℕ) (a b : List ℕ) (m : List Float) (us vs : List ℕ) (factors : List Float) (results work : ℕ) (manner : Manner)
-    (ok : AcceptedCorrelations n floor a b m us vs factors results work) where
-  abbrev job : Job Float
-  job = jobGiven n floor a b m factors manner
-
+-- the kept edges with a factor each that is finite and above zero
+module _ (n floor : ℕ) (a b : List ℕ) (m : List Float) (us vs : List ℕ) (manner : Manner) (ok : AcceptedJob n floor a b m us vs) (factor : ℕ → Float)
+    (sound : (e : ℕ) → e < length (kept a b m) → T (positive (factor e))) where
   abbrev early : List ℕ
   early = earlyEnds (kept a b m)
 
   abbrev late : List ℕ
   late = lateEnds (kept a b m)
 
+  abbrev pub jobMade : Job Float
+  jobMade = record { last = n - 1; window = windowFrom floor a b m; edges = edgesWith early late factor; manner = manner }
+
   abbrev edgeAt : ℕ → Edge Float
-  edgeAt e = record { early = getD early e 0; late = getD late e 0; factor = getD factors e nan }
+  edgeAt e = record { early = getD early e 0; late = getD late e 0; factor = factor e }
 
-  edge-kept : (e : ℕ) → e < length early → Kept (λ x. T (positive x)) job (edgeAt e)
+  edge-kept : (e : ℕ) → e < length early → Kept (λ x. T (positive x)) jobMade (edgeAt e)
   edge-kept e l =
-      let g = ok .job .graph in
       let k : e < length (kept a b m) = omega (arith, length-map (kept a b m) (λ x. x .early)) in
-      let i = kept-inside n a b m (g .edges) e k in
-      record {
-        ordered = i .0;
-        inside = omega (arith, i .1);
-        reached = omega (arith, reaches floor early late e l);
-        passed = passes-positive (getD factors e nan) (ok .lists .factors-pass e k);
-      }
+      let i = kept-inside n a b m (ok .graph .edges) e k in
+      record { ordered = i .0; inside = omega (arith, i .1); reached = omega (arith, reaches floor early late e l); passed = sound e k }
 
-  pub checked-given : Checked (λ x. T (positive x)) job
+  pub checked-made : Checked (λ x. T (positive x)) jobMade
   unfolding edgesWith
-  checked-given = record {
-    window = ok .job .wide;
-    edges = all-made (Kept (λ x. T (positive x)) job) edgeAt (length early) edge-kept;
-    apart = apart-made edgeAt (length early) (λ i j p q s. ends-differ early late (ok .job .graph .apart) i j p q (s .0) (s .1));
+  checked-made = record {
+    window = ok .wide;
+    edges = all-made (Kept (λ x. T (positive x)) jobMade) edgeAt (length early) edge-kept;
+    apart = apart-made edgeAt (length early) (λ i j p q s. ends-differ early late (ok .graph .apart) i j p q (s .0) (s .1));
   }
+
+-- of `correlations`: one factor for each kept edge
+pub checked-given : (n floor : ℕ) (a b : List ℕ) (m : List Float) (us vs : List ℕ) (factors : List Float) (results work : ℕ) (manner : Given.Manner)
+    → AcceptedCorrelations n floor a b m us vs factors results work → Checked (λ x. T (positive x)) (jobGiven n floor a b m factors manner)
+checked-given n floor a b m us vs factors results work manner ok =
+    checked-made n floor a b m us vs (mannerOf manner) (ok .job) (λ e. getD factors e nan) (λ e l. passes-positive (getD factors e nan) (ok .lists .factors-pass e l))
+
+-- of totals: two factors for each beta and kept edge
+module _ (n floor : ℕ) (a b : List ℕ) (m : List Float) (us vs : List ℕ) (betas factors : List Float) (misfit : Bool) (work : ℕ) (manner : Given.Manner)
+    (ok : AcceptedTotals n floor a b m us vs betas factors misfit work) where
+  lent-inside : (edges b e : ℕ) (minus : Bool) → e < edges → b < length betas → lentAt edges b e minus < signedFactors (length betas) edges
+  lent-inside edges b e minus l k =
+      let h : (b + 1) * edges ≤ length betas * edges = mul-le-mul-right edges (omega arith) in
+      let s = sign-small minus in
+      omega arith
+    where
+      sign-small : (s : Bool) → cond s 1 0 ≤ 1
+      sign-small true = omega arith
+      sign-small false = omega arith
+
+  pub checked-signed : (minus : ℕ → Bool) (beta : ℕ) → beta < length betas
+      → Checked (λ x. T (positive x)) (jobSigned n (windowFrom floor a b m) (earlyEnds (kept a b m)) (lateEnds (kept a b m)) factors (mannerOf manner) minus beta)
+  unfolding configured
+  checked-signed minus beta l =
+      let c : length (earlyEnds (kept a b m)) ≡ length (kept a b m) = length-map (kept a b m) (λ x. x .early) in
+      checked-made n floor a b m us vs (mannerOf manner) (ok .job)
+      (λ e. getD factors (lentAt (length (earlyEnds (kept a b m))) beta e (minus e)) nan)
+      (λ e k. passes-positive _ (ok .factors-pass (lentAt (length (earlyEnds (kept a b m))) beta e (minus e))
+      (rw c (lent-inside (length (kept a b m)) beta e (minus e) k l))))

@@ -2,3 +2,4 @@
 pub mod Lists
 pub mod Given
 pub mod Correlations
+pub mod Totals

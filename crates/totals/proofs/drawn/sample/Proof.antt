@@ -43,21 +43,21 @@ returns c = sampling-refused-early _ _ _ _ _ _ _ _ _ _ _ _ _ _ _ _ _ _ (c .befor
 mul-check-sampling : tie.Need-mul-check-sampling
 mul-check-sampling c =
     let j = c .before .before .before .before .check-with-betas .ensures in
-    omega (arith, few-products _ _ (j .betas-pass (omega arith) .few) (j .ready (omega arith) .passed .few-pairs))
+    omega (arith, few-products _ _ (j .betas-pass (c .if1 .left) .few) (j .ready (c .if1 .left) .passed .few-pairs))
 
 -- src/drawn.rt:72:9
 check-sampling-requires : tie.Need-check-sampling-requires
 check-sampling-requires c κs =
     let j = c .before .before .before .before .check-with-betas .ensures in
-    let g = j .ready (omega arith) in
-    (g .pairs, g .edges .few, g .edges .narrow, g .few-edges, j .betas-pass (omega arith) .few)
+    let g = j .ready (c .if1 .left) in
+    (g .pairs, g .edges .few, g .edges .narrow, g .few-edges, j .betas-pass (c .if1 .left) .few)
 
 -- src/drawn.rt:89:9
 returns-2 : tie.Need-returns-2
 returns-2 c =
     let a = c .before .before .before .before .before .before .before .before .before .before .before .before .before .before .before .before .before .before .before .before .args in
     let j = c .before .before .before .before .before .before .check-with-betas .ensures in
-    let g = j .ready (omega arith) in
+    let g = j .ready (c .before .before .if1 .left) in
     sampling-refused-lists _ _ _ _ _ _ _ (a .betas .now) (a .factors .now) _ (a .squares .now) (a .fourths .now) (a .work .now) _ _ _ _ _ (omega (arith, j .refusal))
     (c .before .check-sampling .ensures ∙ sampling-lists g (length (a .betas .now)) (a .factors .now) (a .from) (a .to) (a .samples) (misfits (length (a .betas .now) * length (a .us .now)) (length (a .squares .now)) (length (a .fourths .now))) (length (a .work .now))) (λ z. omega arith)
 
@@ -67,28 +67,28 @@ is-each-requires c κs = search needs
 
 -- src/drawn.rt:95:9
 array-share-prefix-early : tie.Need-array-share-prefix-early
-array-share-prefix-early c = early-fits (c .before .before .before .before .before .before .before .check-with-betas .ensures .ready (omega arith) .written)
+array-share-prefix-early c = early-fits (c .before .before .before .before .before .before .before .check-with-betas .ensures .ready (c .before .before .before .if1 .left) .written)
 
 -- src/drawn.rt:95:9
 slice-aggregate-sample-job : tie.Need-slice-aggregate-sample-job
-slice-aggregate-sample-job c = early-part (c .before .before .before .before .before .before .before .before .check-with-betas .ensures .ready (omega arith) .written)
+slice-aggregate-sample-job c = early-part (c .before .before .before .before .before .before .before .before .check-with-betas .ensures .ready (c .before .before .before .before .if1 .left) .written)
 
 -- src/drawn.rt:96:9
 array-share-prefix-late : tie.Need-array-share-prefix-late
-array-share-prefix-late c = late-fits (c .before .before .before .before .before .before .before .before .check-with-betas .ensures .ready (omega arith) .written)
+array-share-prefix-late c = late-fits (c .before .before .before .before .before .before .before .before .check-with-betas .ensures .ready (c .before .before .before .before .if1 .left) .written)
 
 -- src/drawn.rt:96:9
 slice-aggregate-sample-job-2 : tie.Need-slice-aggregate-sample-job-2
-slice-aggregate-sample-job-2 c = late-part (c .before .before .before .before .before .before .before .before .before .check-with-betas .ensures .ready (omega arith) .written)
+slice-aggregate-sample-job-2 c = late-part (c .before .before .before .before .before .before .before .before .before .check-with-betas .ensures .ready (c .before .before .before .before .before .if1 .left) .written)
 
 -- src/drawn.rt:92:8
 sample-job-requires : tie.Need-sample-job-requires
 sample-job-requires c κs =
     let a = c .before .before .before .before .before .before .before .before .before .before .before .before .before .before .before .before .before .before .before .before .before .before .before .before .before .before .args in
     let j = c .before .before .before .before .before .before .before .before .before .before .before .before .check-with-betas .ensures in
-    let g = j .ready (omega arith) in
-    let few = j .betas-pass (omega arith) .few in
-    let none : c .before .before .before .before .before .before .before .check-sampling .result ≡ 0 = omega arith in
+    let g = j .ready (c .before .before .before .before .before .before .before .before .if1 .left) in
+    let few = j .betas-pass (c .before .before .before .before .before .before .before .before .if1 .left) .few in
+    let none : c .before .before .before .before .before .before .before .check-sampling .result ≡ 0 = c .before .before .before .before .before .before .if2 .left in
     let z = sym (c .before .before .before .before .before .before .before .check-sampling .ensures) ∙ none in
     let p = sampling-passed g (length (a .betas .now)) (a .factors .now) (a .from) (a .to) (a .samples) (misfits (length (a .betas .now) * length (a .us .now)) (length (a .squares .now)) (length (a .fourths .now))) (length (a .work .now)) few z in
     let f = fits-both (length (a .betas .now) * length (a .us .now)) (length (a .squares .now)) (length (a .fourths .now)) (p .1) in
@@ -99,9 +99,9 @@ sampled-count-requires : tie.Need-sampled-count-requires
 sampled-count-requires c κs =
     let a = c .before .before .before .before .before .before .before .before .before .before .before .before .before .before .before .before .before .before .before .before .before .before .before .before .before .before .before .before .before .before .before .before .before .before .args in
     let j = c .before .before .before .before .before .before .before .before .before .before .before .before .before .before .before .before .before .before .before .before .check-with-betas .ensures in
-    let g = j .ready (omega arith) in
-    let few = j .betas-pass (omega arith) .few in
-    let none : c .before .before .before .before .before .before .before .before .before .before .before .before .before .before .before .check-sampling .result ≡ 0 = omega arith in
+    let g = j .ready (c .before .before .before .before .before .before .before .before .before .before .before .before .before .before .before .before .if1 .left) in
+    let few = j .betas-pass (c .before .before .before .before .before .before .before .before .before .before .before .before .before .before .before .before .if1 .left) .few in
+    let none : c .before .before .before .before .before .before .before .before .before .before .before .before .before .before .before .check-sampling .result ≡ 0 = c .before .before .before .before .before .before .before .before .before .before .before .before .before .before .if2 .left in
     let z = sym (c .before .before .before .before .before .before .before .before .before .before .before .before .before .before .before .check-sampling .ensures) ∙ none in
     let p = sampling-passed g (length (a .betas .now)) (a .factors .now) (a .from) (a .to) (a .samples) (misfits (length (a .betas .now) * length (a .us .now)) (length (a .squares .now)) (length (a .fourths .now))) (length (a .work .now)) few z in
     p .2
@@ -123,9 +123,9 @@ returns-3 : tie.Need-returns-3
 returns-3 c =
     let a = c .before .before .before .before .before .before .before .before .before .before .before .before .before .before .before .before .before .before .before .before .before .before .before .before .before .before .before .before .before .before .before .before .before .before .before .args in
     let j = c .before .before .before .before .before .before .before .before .before .before .before .before .before .before .before .before .before .before .before .before .before .check-with-betas .ensures in
-    let g = j .ready (omega arith) in
-    let few = j .betas-pass (omega arith) .few in
-    let none : c .before .before .before .before .before .before .before .before .before .before .before .before .before .before .before .before .check-sampling .result ≡ 0 = omega arith in
+    let g = j .ready (c .before .before .before .before .before .before .before .before .before .before .before .before .before .before .before .before .before .if1 .left) in
+    let few = j .betas-pass (c .before .before .before .before .before .before .before .before .before .before .before .before .before .before .before .before .before .if1 .left) .few in
+    let none : c .before .before .before .before .before .before .before .before .before .before .before .before .before .before .before .before .check-sampling .result ≡ 0 = c .before .before .before .before .before .before .before .before .before .before .before .before .before .before .before .if2 .left in
     let z = sym (c .before .before .before .before .before .before .before .before .before .before .before .before .before .before .before .before .check-sampling .ensures) ∙ none in
     let p = sampling-passed g (length (a .betas .now)) (a .factors .now) (a .from) (a .to) (a .samples) (misfits (length (a .betas .now) * length (a .us .now)) (length (a .squares .now)) (length (a .fourths .now))) (length (a .work .now)) few z in
     let f = fits-both (length (a .betas .now) * length (a .us .now)) (length (a .squares .now)) (length (a .fourths .now)) (p .1) in
@@ -151,9 +151,9 @@ returns-4 : tie.Need-returns-4
 returns-4 c =
     let a = c .before .before .before .before .before .before .before .before .before .before .before .before .before .before .before .before .before .before .before .before .before .before .before .before .before .before .before .before .before .before .before .before .before .before .args in
     let j = c .before .before .before .before .before .before .before .before .before .before .before .before .before .before .before .before .before .before .before .before .check-with-betas .ensures in
-    let g = j .ready (omega arith) in
-    let few = j .betas-pass (omega arith) .few in
-    let none : c .before .before .before .before .before .before .before .before .before .before .before .before .before .before .before .check-sampling .result ≡ 0 = omega arith in
+    let g = j .ready (c .before .before .before .before .before .before .before .before .before .before .before .before .before .before .before .before .if1 .left) in
+    let few = j .betas-pass (c .before .before .before .before .before .before .before .before .before .before .before .before .before .before .before .before .if1 .left) .few in
+    let none : c .before .before .before .before .before .before .before .before .before .before .before .before .before .before .before .check-sampling .result ≡ 0 = c .before .before .before .before .before .before .before .before .before .before .before .before .before .before .if2 .left in
     let z = sym (c .before .before .before .before .before .before .before .before .before .before .before .before .before .before .before .check-sampling .ensures) ∙ none in
     let p = sampling-passed g (length (a .betas .now)) (a .factors .now) (a .from) (a .to) (a .samples) (misfits (length (a .betas .now) * length (a .us .now)) (length (a .squares .now)) (length (a .fourths .now))) (length (a .work .now)) few z in
     let f = fits-both (length (a .betas .now) * length (a .us .now)) (length (a .squares .now)) (length (a .fourths .now)) (p .1) in

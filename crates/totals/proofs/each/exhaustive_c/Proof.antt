@@ -46,47 +46,47 @@ returns c = storing-refused-early _ _ _ _ _ _ _ _ _ _ _ _ _ (c .before .before .
 
 -- src/each.rt:69:30
 array-share-prefix-early : tie.Need-array-share-prefix-early
-array-share-prefix-early c = early-fits (c .before .before .before .before .check-with-betas .ensures .ready (omega arith) .written)
+array-share-prefix-early c = early-fits (c .before .before .before .before .check-with-betas .ensures .ready (c .if1 .left) .written)
 
 -- src/each.rt:69:30
 slice-aggregate-cyclomatic : tie.Need-slice-aggregate-cyclomatic
-slice-aggregate-cyclomatic c = early-part (c .before .before .before .before .before .check-with-betas .ensures .ready (omega arith) .written)
+slice-aggregate-cyclomatic c = early-part (c .before .before .before .before .before .check-with-betas .ensures .ready (c .before .if1 .left) .written)
 
 -- src/each.rt:69:47
 array-share-prefix-late : tie.Need-array-share-prefix-late
-array-share-prefix-late c = late-fits (c .before .before .before .before .before .check-with-betas .ensures .ready (omega arith) .written)
+array-share-prefix-late c = late-fits (c .before .before .before .before .before .check-with-betas .ensures .ready (c .before .if1 .left) .written)
 
 -- src/each.rt:69:47
 slice-aggregate-cyclomatic-2 : tie.Need-slice-aggregate-cyclomatic-2
-slice-aggregate-cyclomatic-2 c = late-part (c .before .before .before .before .before .before .check-with-betas .ensures .ready (omega arith) .written)
+slice-aggregate-cyclomatic-2 c = late-part (c .before .before .before .before .before .before .check-with-betas .ensures .ready (c .before .before .if1 .left) .written)
 
 -- src/each.rt:69:9
 cyclomatic-requires : tie.Need-cyclomatic-requires
-cyclomatic-requires c κs = let g = c .before .before .before .before .before .before .check-with-betas .ensures .ready (omega arith) in (rw (front-early (g .written), front-late (g .written)) (joins (g .edges)), g .edges .few)
+cyclomatic-requires c κs = let g = c .before .before .before .before .before .before .check-with-betas .ensures .ready (c .before .before .if1 .left) in (rw (front-early (g .written), front-late (g .written)) (joins (g .edges)), g .edges .few)
 
 -- src/each.rt:80:22
 mul-stored-count : tie.Need-mul-stored-count
 mul-stored-count c =
     let j = c .before .before .before .before .before .before .before .check-with-betas .ensures in
-    omega (arith, few-products _ _ (j .betas-pass (omega arith) .few) (j .ready (omega arith) .passed .few-pairs))
+    omega (arith, few-products _ _ (j .betas-pass (c .before .before .before .if1 .left) .few) (j .ready (c .before .before .before .if1 .left) .passed .few-pairs))
 
 -- src/each.rt:80:9
 stored-count-requires : tie.Need-stored-count-requires
-stored-count-requires c κs = let j = c .before .before .before .before .before .before .before .check-with-betas .ensures in few-products _ _ (j .betas-pass (omega arith) .few) (j .ready (omega arith) .passed .few-pairs)
+stored-count-requires c κs = let j = c .before .before .before .before .before .before .before .check-with-betas .ensures in few-products _ _ (j .betas-pass (c .before .before .before .if1 .left) .few) (j .ready (c .before .before .before .if1 .left) .passed .few-pairs)
 
 -- src/each.rt:70:9
 check-enumeration-requires : tie.Need-check-enumeration-requires
 check-enumeration-requires c κs =
     let j = c .before .before .before .before .before .before .before .before .check-with-betas .ensures in
-    let g = j .ready (omega arith) in
-    (g .pairs, g .edges .few, g .edges .narrow, g .few-edges, j .betas-pass (omega arith) .few)
+    let g = j .ready (c .before .before .before .before .if1 .left) in
+    (g .pairs, g .edges .few, g .edges .narrow, g .few-edges, j .betas-pass (c .before .before .before .before .if1 .left) .few)
 
 -- src/each.rt:86:9
 returns-2 : tie.Need-returns-2
 returns-2 c =
     let a = c .before .before .before .before .before .before .before .before .before .before .before .before .before .before .before .before .before .before .before .before .before .before .before .args in
     let j = c .before .before .before .before .before .before .before .before .before .before .check-with-betas .ensures in
-    let g = j .ready (omega arith) in
+    let g = j .ready (c .before .before .before .before .before .before .if1 .left) in
     let h = c .before .before .before .cyclomatic .ensures .1 in
     let w = c .before .before .stored-count in
     let size = length (a .stored .now) in
@@ -102,31 +102,31 @@ is-each-requires c κs = search needs
 
 -- src/each.rt:92:9
 array-share-prefix-early-2 : tie.Need-array-share-prefix-early-2
-array-share-prefix-early-2 c = early-fits (c .before .before .before .before .before .before .before .before .before .before .before .check-with-betas .ensures .ready (omega arith) .written)
+array-share-prefix-early-2 c = early-fits (c .before .before .before .before .before .before .before .before .before .before .before .check-with-betas .ensures .ready (c .before .before .before .before .before .before .before .if1 .left) .written)
 
 -- src/each.rt:92:9
 slice-aggregate-store-job : tie.Need-slice-aggregate-store-job
-slice-aggregate-store-job c = early-part (c .before .before .before .before .before .before .before .before .before .before .before .before .check-with-betas .ensures .ready (omega arith) .written)
+slice-aggregate-store-job c = early-part (c .before .before .before .before .before .before .before .before .before .before .before .before .check-with-betas .ensures .ready (c .before .before .before .before .before .before .before .before .if1 .left) .written)
 
 -- src/each.rt:93:9
 array-share-prefix-late-2 : tie.Need-array-share-prefix-late-2
-array-share-prefix-late-2 c = late-fits (c .before .before .before .before .before .before .before .before .before .before .before .before .check-with-betas .ensures .ready (omega arith) .written)
+array-share-prefix-late-2 c = late-fits (c .before .before .before .before .before .before .before .before .before .before .before .before .check-with-betas .ensures .ready (c .before .before .before .before .before .before .before .before .if1 .left) .written)
 
 -- src/each.rt:93:9
 slice-aggregate-store-job-2 : tie.Need-slice-aggregate-store-job-2
-slice-aggregate-store-job-2 c = late-part (c .before .before .before .before .before .before .before .before .before .before .before .before .before .check-with-betas .ensures .ready (omega arith) .written)
+slice-aggregate-store-job-2 c = late-part (c .before .before .before .before .before .before .before .before .before .before .before .before .before .check-with-betas .ensures .ready (c .before .before .before .before .before .before .before .before .before .if1 .left) .written)
 
 -- src/each.rt:89:8
 store-job-requires : tie.Need-store-job-requires
 store-job-requires c κs =
     let a = c .before .before .before .before .before .before .before .before .before .before .before .before .before .before .before .before .before .before .before .before .before .before .before .before .before .before .before .before .args in
     let j = c .before .before .before .before .before .before .before .before .before .before .before .before .before .before .before .check-with-betas .ensures in
-    let g = j .ready (omega arith) in
-    let few = j .betas-pass (omega arith) .few in
+    let g = j .ready (c .before .before .before .before .before .before .before .before .before .before .before .if1 .left) in
+    let few = j .betas-pass (c .before .before .before .before .before .before .before .before .before .before .before .if1 .left) .few in
     let h = c .before .before .before .before .before .before .before .before .cyclomatic .ensures .1 in
     let w = c .before .before .before .before .before .before .before .stored-count in
     let size = length (a .stored .now) in
-    let none : c .before .before .before .before .before .before .check-enumeration .result ≡ 0 = omega arith in
+    let none : c .before .before .before .before .before .before .check-enumeration .result ≡ 0 = c .before .before .before .before .before .if2 .left in
     let z = sym (c .before .before .before .before .before .before .check-enumeration .ensures) ∙ none in
     let p = enumeration-passed g (length (a .betas .now)) (a .factors .now) (c .before .before .before .before .before .before .before .before .cyclomatic .result) 24 (misfits (w .result) size size) (length (a .work .now)) few z in
     let f = fits-both (w .result) size size (p .1) .0 ∙ w .ensures (p .2) in
@@ -137,12 +137,12 @@ pow2-requires : tie.Need-pow2-requires
 pow2-requires c κs =
     let a = c .before .before .before .before .before .before .before .before .before .before .before .before .before .before .before .before .before .before .before .before .before .before .before .before .before .before .before .before .before .before .before .before .before .before .args in
     let j = c .before .before .before .before .before .before .before .before .before .before .before .before .before .before .before .before .before .before .before .before .before .check-with-betas .ensures in
-    let g = j .ready (omega arith) in
-    let few = j .betas-pass (omega arith) .few in
+    let g = j .ready (c .before .before .before .before .before .before .before .before .before .before .before .before .before .before .before .before .before .if1 .left) in
+    let few = j .betas-pass (c .before .before .before .before .before .before .before .before .before .before .before .before .before .before .before .before .before .if1 .left) .few in
     let h = c .before .before .before .before .before .before .before .before .before .before .before .before .before .before .cyclomatic .ensures .1 in
     let w = c .before .before .before .before .before .before .before .before .before .before .before .before .before .stored-count in
     let size = length (a .stored .now) in
-    let none : c .before .before .before .before .before .before .before .before .before .before .before .before .check-enumeration .result ≡ 0 = omega arith in
+    let none : c .before .before .before .before .before .before .before .before .before .before .before .before .check-enumeration .result ≡ 0 = c .before .before .before .before .before .before .before .before .before .before .before .if2 .left in
     let z = sym (c .before .before .before .before .before .before .before .before .before .before .before .before .check-enumeration .ensures) ∙ none in
     let p = enumeration-passed g (length (a .betas .now)) (a .factors .now) (c .before .before .before .before .before .before .before .before .before .before .before .before .before .before .cyclomatic .result) 24 (misfits (w .result) size size) (length (a .work .now)) few z in
     let f = fits-both (w .result) size size (p .1) .0 ∙ w .ensures (p .2) in
@@ -161,12 +161,12 @@ returns-3 : tie.Need-returns-3
 returns-3 c =
     let a = c .before .before .before .before .before .before .before .before .before .before .before .before .before .before .before .before .before .before .before .before .before .before .before .before .before .before .before .before .before .before .before .before .before .before .before .args in
     let j = c .before .before .before .before .before .before .before .before .before .before .before .before .before .before .before .before .before .before .before .before .before .before .check-with-betas .ensures in
-    let g = j .ready (omega arith) in
-    let few = j .betas-pass (omega arith) .few in
+    let g = j .ready (c .before .before .before .before .before .before .before .before .before .before .before .before .before .before .before .before .before .before .if1 .left) in
+    let few = j .betas-pass (c .before .before .before .before .before .before .before .before .before .before .before .before .before .before .before .before .before .before .if1 .left) .few in
     let h = c .before .before .before .before .before .before .before .before .before .before .before .before .before .before .before .cyclomatic .ensures .1 in
     let w = c .before .before .before .before .before .before .before .before .before .before .before .before .before .before .stored-count in
     let size = length (a .stored .now) in
-    let none : c .before .before .before .before .before .before .before .before .before .before .before .before .before .check-enumeration .result ≡ 0 = omega arith in
+    let none : c .before .before .before .before .before .before .before .before .before .before .before .before .before .check-enumeration .result ≡ 0 = c .before .before .before .before .before .before .before .before .before .before .before .before .if2 .left in
     let z = sym (c .before .before .before .before .before .before .before .before .before .before .before .before .before .check-enumeration .ensures) ∙ none in
     let p = enumeration-passed g (length (a .betas .now)) (a .factors .now) (c .before .before .before .before .before .before .before .before .before .before .before .before .before .before .before .cyclomatic .result) 24 (misfits (w .result) size size) (length (a .work .now)) few z in
     let f = fits-both (w .result) size size (p .1) .0 ∙ w .ensures (p .2) in
@@ -192,12 +192,12 @@ returns-4 : tie.Need-returns-4
 returns-4 c =
     let a = c .before .before .before .before .before .before .before .before .before .before .before .before .before .before .before .before .before .before .before .before .before .before .before .before .before .before .before .before .before .before .before .before .before .before .args in
     let j = c .before .before .before .before .before .before .before .before .before .before .before .before .before .before .before .before .before .before .before .before .before .check-with-betas .ensures in
-    let g = j .ready (omega arith) in
-    let few = j .betas-pass (omega arith) .few in
+    let g = j .ready (c .before .before .before .before .before .before .before .before .before .before .before .before .before .before .before .before .before .if1 .left) in
+    let few = j .betas-pass (c .before .before .before .before .before .before .before .before .before .before .before .before .before .before .before .before .before .if1 .left) .few in
     let h = c .before .before .before .before .before .before .before .before .before .before .before .before .before .before .cyclomatic .ensures .1 in
     let w = c .before .before .before .before .before .before .before .before .before .before .before .before .before .stored-count in
     let size = length (a .stored .now) in
-    let none : c .before .before .before .before .before .before .before .before .before .before .before .before .check-enumeration .result ≡ 0 = omega arith in
+    let none : c .before .before .before .before .before .before .before .before .before .before .before .before .check-enumeration .result ≡ 0 = c .before .before .before .before .before .before .before .before .before .before .before .if2 .left in
     let z = sym (c .before .before .before .before .before .before .before .before .before .before .before .before .check-enumeration .ensures) ∙ none in
     let p = enumeration-passed g (length (a .betas .now)) (a .factors .now) (c .before .before .before .before .before .before .before .before .before .before .before .before .before .before .cyclomatic .result) 24 (misfits (w .result) size size) (length (a .work .now)) few z in
     let f = fits-both (w .result) size size (p .1) .0 ∙ w .ensures (p .2) in

@@ -43,43 +43,43 @@ returns c = enumeration-refused-early _ _ _ _ _ _ _ _ _ _ _ _ _ _ (c .before .be
 
 -- src/every.rt:58:30
 array-share-prefix-early : tie.Need-array-share-prefix-early
-array-share-prefix-early c = early-fits (c .before .before .before .before .check-with-betas .ensures .ready (omega arith) .written)
+array-share-prefix-early c = early-fits (c .before .before .before .before .check-with-betas .ensures .ready (c .if1 .left) .written)
 
 -- src/every.rt:58:30
 slice-aggregate-cyclomatic : tie.Need-slice-aggregate-cyclomatic
-slice-aggregate-cyclomatic c = early-part (c .before .before .before .before .before .check-with-betas .ensures .ready (omega arith) .written)
+slice-aggregate-cyclomatic c = early-part (c .before .before .before .before .before .check-with-betas .ensures .ready (c .before .if1 .left) .written)
 
 -- src/every.rt:58:47
 array-share-prefix-late : tie.Need-array-share-prefix-late
-array-share-prefix-late c = late-fits (c .before .before .before .before .before .check-with-betas .ensures .ready (omega arith) .written)
+array-share-prefix-late c = late-fits (c .before .before .before .before .before .check-with-betas .ensures .ready (c .before .if1 .left) .written)
 
 -- src/every.rt:58:47
 slice-aggregate-cyclomatic-2 : tie.Need-slice-aggregate-cyclomatic-2
-slice-aggregate-cyclomatic-2 c = late-part (c .before .before .before .before .before .before .check-with-betas .ensures .ready (omega arith) .written)
+slice-aggregate-cyclomatic-2 c = late-part (c .before .before .before .before .before .before .check-with-betas .ensures .ready (c .before .before .if1 .left) .written)
 
 -- src/every.rt:58:9
 cyclomatic-requires : tie.Need-cyclomatic-requires
-cyclomatic-requires c κs = let g = c .before .before .before .before .before .before .check-with-betas .ensures .ready (omega arith) in (rw (front-early (g .written), front-late (g .written)) (joins (g .edges)), g .edges .few)
+cyclomatic-requires c κs = let g = c .before .before .before .before .before .before .check-with-betas .ensures .ready (c .before .before .if1 .left) in (rw (front-early (g .written), front-late (g .written)) (joins (g .edges)), g .edges .few)
 
 -- src/every.rt:69:9
 mul-check-enumeration : tie.Need-mul-check-enumeration
 mul-check-enumeration c =
     let j = c .before .before .before .before .before .before .before .check-with-betas .ensures in
-    omega (arith, few-products _ _ (j .betas-pass (omega arith) .few) (j .ready (omega arith) .passed .few-pairs))
+    omega (arith, few-products _ _ (j .betas-pass (c .before .before .before .if1 .left) .few) (j .ready (c .before .before .before .if1 .left) .passed .few-pairs))
 
 -- src/every.rt:59:9
 check-enumeration-requires : tie.Need-check-enumeration-requires
 check-enumeration-requires c κs =
     let j = c .before .before .before .before .before .before .before .check-with-betas .ensures in
-    let g = j .ready (omega arith) in
-    (g .pairs, g .edges .few, g .edges .narrow, g .few-edges, j .betas-pass (omega arith) .few)
+    let g = j .ready (c .before .before .before .if1 .left) in
+    (g .pairs, g .edges .few, g .edges .narrow, g .few-edges, j .betas-pass (c .before .before .before .if1 .left) .few)
 
 -- src/every.rt:75:9
 returns-2 : tie.Need-returns-2
 returns-2 c =
     let a = c .before .before .before .before .before .before .before .before .before .before .before .before .before .before .before .before .before .before .before .before .before .before .before .args in
     let j = c .before .before .before .before .before .before .before .before .before .check-with-betas .ensures in
-    let g = j .ready (omega arith) in
+    let g = j .ready (c .before .before .before .before .before .if1 .left) in
     let free = free-is g _ (c .before .before .cyclomatic .ensures .1) ∙ free-fronts g in
     enumeration-refused-lists _ _ _ _ _ _ _ (a .betas .now) (a .factors .now) _ (a .squares .now) (a .fourths .now) (a .work .now) _ (omega (arith, j .refusal))
     (c .before .check-enumeration .ensures ∙ enumeration-lists g (length (a .betas .now)) (a .factors .now) (c .before .before .cyclomatic .result) _ 34 (misfits (length (a .betas .now) * length (a .us .now)) (length (a .squares .now)) (length (a .fourths .now))) (length (a .work .now)) free) (λ z. omega arith)
@@ -90,29 +90,29 @@ is-each-requires c κs = search needs
 
 -- src/every.rt:81:9
 array-share-prefix-early-2 : tie.Need-array-share-prefix-early-2
-array-share-prefix-early-2 c = early-fits (c .before .before .before .before .before .before .before .before .before .before .check-with-betas .ensures .ready (omega arith) .written)
+array-share-prefix-early-2 c = early-fits (c .before .before .before .before .before .before .before .before .before .before .check-with-betas .ensures .ready (c .before .before .before .before .before .before .if1 .left) .written)
 
 -- src/every.rt:81:9
 slice-aggregate-enumerate-job : tie.Need-slice-aggregate-enumerate-job
-slice-aggregate-enumerate-job c = early-part (c .before .before .before .before .before .before .before .before .before .before .before .check-with-betas .ensures .ready (omega arith) .written)
+slice-aggregate-enumerate-job c = early-part (c .before .before .before .before .before .before .before .before .before .before .before .check-with-betas .ensures .ready (c .before .before .before .before .before .before .before .if1 .left) .written)
 
 -- src/every.rt:82:9
 array-share-prefix-late-2 : tie.Need-array-share-prefix-late-2
-array-share-prefix-late-2 c = late-fits (c .before .before .before .before .before .before .before .before .before .before .before .check-with-betas .ensures .ready (omega arith) .written)
+array-share-prefix-late-2 c = late-fits (c .before .before .before .before .before .before .before .before .before .before .before .check-with-betas .ensures .ready (c .before .before .before .before .before .before .before .if1 .left) .written)
 
 -- src/every.rt:82:9
 slice-aggregate-enumerate-job-2 : tie.Need-slice-aggregate-enumerate-job-2
-slice-aggregate-enumerate-job-2 c = late-part (c .before .before .before .before .before .before .before .before .before .before .before .before .check-with-betas .ensures .ready (omega arith) .written)
+slice-aggregate-enumerate-job-2 c = late-part (c .before .before .before .before .before .before .before .before .before .before .before .before .check-with-betas .ensures .ready (c .before .before .before .before .before .before .before .before .if1 .left) .written)
 
 -- src/every.rt:78:8
 enumerate-job-requires : tie.Need-enumerate-job-requires
 enumerate-job-requires c κs =
     let a = c .before .before .before .before .before .before .before .before .before .before .before .before .before .before .before .before .before .before .before .before .before .before .before .before .before .before .before .before .before .args in
     let j = c .before .before .before .before .before .before .before .before .before .before .before .before .before .before .before .check-with-betas .ensures in
-    let g = j .ready (omega arith) in
-    let few = j .betas-pass (omega arith) .few in
+    let g = j .ready (c .before .before .before .before .before .before .before .before .before .before .before .if1 .left) in
+    let few = j .betas-pass (c .before .before .before .before .before .before .before .before .before .before .before .if1 .left) .few in
     let h = c .before .before .before .before .before .before .before .before .cyclomatic .ensures .1 in
-    let none : c .before .before .before .before .before .before .before .check-enumeration .result ≡ 0 = omega arith in
+    let none : c .before .before .before .before .before .before .before .check-enumeration .result ≡ 0 = c .before .before .before .before .before .before .if2 .left in
     let z = sym (c .before .before .before .before .before .before .before .check-enumeration .ensures) ∙ none in
     let p = enumeration-passed g (length (a .betas .now)) (a .factors .now) (c .before .before .before .before .before .before .before .before .cyclomatic .result) 34 (misfits (length (a .betas .now) * length (a .us .now)) (length (a .squares .now)) (length (a .fourths .now))) (length (a .work .now)) few z in
     let f = fits-both (length (a .betas .now) * length (a .us .now)) (length (a .squares .now)) (length (a .fourths .now)) (p .1) in
@@ -123,10 +123,10 @@ pow2-requires : tie.Need-pow2-requires
 pow2-requires c κs =
     let a = c .before .before .before .before .before .before .before .before .before .before .before .before .before .before .before .before .before .before .before .before .before .before .before .before .before .before .before .before .before .before .before .before .before .before .before .before .before .args in
     let j = c .before .before .before .before .before .before .before .before .before .before .before .before .before .before .before .before .before .before .before .before .before .before .before .check-with-betas .ensures in
-    let g = j .ready (omega arith) in
-    let few = j .betas-pass (omega arith) .few in
+    let g = j .ready (c .before .before .before .before .before .before .before .before .before .before .before .before .before .before .before .before .before .before .before .if1 .left) in
+    let few = j .betas-pass (c .before .before .before .before .before .before .before .before .before .before .before .before .before .before .before .before .before .before .before .if1 .left) .few in
     let h = c .before .before .before .before .before .before .before .before .before .before .before .before .before .before .before .before .cyclomatic .ensures .1 in
-    let none : c .before .before .before .before .before .before .before .before .before .before .before .before .before .before .before .check-enumeration .result ≡ 0 = omega arith in
+    let none : c .before .before .before .before .before .before .before .before .before .before .before .before .before .before .before .check-enumeration .result ≡ 0 = c .before .before .before .before .before .before .before .before .before .before .before .before .before .before .if2 .left in
     let z = sym (c .before .before .before .before .before .before .before .before .before .before .before .before .before .before .before .check-enumeration .ensures) ∙ none in
     let p = enumeration-passed g (length (a .betas .now)) (a .factors .now) (c .before .before .before .before .before .before .before .before .before .before .before .before .before .before .before .before .cyclomatic .result) 34 (misfits (length (a .betas .now) * length (a .us .now)) (length (a .squares .now)) (length (a .fourths .now))) (length (a .work .now)) few z in
     omega (arith, p .2)
@@ -148,10 +148,10 @@ returns-3 : tie.Need-returns-3
 returns-3 c =
     let a = c .before .before .before .before .before .before .before .before .before .before .before .before .before .before .before .before .before .before .before .before .before .before .before .before .before .before .before .before .before .before .before .before .before .before .before .before .before .before .args in
     let j = c .before .before .before .before .before .before .before .before .before .before .before .before .before .before .before .before .before .before .before .before .before .before .before .before .check-with-betas .ensures in
-    let g = j .ready (omega arith) in
-    let few = j .betas-pass (omega arith) .few in
+    let g = j .ready (c .before .before .before .before .before .before .before .before .before .before .before .before .before .before .before .before .before .before .before .before .if1 .left) in
+    let few = j .betas-pass (c .before .before .before .before .before .before .before .before .before .before .before .before .before .before .before .before .before .before .before .before .if1 .left) .few in
     let h = c .before .before .before .before .before .before .before .before .before .before .before .before .before .before .before .before .before .cyclomatic .ensures .1 in
-    let none : c .before .before .before .before .before .before .before .before .before .before .before .before .before .before .before .before .check-enumeration .result ≡ 0 = omega arith in
+    let none : c .before .before .before .before .before .before .before .before .before .before .before .before .before .before .before .before .check-enumeration .result ≡ 0 = c .before .before .before .before .before .before .before .before .before .before .before .before .before .before .before .if2 .left in
     let z = sym (c .before .before .before .before .before .before .before .before .before .before .before .before .before .before .before .before .check-enumeration .ensures) ∙ none in
     let p = enumeration-passed g (length (a .betas .now)) (a .factors .now) (c .before .before .before .before .before .before .before .before .before .before .before .before .before .before .before .before .before .cyclomatic .result) 34 (misfits (length (a .betas .now) * length (a .us .now)) (length (a .squares .now)) (length (a .fourths .now))) (length (a .work .now)) few z in
     let f = fits-both (length (a .betas .now) * length (a .us .now)) (length (a .squares .now)) (length (a .fourths .now)) (p .1) in
@@ -178,10 +178,10 @@ returns-4 : tie.Need-returns-4
 returns-4 c =
     let a = c .before .before .before .before .before .before .before .before .before .before .before .before .before .before .before .before .before .before .before .before .before .before .before .before .before .before .before .before .before .before .before .before .before .before .before .before .before .args in
     let j = c .before .before .before .before .before .before .before .before .before .before .before .before .before .before .before .before .before .before .before .before .before .before .before .check-with-betas .ensures in
-    let g = j .ready (omega arith) in
-    let few = j .betas-pass (omega arith) .few in
+    let g = j .ready (c .before .before .before .before .before .before .before .before .before .before .before .before .before .before .before .before .before .before .before .if1 .left) in
+    let few = j .betas-pass (c .before .before .before .before .before .before .before .before .before .before .before .before .before .before .before .before .before .before .before .if1 .left) .few in
     let h = c .before .before .before .before .before .before .before .before .before .before .before .before .before .before .before .before .cyclomatic .ensures .1 in
-    let none : c .before .before .before .before .before .before .before .before .before .before .before .before .before .before .before .check-enumeration .result ≡ 0 = omega arith in
+    let none : c .before .before .before .before .before .before .before .before .before .before .before .before .before .before .before .check-enumeration .result ≡ 0 = c .before .before .before .before .before .before .before .before .before .before .before .before .before .before .if2 .left in
     let z = sym (c .before .before .before .before .before .before .before .before .before .before .before .before .before .before .before .check-enumeration .ensures) ∙ none in
     let p = enumeration-passed g (length (a .betas .now)) (a .factors .now) (c .before .before .before .before .before .before .before .before .before .before .before .before .before .before .before .before .cyclomatic .result) 34 (misfits (length (a .betas .now) * length (a .us .now)) (length (a .squares .now)) (length (a .fourths .now))) (length (a .work .now)) few z in
     let f = fits-both (length (a .betas .now) * length (a .us .now)) (length (a .squares .now)) (length (a .fourths .now)) (p .1) in
