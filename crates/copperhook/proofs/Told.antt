@@ -1,5 +1,5 @@
 -- What an answer that has been taken apart says of the refusal's number and of the references.
-use mathlib.Core.Path.{_≡_, refl, sym, ap, _∙_}
+use mathlib.Core.Path.{_≡_, refl, sym, ap, _∙_, subst}
 use mathlib.Core.Bool.{Bool, true, false}
 use mathlib.Core.List.{List}
 use Prim.Native.Nat.{ℕ, zero, suc}
@@ -17,10 +17,12 @@ use Rattle.lattice.specs.declared.graph.Made.{Made}
 use Rattle.lattice.specs.declared.graph.Made.the-variants as Made
 use Rattle.lattice.specs.declared.graph.Reached.{Reached}
 use Rattle.lattice.specs.declared.graph.Reached.the-variants as Reached
+use Rattle.glass.specs.declared.Manner.{Manner}
 use Rattle.strip.specs.Strips.{edges, earlyEnds, lateEnds}
 use Rattle.strip.specs.declared.strip.Strip.{Strip}
 use Rattle.strip.specs.declared.vertices.Sited.{Sited}
 use Rattle.pairset.specs.PairSet.{Pair, firsts, seconds, labelBytes}
+use Rattle.totals.specs.Calls.{Totalled, Stored, Enumerated, EnumeratedEach, Sampled}
 use Rattle.copperhook.specs.Graphs.{Listed}
 use Rattle.copperhook.specs.Strips.{StripEdges}
 use Rattle.copperhook.specs.PairSets.{Paired}
@@ -50,13 +52,39 @@ refused-told (suc k) x r p q new old =
     (e, ap (λ j. left j new old) (sym e))
 
 -- an answer again, from its number and the count
-pub told-again : (k x r count : ℕ) {a : Answer} → a ≡ Refused r → a ≡ answered k x → a ≡ answered r count
+told-again : (k x r count : ℕ) {a : Answer} → a ≡ Refused r → a ≡ answered k x → a ≡ answered r count
 told-again zero x r count p q = let apart = ap refusals (sym p ∙ q) in absurd (omega arith)
 told-again (suc k) x r count p q = q ∙ ap (λ j. answered j count) (ap held (sym q ∙ p))
 
-pub left-same : (r count : ℕ) → count ≡ left r count count
-left-same zero count = refl
-left-same (suc r) count = refl
+pub totalled-again : {refused count : ℕ} {squared fourthed : List Float} {end : ℕ} {a : Answer} {squares squares′ fourths fourths′ work work′ : List Float}
+    → Totalled refused count squared fourthed end a squares squares′ fourths fourths′ work work′ → (r c : ℕ) → a ≡ Refused r → a ≡ answered r c
+totalled-again {refused} {count} g r c p = told-again refused count r c p (g .answer)
+
+pub stored-again : {refused count : ℕ} {correlations : List Float} {end : ℕ} {a : Answer} {stored stored′ work work′ : List Float}
+    → Stored refused count correlations end a stored stored′ work work′ → (r c : ℕ) → a ≡ Refused r → a ≡ answered r c
+stored-again {refused} {count} g r c p = told-again refused count r c p (g .answer)
+
+-- what holds of a manner and an answer holds of what these equal
+carried : (F : Manner → Answer → Type 0) {manner manner′ : Manner} {a a′ : Answer} → manner ≡ manner′ → a ≡ a′ → F manner a → F manner′ a′
+carried F {manner} {manner′} {a} {a′} e p g = subst (λ (x : Answer). F manner′ x) p (subst (λ (x : Manner). F x a) e g)
+
+pub enumerated-carried : {n floor : ℕ} {a b : List ℕ} {m : List Float} {us vs : List ℕ} {betas factors : List Float} {manner manner′ : Manner}
+    {r r′ : Answer} {squares squares′ fourths fourths′ work work′ : List Float} → manner ≡ manner′ → r ≡ r′ → Enumerated n floor a b m us vs betas factors manner r squares squares′ fourths fourths′ work work′
+    → Enumerated n floor a b m us vs betas factors manner′ r′ squares squares′ fourths fourths′ work work′
+enumerated-carried {n} {floor} {a} {b} {m} {us} {vs} {betas} {factors} {manner} {manner′} {r} {r′} {squares} {squares′} {fourths} {fourths′} {work} {work′} e p g =
+    carried (λ x y. Enumerated n floor a b m us vs betas factors x y squares squares′ fourths fourths′ work work′) e p g
+
+pub stored-carried : {n floor : ℕ} {a b : List ℕ} {m : List Float} {us vs : List ℕ} {betas factors : List Float} {manner manner′ : Manner}
+    {r r′ : Answer} {stored stored′ work work′ : List Float} → manner ≡ manner′ → r ≡ r′ → EnumeratedEach n floor a b m us vs betas factors manner r stored stored′ work work′
+    → EnumeratedEach n floor a b m us vs betas factors manner′ r′ stored stored′ work work′
+stored-carried {n} {floor} {a} {b} {m} {us} {vs} {betas} {factors} {manner} {manner′} {r} {r′} {stored} {stored′} {work} {work′} e p g =
+    carried (λ x y. EnumeratedEach n floor a b m us vs betas factors x y stored stored′ work work′) e p g
+
+pub sampled-carried : {n floor : ℕ} {a b : List ℕ} {m : List Float} {us vs : List ℕ} {betas factors : List Float} {manner manner′ : Manner} {seed from to samples : ℕ}
+    {r r′ : Answer} {squares squares′ fourths fourths′ work work′ : List Float} → manner ≡ manner′ → r ≡ r′ → Sampled n floor a b m us vs betas factors manner seed from to samples r squares squares′ fourths fourths′ work work′
+    → Sampled n floor a b m us vs betas factors manner′ seed from to samples r′ squares squares′ fourths fourths′ work work′
+sampled-carried {n} {floor} {a} {b} {m} {us} {vs} {betas} {factors} {manner} {manner′} {seed} {from} {to} {samples} {r} {r′} {squares} {squares′} {fourths} {fourths′} {work} {work′} e p g =
+    carried (λ x y. Sampled n floor a b m us vs betas factors x seed from to samples y squares squares′ fourths fourths′ work work′) e p g
 
 -- ---- the edges of a strip, and its pairs
 

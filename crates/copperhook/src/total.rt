@@ -1,6 +1,6 @@
 // Totals over configurations, and every configuration's correlations, with the count through a reference.
 ghost use mathlib.Core.Path.{_≡_};
-ghost use Rattle.checks.specs.Answers.{answered, left};
+ghost use Rattle.checks.specs.Answers.{answered};
 ghost use Rattle.totals.specs.Calls.{Enumerated, EnumeratedEach, Sampled};
 ghost use Rattle.copperhook.specs.Manners.{mannerNumbered};
 use crate::correlations::manner_numbered;
@@ -27,7 +27,7 @@ pub extern "C" fn copperhook_exhaustive(
     ensures { λ r. ⌜ Enumerated n floor (now (a .entry)) (now (b .entry)) (now (m .entry)) (now (us .entry)) (now (vs .entry))
         (now (betas .entry)) (now (factors .entry)) (mannerNumbered manner)
         (answered r (now (count .exit))) (now (squares .entry)) (now (squares .exit)) (now (fourths .entry)) (now (fourths .exit)) (now (work .entry)) (now (work .exit)) ⌝ }
-    ensures { λ r. ⌜ now (count .exit) ≡ left r (now (count .exit)) (now (count .entry)) ⌝ }
+    ensures { λ r. ⌜ ((r ≡ 0 → ⊥) → now (count .exit) ≡ now (count .entry)) ⌝ }
 {
     let answer = totals::exhaustive(
         n,
@@ -73,7 +73,7 @@ pub extern "C" fn copperhook_exhaustive_c(
     ensures { λ r. ⌜ EnumeratedEach n floor (now (a .entry)) (now (b .entry)) (now (m .entry)) (now (us .entry)) (now (vs .entry))
         (now (betas .entry)) (now (factors .entry)) (mannerNumbered manner)
         (answered r (now (count .exit))) (now (stored .entry)) (now (stored .exit)) (now (work .entry)) (now (work .exit)) ⌝ }
-    ensures { λ r. ⌜ now (count .exit) ≡ left r (now (count .exit)) (now (count .entry)) ⌝ }
+    ensures { λ r. ⌜ ((r ≡ 0 → ⊥) → now (count .exit) ≡ now (count .entry)) ⌝ }
 {
     let answer = totals::exhaustive_c(
         n,
@@ -123,7 +123,7 @@ pub extern "C" fn copperhook_sample(
     ensures { λ r. ⌜ Sampled n floor (now (a .entry)) (now (b .entry)) (now (m .entry)) (now (us .entry)) (now (vs .entry))
         (now (betas .entry)) (now (factors .entry)) (mannerNumbered manner) seed from to samples
         (answered r (now (count .exit))) (now (squares .entry)) (now (squares .exit)) (now (fourths .entry)) (now (fourths .exit)) (now (work .entry)) (now (work .exit)) ⌝ }
-    ensures { λ r. ⌜ now (count .exit) ≡ left r (now (count .exit)) (now (count .entry)) ⌝ }
+    ensures { λ r. ⌜ ((r ≡ 0 → ⊥) → now (count .exit) ≡ now (count .entry)) ⌝ }
 {
     let answer = totals::sample(
         n,

@@ -1,3 +1,5 @@
+use mathlib.Core.Path.{_≡_, refl}
+use Rattle.copperhook.proofs.Told.{totalled-again, enumerated-carried}
 use borrow.Author.Needs.{needs}
 use Rattle.copperhook.proofs.total.copperhook_exhaustive.Statement.{statement}
 use Rattle.copperhook.proofs.total.copperhook_exhaustive.Tie as tie
@@ -36,7 +38,7 @@ same-length-3 c = search needs
 
 -- src/total.rt:10:1
 returns : tie.Need-returns
-returns c = search needs
+returns c = (enumerated-carried (c .before .before .before .before .before .before .before .before .before .before .before .before .before .manner-numbered .ensures) (c .before .answer .given .1) (c .before .before .before .before .before .before .before .before .before .exhaustive .ensures), λ n. absurd (n refl))
 
 -- src/total.rt:10:1
 same-length-4 : tie.Need-same-length-4
@@ -52,7 +54,9 @@ same-length-6 c = search needs
 
 -- src/total.rt:10:1
 returns-2 : tie.Need-returns-2
-returns-2 c = search needs
+returns-2 c =
+    let e = c .before .before .before .before .before .before .before .before .before .exhaustive .ensures in
+    (enumerated-carried (c .before .before .before .before .before .before .before .before .before .before .before .before .before .manner-numbered .ensures) (totalled-again (e .call) _ (c .before .before .before .before .before .before .before .before .before .before .before .before .before .before .before .before .before .before .before .before .before .before .before .before .args .count .now) (c .before .answer2 .given .1)) e, λ _. refl)
 
 pub copperhook-exhaustive-spec : {M : Type 1} → statement M
 copperhook-exhaustive-spec =

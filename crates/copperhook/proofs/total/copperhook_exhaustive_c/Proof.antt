@@ -1,3 +1,5 @@
+use mathlib.Core.Path.{_≡_, refl}
+use Rattle.copperhook.proofs.Told.{stored-again, stored-carried}
 use borrow.Author.Needs.{needs}
 use Rattle.copperhook.proofs.total.copperhook_exhaustive_c.Statement.{statement}
 use Rattle.copperhook.proofs.total.copperhook_exhaustive_c.Tie as tie
@@ -32,7 +34,7 @@ same-length-2 c = search needs
 
 -- src/total.rt:57:1
 returns : tie.Need-returns
-returns c = search needs
+returns c = (stored-carried (c .before .before .before .before .before .before .before .before .before .before .manner-numbered .ensures) (c .before .answer .given .1) (c .before .before .before .before .before .before .before .exhaustive-c .ensures), λ n. absurd (n refl))
 
 -- src/total.rt:57:1
 same-length-3 : tie.Need-same-length-3
@@ -44,7 +46,9 @@ same-length-4 c = search needs
 
 -- src/total.rt:57:1
 returns-2 : tie.Need-returns-2
-returns-2 c = search needs
+returns-2 c =
+    let e = c .before .before .before .before .before .before .before .exhaustive-c .ensures in
+    (stored-carried (c .before .before .before .before .before .before .before .before .before .before .manner-numbered .ensures) (stored-again (e .call) _ (c .before .before .before .before .before .before .before .before .before .before .before .before .before .before .before .before .before .before .before .before .args .count .now) (c .before .answer2 .given .1)) e, λ _. refl)
 
 pub copperhook-exhaustive-c-spec : {M : Type 1} → statement M
 copperhook-exhaustive-c-spec =

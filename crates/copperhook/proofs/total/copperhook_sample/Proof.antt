@@ -1,3 +1,5 @@
+use mathlib.Core.Path.{_≡_, refl}
+use Rattle.copperhook.proofs.Told.{totalled-again, sampled-carried}
 use borrow.Author.Needs.{needs}
 use Rattle.copperhook.proofs.total.copperhook_sample.Statement.{statement}
 use Rattle.copperhook.proofs.total.copperhook_sample.Tie as tie
@@ -36,7 +38,7 @@ same-length-3 c = search needs
 
 -- src/total.rt:102:1
 returns : tie.Need-returns
-returns c = search needs
+returns c = (sampled-carried (c .before .before .before .before .before .before .before .before .before .before .before .before .before .manner-numbered .ensures) (c .before .answer .given .1) (c .before .before .before .before .before .before .before .before .before .sample .ensures), λ n. absurd (n refl))
 
 -- src/total.rt:102:1
 same-length-4 : tie.Need-same-length-4
@@ -52,7 +54,9 @@ same-length-6 c = search needs
 
 -- src/total.rt:102:1
 returns-2 : tie.Need-returns-2
-returns-2 c = search needs
+returns-2 c =
+    let e = c .before .before .before .before .before .before .before .before .before .sample .ensures in
+    (sampled-carried (c .before .before .before .before .before .before .before .before .before .before .before .before .before .manner-numbered .ensures) (totalled-again (e .call) _ (c .before .before .before .before .before .before .before .before .before .before .before .before .before .before .before .before .before .before .before .before .before .before .before .before .args .count .now) (c .before .answer2 .given .1)) e, λ _. refl)
 
 pub copperhook-sample-spec : {M : Type 1} → statement M
 copperhook-sample-spec =
