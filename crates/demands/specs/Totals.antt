@@ -26,6 +26,7 @@ use Rattle.transfer.specs.Sweep as S
 use Rattle.transfer.specs.Totals.{square, fourth, enumerated, sampled, enumeratedCount, sampledCount}
 use Rattle.transfer.specs.Checked.{Checked}
 use Rattle.checks.specs.Answers.{answered}
+use Rattle.checks.specs.declared.Answer.{Answer}
 use Rattle.checks.specs.declared.Answer.the-variants.{Number, Refused}
 use Rattle.checks.specs.AcceptedTotals.{AcceptedTotals, misfits, accepted-enumeration, accepted-sampling}
 use Rattle.checks.specs.Edges.{kept, earlyEnds, lateEnds, windowFrom}
@@ -42,18 +43,19 @@ use Rattle.totals.specs.Jobs.{jobSigned, jobEnumerated, jobSampled, unsoundEnum
 use Rattle.totals.specs.Calls.{Enumerated, EnumeratedEach, Sampled, refusedEnumeration, refusedStoring, refusedSampling}
 use Rattle.demands.specs.Given.{checked-signed}
 
+-- 1 for a refusal, else 0; and the number that an answer holds
+abbrev refusals : Answer → ℕ
+refusals (Number j) = 0
+refusals (Refused j) = 1
+
+abbrev held : Answer → ℕ
+held (Number j) = j
+held (Refused j) = j
+
 -- a number is the answer of an accepted call
 accepted-number : (k x c : ℕ) → Number c ≡ answered k x → (k ≡ 0) × (c ≡ x)
 accepted-number zero x c e = (refl, ap held e)
-  where
-    held : _ → ℕ
-    held (Number j) = j
-    held (Refused j) = j
 accepted-number (suc k) x c e = let apart = ap refusals e in absurd (omega arith)
-  where
-    refusals : _ → ℕ
-    refusals (Number j) = 0
-    refusals (Refused j) = 1
 
 -- the number of a total is a beta's and a pair's
 module _ (betas np k : ℕ) (l : k < betas * np) where
