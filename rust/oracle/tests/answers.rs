@@ -17,6 +17,7 @@ fn the_stored_lists_are_the_originals_answers() {
         ("couplings", "replay_couplings/data/couplings.bin"),
         ("estimates", "replay_estimate/data/estimates.bin"),
         ("roots", "replay_estimate/data/roots.bin"),
+        ("totals", "replay_totals/data/totals.bin"),
         ("sweeps", "transfer/specs/Original.antt"),
     ] {
         let made = Command::new(env!("CARGO_BIN_EXE_answers")).arg(list).output().expect("answers runs");

@@ -36,7 +36,7 @@ impl Job {
     }
 
     /// Smaller end first.
-    fn kept(&self) -> Vec<(u64, u64)> {
+    pub fn kept(&self) -> Vec<(u64, u64)> {
         self.edges().iter().filter(|e| e.2 != 0.0).map(|e| (e.0.min(e.1), e.0.max(e.1))).collect()
     }
 
@@ -62,7 +62,7 @@ impl Job {
     }
 
     /// The first of the checks 1 to 8 that fits, from document 01; 0 where none does.
-    fn job_refusal(&self) -> u64 {
+    pub fn job_refusal(&self) -> u64 {
         let (n, edges, kept, window) = (self.n, self.edges(), self.kept(), self.window());
         let near = |t: u64| kept.iter().filter(|e| e.1 == t && t - e.0 < window).count();
         let bad_ends = |u: u64, v: u64| u == v || u >= n || v >= n;
@@ -87,7 +87,7 @@ impl Job {
         }
     }
 
-    fn lent(&self) -> u64 {
+    pub fn lent(&self) -> u64 {
         match self.work {
             Work::Only(doubles) => doubles,
             Work::Past(spare) if self.job_refusal() == 0 => self.room() + spare,
@@ -111,15 +111,19 @@ impl Job {
         }
     }
 
-    fn numbered_pairs(&self) -> Vec<(usize, usize)> {
+    pub fn numbered_pairs(&self) -> Vec<(usize, usize)> {
         self.us.iter().zip(&self.vs).map(|(&u, &v)| (u as usize, v as usize)).collect()
+    }
+
+    /// The edges as the original takes them.
+    pub fn raw(&self) -> Vec<(usize, usize, f64)> {
+        self.edges().iter().map(|e| (e.0 as usize, e.1 as usize, e.2)).collect()
     }
 
     /// The original's answers, of a job that passed the checks.
     fn original_answers(&self) -> Vec<f64> {
         std::env::set_var("FDK_SLOW", if self.each { "1" } else { "0" });
-        let raw: Vec<(usize, usize, f64)> = self.edges().iter().map(|e| (e.0 as usize, e.1 as usize, e.2)).collect();
-        let mut graph = Graph::new(self.n as usize, &raw);
+        let mut graph = Graph::new(self.n as usize, &self.raw());
         graph.win = graph.win.max(self.floor as usize);
         let plan = Plan::new(&graph, &self.numbered_pairs());
         let mut answers = vec![f64::INFINITY; self.results];

@@ -12,6 +12,7 @@
 //!     cargo run --release --offline --bin answers -- couplings > ../crates/replay_couplings/data/couplings.bin
 //!     cargo run --release --offline --bin answers -- estimates > ../crates/replay_estimate/data/estimates.bin
 //!     cargo run --release --offline --bin answers -- roots > ../crates/replay_estimate/data/roots.bin
+//!     cargo run --release --offline --bin answers -- totals > ../crates/replay_totals/data/totals.bin
 //!     cargo run --release --offline --bin answers -- sweeps > ../crates/transfer/specs/Original.antt
 
 mod correlation_jobs;
@@ -25,11 +26,13 @@ mod hash;
 mod model;
 mod strips;
 mod sweeps;
+mod total_calls;
+mod totals;
 
 use std::io::Write;
 use std::process::ExitCode;
 
-const LISTS: [(&str, fn() -> Vec<u8>); 11] = [
+const LISTS: [(&str, fn() -> Vec<u8>); 12] = [
     ("generators", || words(generators::generators())),
     ("graphs", || words(graphs::graphs())),
     ("strips", || words(strips::strips())),
@@ -40,6 +43,7 @@ const LISTS: [(&str, fn() -> Vec<u8>); 11] = [
     ("couplings", || words(couplings::couplings())),
     ("estimates", || words(estimates::estimates())),
     ("roots", || words(estimates::roots())),
+    ("totals", || words(totals::totals())),
     ("sweeps", || sweeps::sweeps().into_bytes()),
 ];
 

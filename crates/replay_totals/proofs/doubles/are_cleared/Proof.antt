@@ -1,0 +1,51 @@
+-- The length of the list bounds the loop.
+use lib.ListN.{length}
+use Prim.Native.Nat.{_≤_, _-_}
+use borrow.Author.Needs.{needs}
+use Rattle.replay_totals.proofs.doubles.are_cleared.Statement.{statement}
+use Rattle.replay_totals.proofs.doubles.are_cleared.Tie as tie
+
+abbrev Inv-loop : tie.InvT-loop
+Inv-loop xs cleared others same₀ i₀ same i = i ≤ length xs
+
+abbrev μ-loop : tie.MeasureT-loop
+μ-loop xs cleared others same₀ i₀ same i = length xs - i
+
+loop-holds : tie.Need-loop-holds Inv-loop μ-loop
+loop-holds c = search needs
+
+mul-bits-of : tie.Need-mul-bits-of Inv-loop μ-loop
+mul-bits-of c = search needs
+
+shared-slice-read-bits-of : tie.Need-shared-slice-read-bits-of Inv-loop μ-loop
+shared-slice-read-bits-of c = search needs
+
+bits-of-requires : tie.Need-bits-of-requires Inv-loop μ-loop
+bits-of-requires c κs = search needs
+
+add-i : tie.Need-add-i Inv-loop μ-loop
+add-i c = search needs
+
+loop-less : tie.Need-loop-less Inv-loop μ-loop
+loop-less c = search needs
+
+loop-again : tie.Need-loop-again Inv-loop μ-loop
+loop-again c = search needs
+
+returns : tie.Need-returns Inv-loop μ-loop
+returns c = search needs
+
+pub are-cleared-spec : {M : Type 1} → statement M
+are-cleared-spec =
+    tie.close
+    (tie.spec
+    Inv-loop
+    μ-loop
+    loop-holds
+    mul-bits-of
+    shared-slice-read-bits-of
+    bits-of-requires
+    add-i
+    loop-less
+    loop-again
+    returns)

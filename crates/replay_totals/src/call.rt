@@ -1,0 +1,188 @@
+// One call, by its record's first words: it is made, and what it answers and leaves in the lent lists is compared.
+use crate::doubles::are_cleared;
+use crate::doubles::fill;
+use checks::Answer;
+use glass::Manner;
+use stored::are_stored;
+use stored::at;
+use stored::number_at;
+use stored::word;
+
+// A refusal's number, told from a count.
+const REFUSED: u64 = 0x100_0000_0000;
+// The words that a record begins with, by their place; the first is the number of vertices.
+const FLOOR: usize = 1;
+
+const PER_ELEMENT: usize = 2;
+
+// 0 for totals of all configurations, 1 for their correlations, 2 for totals of drawn ones
+const ENTRY: usize = 3;
+
+const SEED: usize = 4;
+
+const FROM: usize = 5;
+
+const TO: usize = 6;
+
+const SAMPLES: usize = 7;
+
+// what results and work memory hold before the call
+const BEFORE: usize = 8;
+
+// the count of configurations, or the refusal
+const ANSWER: usize = 9;
+
+// how much of the memory is +0.0 after it
+const CLEARED: usize = 10;
+
+fn manner_of(per_element: u64) -> Manner {
+    if per_element == 1 {
+        return Manner::PerElement;
+    }
+    Manner::Block
+}
+
+fn answer_word(answer: Answer) -> u64 {
+    match answer {
+        Answer::Number(k) => k as u64,
+        Answer::Refused(k) => std::num::wrapping_add_u64(REFUSED, k as u64),
+    }
+}
+
+// The number of a stored answer's refusal, 0 where it is a count.
+pub(crate) fn refusal_at(list: &[u8], start: usize) -> usize {
+    let answer = word(list, at(start, ANSWER));
+    if answer < REFUSED {
+        return 0;
+    }
+    (answer - REFUSED) as usize
+}
+
+// The entry's call; `second` is not lent where it has one result list.
+fn answer(
+    list: &[u8],
+    start: usize,
+    a: &[usize],
+    b: &[usize],
+    m: &[f64],
+    us: &[usize],
+    vs: &[usize],
+    betas: &[f64],
+    factors: &[f64],
+    first: &mut [f64],
+    second: &mut [f64],
+    memory: &mut [f64],
+) -> Answer {
+    let n = number_at(list, start);
+    let floor = number_at(list, at(start, FLOOR));
+    let manner = manner_of(word(list, at(start, PER_ELEMENT)));
+    let entry = number_at(list, at(start, ENTRY));
+    let seed = word(list, at(start, SEED));
+    let from = word(list, at(start, FROM));
+    let to = word(list, at(start, TO));
+    let samples = number_at(list, at(start, SAMPLES));
+    if entry == 0 {
+        return totals::exhaustive(
+            n,
+            floor,
+            a,
+            b,
+            m,
+            us,
+            vs,
+            betas,
+            factors,
+            manner,
+            first,
+            second,
+            memory,
+        );
+    }
+    if entry == 1 {
+        return totals::exhaustive_c(
+            n,
+            floor,
+            a,
+            b,
+            m,
+            us,
+            vs,
+            betas,
+            factors,
+            manner,
+            first,
+            memory,
+        );
+    }
+    totals::sample(
+        n,
+        floor,
+        a,
+        b,
+        m,
+        us,
+        vs,
+        betas,
+        factors,
+        manner,
+        seed,
+        from,
+        to,
+        samples,
+        first,
+        second,
+        memory,
+    )
+}
+
+// Whether the answer is the stored one.
+pub(crate) fn answers(
+    list: &[u8],
+    start: usize,
+    a: &[usize],
+    b: &[usize],
+    m: &[f64],
+    us: &[usize],
+    vs: &[usize],
+    betas: &[f64],
+    factors: &[f64],
+    first: &mut [f64],
+    second: &mut [f64],
+    memory: &mut [f64],
+) -> bool {
+    fill(list, at(start, BEFORE), first);
+    fill(list, at(start, BEFORE), second);
+    fill(list, at(start, BEFORE), memory);
+    let answered = answer(
+        list,
+        start,
+        a,
+        b,
+        m,
+        us,
+        vs,
+        betas,
+        factors,
+        first,
+        second,
+        memory,
+    );
+    answer_word(answered) == word(list, at(start, ANSWER))
+}
+
+// Whether the results, which are stored at two places, and the work memory are what they should be.
+pub(crate) fn left_as_stored(
+    list: &[u8],
+    start: usize,
+    place: usize,
+    other: usize,
+    first: &[f64],
+    second: &[f64],
+    memory: &[f64],
+) -> bool {
+    let cleared = number_at(list, at(start, CLEARED));
+    let before = word(list, at(start, BEFORE));
+    are_stored(first, list, place)
+        & are_stored(second, list, other)
+        & are_cleared(memory, cleared, before)
+}
