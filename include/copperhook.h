@@ -100,6 +100,45 @@ size_t copperhook_correlations(size_t n, size_t floor, const size_t *a, size_t a
 size_t copperhook_couplings(size_t n, const size_t *a, size_t a_len, const size_t *b, size_t b_len, const double *m, size_t m_len,
                             const double *betas, size_t betas_len, double *results, size_t results_len);
 
+/* ---- Totals over configurations. */
+
+/*
+ * For each beta and pair, the sum over all configurations of the correlation's square, in `squares`, and of its fourth power, in
+ * `fourths`; how many configurations there are, 2 to the number of free edges, in *count. Bit i of a configuration's number gives the sign
+ * of the i-th free edge, 0 for plus; tree edges are plus (copperhook_spanning_forest tells them).
+ * `factors` has two doubles for each beta and kept edge: with k kept edges, those of beta i and edge e are at 2 * (i * k + e) for plus and
+ * next to it for minus, exp of the coupling and of its negative. Both result lists have exactly betas_len * us_len doubles, that of beta i
+ * and pair p at i * us_len + p. `work` is as copperhook_correlations takes it, with the room that copperhook_room answers.
+ * Refusals: 1 to 10 (4 of the betas too; 9 from 35 free edges on), 12, 13, 14.
+ */
+size_t copperhook_exhaustive(size_t n, size_t floor, const size_t *a, size_t a_len, const size_t *b, size_t b_len, const double *m,
+                             size_t m_len, const size_t *us, size_t us_len, const size_t *vs, size_t vs_len, const double *betas,
+                             size_t betas_len, const double *factors, size_t factors_len, size_t manner, double *squares,
+                             size_t squares_len, double *fourths, size_t fourths_len, double *work, size_t work_len, size_t *count);
+
+/*
+ * The correlations of all configurations themselves: that of beta i, pair p and configuration x, of c, at (i * us_len + p) * c + x of
+ * `stored`, which has exactly betas_len * us_len * c doubles. All else is as above.
+ * Refusals: 1 to 10 (9 from 25 free edges on), 12, 13, 14.
+ */
+size_t copperhook_exhaustive_c(size_t n, size_t floor, const size_t *a, size_t a_len, const size_t *b, size_t b_len, const double *m,
+                               size_t m_len, const size_t *us, size_t us_len, const size_t *vs, size_t vs_len, const double *betas,
+                               size_t betas_len, const double *factors, size_t factors_len, size_t manner, double *stored,
+                               size_t stored_len, double *work, size_t work_len, size_t *count);
+
+/*
+ * The sums, as above, over drawn configurations: `samples` of each chunk from `from` up to, and without, `to`; none where `to` is not above
+ * `from`. Chunk c draws the signs of its samples from the stream c of the seed (copperhook_rng_stream): a new word every 64 kept edges and
+ * for each sample, lowest bit first, 0 for plus. *count is chunks times samples. The free edges are not counted.
+ * Each chunk is summed from zero and the sums of the chunks are added in order: calls of one chunk each, added in order, give the same bits.
+ * Refusals: 1 to 8, 10, 11, 12, 13, 14.
+ */
+size_t copperhook_sample(size_t n, size_t floor, const size_t *a, size_t a_len, const size_t *b, size_t b_len, const double *m,
+                         size_t m_len, const size_t *us, size_t us_len, const size_t *vs, size_t vs_len, const double *betas,
+                         size_t betas_len, const double *factors, size_t factors_len, size_t manner, uint64_t seed, uint64_t from,
+                         uint64_t to, size_t samples, double *squares, size_t squares_len, double *fourths, size_t fourths_len,
+                         double *work, size_t work_len, size_t *count);
+
 /*
  * What a count of configurations and the sums of their squared correlations and of the fourth powers estimate. From count 2 on *enough is
  * true, *mean the mean square and *error its standard error. At count 1 *enough is false, *mean the mean, and *error as it was.

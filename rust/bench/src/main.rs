@@ -1,21 +1,24 @@
 //! Copperhook's time beside the original's: the same jobs, in one run, both built for release.
 //!
-//!     rust/bench/run [--quick | --width N]
+//!     rust/bench/run [--quick | --width N | --totals]
 //!
 //! proves what is needed, builds the archive and runs this. `--quick` stops at width 10; `--width N` measures one width alone, from 1 to 24,
-//! and tells how much memory a job's room is.
+//! and tells how much memory a job's room is; `--totals` measures the totals alone.
 //!
 //! The original's plan and work memory are made once, outside the timed loop, as its callers do. Ours checks and plans in every call and
 //! clears its room. The original takes the exponentials of the couplings inside, ours is lent factors: the last column adds to ours the time
 //! of these exponentials. Each job's bits are compared first. A time is the least of several rounds, in which the sides take turns.
 mod clock;
 mod ours;
+mod ratios;
+mod totals;
 
 use clock::{least_times, Rounds};
 use oracle::glass::{correlations, Plan};
 use oracle::lattice::{Graph, Kind, Strip};
 use oracle::rng::Rng;
 use ours::Lists;
+use ratios::Ratios;
 use std::hint::black_box;
 use std::ops::RangeInclusive;
 
@@ -36,8 +39,8 @@ const MANNERS: [Manner; 2] = [BLOCK, EACH];
 /// About how many entries a sweep steps over: a call then takes up to some hundred milliseconds.
 const ENTRIES: usize = 40_000_000;
 
-/// The strip of this width with as many columns as give these entries, three at least, and 1,024 vertices at most.
-fn strip_of(kind: Kind, w: usize, periodic: bool) -> Option<Strip> {
+/// The strip of this width with as many columns as give so many entries, three at least, and 1,024 vertices at most.
+fn strip_of_entries(kind: Kind, w: usize, periodic: bool, entries: usize) -> Option<Strip> {
     if kind == Kind::Honey && periodic && w % 2 != 0 {
         return None;
     }
@@ -45,7 +48,7 @@ fn strip_of(kind: Kind, w: usize, periodic: bool) -> Option<Strip> {
     if window > 24 {
         return None;
     }
-    let l = (ENTRIES / (w << window)).clamp(3, 1024 / w);
+    let l = (entries / (w << window)).clamp(3, 1024 / w);
     Some(Strip { kind, w, l, periodic })
 }
 
@@ -117,12 +120,9 @@ fn measure(job: &Job, manner: Manner, rounds: &Rounds) -> Times {
 
     let times = least_times(
         rounds,
-        &mut [
-            &mut || correlations(black_box(&plan), black_box(&job.couplings), &mut memory, &mut theirs),
-            &mut || {
-                let _ = black_box(job.lists.correlations(black_box(&job.factors), manner.ours, &mut results, &mut work));
-            },
-        ],
+        &mut [&mut || correlations(black_box(&plan), black_box(&job.couplings), &mut memory, &mut theirs), &mut || {
+            let _ = black_box(job.lists.correlations(black_box(&job.factors), manner.ours, &mut results, &mut work));
+        }],
     );
     Times { original: times[0], ours: times[1], exponentials: exponentials(job) }
 }
@@ -136,32 +136,6 @@ fn exponentials(job: &Job) -> f64 {
         black_box(&mut factors);
     };
     least_times(&Rounds { least: 9, round: 0.0005, total: 0.0 }, &mut [&mut take])[0]
-}
-
-/// The ratios of some jobs, and the worst of them.
-#[derive(Default)]
-struct Ratios {
-    ratios: Vec<f64>,
-    worst: Option<(f64, String)>,
-}
-
-impl Ratios {
-    fn add(&mut self, ratio: f64, job: &Job) {
-        self.ratios.push(ratio);
-        if self.worst.as_ref().map_or(true, |w| ratio > w.0) {
-            let s = &job.strip;
-            self.worst = Some((ratio, format!("{} {} {} x {}", s.kind.name(), s.bc(), s.w, s.l)));
-        }
-    }
-
-    fn print(&self, name: &str) {
-        if let Some((worst, job)) = &self.worst {
-            let count = self.ratios.len();
-            let mean = (self.ratios.iter().map(|r| r.ln()).sum::<f64>() / count as f64).exp();
-            let above = self.ratios.iter().filter(|&&r| r > 1.0).count();
-            println!("{name}: {count} jobs, geometric mean {mean:.3}, worst {worst:.3} ({job}), {above} above 1.0");
-        }
-    }
 }
 
 fn print_job(job: &Job, manner: Manner, times: &Times) {
@@ -192,7 +166,7 @@ fn print_sheet(widths: RangeInclusive<usize>, rounds: &Rounds, tell_room: bool) 
     for w in widths {
         for kind in KINDS {
             for periodic in [false, true] {
-                let Some(strip) = strip_of(kind, w, periodic) else { continue };
+                let Some(strip) = strip_of_entries(kind, w, periodic, ENTRIES) else { continue };
                 let job = Job::new(strip);
                 if tell_room {
                     println!("room: {} doubles, {:.1} MB", job.room(), 8e-6 * job.room() as f64);
@@ -201,7 +175,7 @@ fn print_sheet(widths: RangeInclusive<usize>, rounds: &Rounds, tell_room: bool) 
                     let times = measure(&job, manner, rounds);
                     print_job(&job, manner, &times);
                     let ratios = if job.graph.win >= 8 { &mut wide } else { &mut narrow };
-                    ratios[m].add(times.ours / times.original, &job);
+                    ratios[m].add(times.ours / times.original, &job.strip);
                 }
             }
         }
@@ -293,11 +267,14 @@ fn main() {
         [] => {
             print_sheet(4..=20, &rounds, false);
             print_checks();
+            totals::print_totals(4..=12);
         }
         ["--quick"] => {
             print_sheet(4..=10, &rounds, false);
             print_checks();
+            totals::print_totals(4..=8);
         }
+        ["--totals"] => totals::print_totals(4..=12),
         ["--width", w] => match w.parse::<usize>() {
             Ok(w) if (1..=24).contains(&w) => print_sheet(w..=w, &Rounds { least: 3, ..rounds }, true),
             _ => usage(),
@@ -307,6 +284,6 @@ fn main() {
 }
 
 fn usage() -> ! {
-    eprintln!("usage: rust/bench/run [--quick | --width N], N from 1 to 24");
+    eprintln!("usage: rust/bench/run [--quick | --width N | --totals], N from 1 to 24");
     std::process::exit(2);
 }

@@ -4,7 +4,7 @@ use crate::draw::Draw;
 use crate::guarded::{equal, Guarded};
 use crate::law::{factor_refusal, first, job_refusal, room, unless, Edges, Pairs};
 use crate::model::Model;
-use crate::shapes::{pairs, spoil_graph, swept_graph, Reach};
+use crate::shapes::{long_edge, pairs, short_edges, spoil_graph, swept_graph, Reach};
 use copperhook::sys;
 use oracle::glass::{correlations as original, Plan};
 use oracle::lattice::Graph;
@@ -136,8 +136,8 @@ fn spoil(draw: &mut Draw, job: &mut Job) {
     match draw.below(16) {
         0..=3 => spoil_graph(draw, &mut job.edges),
         4 => job.edges.floor = draw.of(&[24, 25, 1 << 40, usize::MAX]),
-        5 => long_edge(draw, job),
-        6 => short_edges(draw, job),
+        5 => link(job, |edges| long_edge(draw, edges)),
+        6 => link(job, |edges| short_edges(draw, edges)),
         7 => drop(if draw.once_in(2) { job.pairs.us.pop() } else { job.pairs.vs.pop() }),
         8 => (job.pairs, job.results) = (Pairs { us: vec![0; 257], vs: vec![n.wrapping_sub(1); 257] }, 257),
         9 => {
@@ -164,36 +164,14 @@ fn spoil(draw: &mut Draw, job: &mut Job) {
     }
 }
 
-/// One more kept edge with its factor.
-fn link(job: &mut Job, u: usize, v: usize) {
-    job.edges.a.push(u);
-    job.edges.b.push(v);
-    job.edges.m.push(1.0);
-    job.factors.push(0.5f64.exp());
-    if let Some(couplings) = &mut job.couplings {
-        couplings.push(0.5);
-    }
-}
-
-/// An edge of length 24 or more, where the graph has one.
-fn long_edge(draw: &mut Draw, job: &mut Job) {
-    if job.edges.n > 26 && job.edges.n <= 1024 {
-        let v = draw.within(25, job.edges.n - 1);
-        let length = draw.within(24, 25);
-        link(job, v, v - length);
-    }
-}
-
-/// Four to six short edges back from one vertex; some may be there twice, which is refused by 5.
-fn short_edges(draw: &mut Draw, job: &mut Job) {
-    if job.edges.n > 8 && job.edges.n <= 1024 {
-        let v = draw.within(7, job.edges.n - 1);
-        job.edges.floor = job.edges.floor.max(7);
-        for d in 1..=draw.within(4, 6) {
-            let joined = job.edges.kept().iter().any(|e| (e.0, e.1) == (v - d, v));
-            if !joined || draw.once_in(10) {
-                link(job, v, v - d);
-            }
+/// Edges that are added, with a factor for each.
+fn link(job: &mut Job, add: impl FnOnce(&mut Edges)) {
+    let before = job.edges.a.len();
+    add(&mut job.edges);
+    for _ in before..job.edges.a.len() {
+        job.factors.push(0.5f64.exp());
+        if let Some(couplings) = &mut job.couplings {
+            couplings.push(0.5);
         }
     }
 }

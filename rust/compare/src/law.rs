@@ -114,6 +114,23 @@ pub fn factor_refusal(factors: &[f64], count: usize) -> usize {
     unless(factors.len() == count && factors.iter().all(|&x| x.is_finite() && x > 0.0), 10)
 }
 
+/// How many edges are free: the kept ones whose ends earlier kept ones join already.
+pub fn free_edges(edges: &Edges) -> usize {
+    let mut name: Vec<usize> = (0..edges.n).collect();
+    let mut free = 0;
+    for (a, b, _) in edges.kept() {
+        let (old, new) = (name[b], name[a]);
+        free += usize::from(old == new);
+        name.iter_mut().filter(|x| **x == old).for_each(|x| *x = new);
+    }
+    free
+}
+
+/// Check 11, of the chunks from a start up to an end.
+pub fn sampling_refusal(from: u64, to: u64, samples: usize) -> usize {
+    unless(u128::from(to.saturating_sub(from)) * samples as u128 <= 1 << 32, 11)
+}
+
 /// Checks 15 and 16 of a strip, and 17 of a dilution.
 pub fn strip_refusal(kind: usize, w: usize, l: usize, periodic: bool, with_edges: bool, dilution: Option<[f64; 3]>) -> usize {
     if w == 0 || l == 0 || w as u128 * l as u128 > 1024 {

@@ -74,6 +74,29 @@ fn spoil_length(draw: &mut Draw, edges: &mut Edges) {
     }
 }
 
+/// An edge of length 24 or more, where the graph has room for one.
+pub fn long_edge(draw: &mut Draw, edges: &mut Edges) {
+    if edges.n > 26 && edges.n <= 1024 {
+        let v = draw.within(25, edges.n - 1);
+        let length = draw.within(24, 25);
+        push(edges, v, v - length, 1.0);
+    }
+}
+
+/// Four to six short edges back from one vertex; some may be there twice, which is refused by 5.
+pub fn short_edges(draw: &mut Draw, edges: &mut Edges) {
+    if edges.n > 8 && edges.n <= 1024 {
+        let v = draw.within(7, edges.n - 1);
+        edges.floor = edges.floor.max(7);
+        for d in 1..=draw.within(4, 6) {
+            let joined = edges.kept().iter().any(|e| (e.0, e.1) == (v - d, v));
+            if !joined || draw.once_in(10) {
+                push(edges, v, v - d, 1.0);
+            }
+        }
+    }
+}
+
 /// How far a job of correlations may reach: its window at most, and its vertices.
 #[derive(Clone, Copy)]
 pub struct Reach {

@@ -2,13 +2,14 @@
 
 use compare::{line, run, Until, GROUPS};
 
-const JOBS: [(&str, u64); 6] = [
+const JOBS: [(&str, u64); 7] = [
     ("generators", 150_000),
     ("graphs", 12_000),
     ("strips", 50_000),
     ("couplings", 40_000),
     ("correlations", 60_000),
     ("estimates", 500_000),
+    ("totals", 20_000),
 ];
 
 #[test]

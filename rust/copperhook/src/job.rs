@@ -1,4 +1,4 @@
-//! The pair correlations of a graph, and estimates of their mean square.
+//! The pair correlations of a graph, their totals over configurations, and estimates of the mean square.
 
 use crate::graph::{with_lists, Graph};
 use crate::refusal::Refusal;
@@ -36,6 +36,71 @@ impl Job<'_> {
             us.as_ptr(), us.len(), vs.as_ptr(), vs.len(), factors.as_ptr(), factors.len(), manner as usize,
             results.as_mut_ptr(), results.len(), work.as_mut_ptr(), work.len())))
     }
+
+    /// Writes, for each beta and pair, the sums over all configurations of the correlation's square and of its fourth power, and answers how
+    /// many configurations there are: 2 to the number of free edges. Those of beta i and pair p of k are at i * k + p of `squares` and
+    /// `fourths`. `factors` are those of [`Graph::factors`]: both signs of each beta and kept edge. `work` is as [`Job::correlations`] takes it.
+    pub fn exhaustive(
+        &self,
+        betas: &[f64],
+        factors: &[f64],
+        manner: Manner,
+        squares: &mut [f64],
+        fourths: &mut [f64],
+        work: &mut [f64],
+    ) -> Result<usize, Refusal> {
+        let (us, vs, mut count) = (self.us, self.vs, 0);
+        let number = with_lists!(copperhook_exhaustive(&self.graph, self.graph.floor;
+            us.as_ptr(), us.len(), vs.as_ptr(), vs.len(), betas.as_ptr(), betas.len(), factors.as_ptr(), factors.len(), manner as usize,
+            squares.as_mut_ptr(), squares.len(), fourths.as_mut_ptr(), fourths.len(), work.as_mut_ptr(), work.len(), &mut count));
+        Refusal::told(number).map(|()| count)
+    }
+
+    /// Writes the correlations of all configurations: that of beta i, pair p of k and configuration x of c goes to (i * k + p) * c + x of
+    /// `stored`, which has exactly as many doubles. Answers c. The rest is as for [`Job::exhaustive`].
+    pub fn exhaustive_c(
+        &self,
+        betas: &[f64],
+        factors: &[f64],
+        manner: Manner,
+        stored: &mut [f64],
+        work: &mut [f64],
+    ) -> Result<usize, Refusal> {
+        let (us, vs, mut count) = (self.us, self.vs, 0);
+        let number = with_lists!(copperhook_exhaustive_c(&self.graph, self.graph.floor;
+            us.as_ptr(), us.len(), vs.as_ptr(), vs.len(), betas.as_ptr(), betas.len(), factors.as_ptr(), factors.len(), manner as usize,
+            stored.as_mut_ptr(), stored.len(), work.as_mut_ptr(), work.len(), &mut count));
+        Refusal::told(number).map(|()| count)
+    }
+
+    /// Writes the sums of [`Job::exhaustive`] over drawn configurations instead, and answers how many there are: chunks times samples.
+    pub fn sample(
+        &self,
+        betas: &[f64],
+        factors: &[f64],
+        manner: Manner,
+        by: &Sampling,
+        squares: &mut [f64],
+        fourths: &mut [f64],
+        work: &mut [f64],
+    ) -> Result<usize, Refusal> {
+        let (us, vs, mut count) = (self.us, self.vs, 0);
+        let number = with_lists!(copperhook_sample(&self.graph, self.graph.floor;
+            us.as_ptr(), us.len(), vs.as_ptr(), vs.len(), betas.as_ptr(), betas.len(), factors.as_ptr(), factors.len(), manner as usize,
+            by.seed, by.from, by.to, by.samples,
+            squares.as_mut_ptr(), squares.len(), fourths.as_mut_ptr(), fourths.len(), work.as_mut_ptr(), work.len(), &mut count));
+        Refusal::told(number).map(|()| count)
+    }
+}
+
+/// Which configurations are drawn: `samples` of each chunk from `from` up to, and without, `to`, chunk c by stream c of the seed. Each chunk
+/// is summed from zero and the chunks are added in order, so chunks that were asked for one by one and added in order have the same bits.
+#[derive(Clone, Copy, Debug, PartialEq, Eq)]
+pub struct Sampling {
+    pub seed: u64,
+    pub from: u64,
+    pub to: u64,
+    pub samples: usize,
 }
 
 /// What a count of configurations and two sums estimate.

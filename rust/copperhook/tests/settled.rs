@@ -1,6 +1,6 @@
 //! The settled examples of document 01, through the bindings, and what lists hold after calls that are refused.
 
-use copperhook::{estimate, Dilution, Estimate, Graph, Job, Kind, Manner, Refusal, Rng, Strip};
+use copperhook::{estimate, Dilution, EdgeList, Estimate, Graph, Job, Kind, Manner, Refusal, Rng, Sampling, Strip};
 
 const MANNERS: [Manner; 2] = [Manner::PerElement, Manner::Block];
 
@@ -44,6 +44,76 @@ fn the_square() {
         job.correlations(&[2.0, 2.0, 2.0, last], Manner::Block, &mut results, &mut work).unwrap();
         assert_eq!(results.map(f64::to_bits), expected.map(f64::to_bits));
     }
+}
+
+#[test]
+fn the_squares_totals() {
+    let strip = Strip { kind: Kind::Square, width: 2, length: 2, periodic: false };
+    let edges = strip.edge_list().unwrap();
+    let job = Job { graph: edges.graph(4), us: &[0, 0], vs: &[1, 3] };
+    let (betas, factors) = ([2f64.ln()], [2.0, 0.5].repeat(4));
+    let each = [255.0 / 353.0, 15.0 / 34.0, 225.0 / 353.0, 0.0];
+    let square = |x: f64| x * x;
+    let sums = |power: &dyn Fn(f64) -> f64| [power(each[0]) + power(each[1]), power(each[2])];
+    let room = job.room().unwrap();
+    let (mut stored, mut squares, mut fourths, mut work) = ([9.0; 4], [9.0; 2], [9.0; 2], vec![9.0; room + 1]);
+    assert_eq!(job.exhaustive_c(&betas, &factors, Manner::Block, &mut stored, &mut work), Ok(2));
+    assert_eq!(stored.map(f64::to_bits), each.map(f64::to_bits));
+    assert_eq!(job.exhaustive(&betas, &factors, Manner::Block, &mut squares, &mut fourths, &mut work), Ok(2));
+    assert_eq!((squares, fourths), (sums(&square), sums(&|x| square(square(x)))));
+    assert!(work[..room].iter().all(|x| x.to_bits() == 0) && work[room] == 9.0);
+    let refused = job.exhaustive(&betas, &factors[1..], Manner::Block, &mut squares, &mut [], &mut work);
+    assert_eq!((refused, squares), (Err(Refusal::Factors), sums(&square)));
+}
+
+/// A strip of width 2 and so many free edges.
+fn ladder(free: usize) -> (usize, EdgeList) {
+    let strip = Strip { kind: Kind::Square, width: 2, length: free + 1, periodic: false };
+    (strip.n().unwrap(), strip.edge_list().unwrap())
+}
+
+#[test]
+fn free_edges_are_limited() {
+    for (free, most) in [(34, 34), (35, 34), (24, 24), (25, 24)] {
+        let (n, edges) = ladder(free);
+        let job = Job { graph: edges.graph(n), us: &[], vs: &[] };
+        let factors = job.graph.factors(&[0.5]).unwrap().all;
+        let mut work = vec![0.0; job.room().unwrap()];
+        let expected = if free <= most { Ok(1 << free) } else { Err(Refusal::FreeEdges) };
+        let answer = match most {
+            34 => job.exhaustive(&[0.5], &factors, Manner::Block, &mut [], &mut [], &mut work),
+            _ => job.exhaustive_c(&[0.5], &factors, Manner::Block, &mut [], &mut work),
+        };
+        assert_eq!(answer, expected);
+    }
+}
+
+#[test]
+fn chunks_are_added_in_order() {
+    let (n, edges) = ladder(40);
+    let job = Job { graph: edges.graph(n), us: &[0, 5], vs: &[81, 6] };
+    let betas = [0.3, 0.9];
+    let factors = job.graph.factors(&betas).unwrap().all;
+    let mut work = vec![0.0; job.room().unwrap()];
+    let mut drawn = |from: u64, to: u64, samples: usize| {
+        let (mut squares, mut fourths) = ([9.0; 4], [9.0; 4]);
+        let by = Sampling { seed: 11, from, to, samples };
+        let count = job.sample(&betas, &factors, Manner::Block, &by, &mut squares, &mut fourths, &mut work);
+        count.map(|count| (count, squares, fourths))
+    };
+    let (count, squares, fourths) = drawn(3, 7, 5).unwrap();
+    let (mut s, mut f) = ([0.0; 4], [0.0; 4]);
+    for chunk in 3..7 {
+        let (_, of_squares, of_fourths) = drawn(chunk, chunk + 1, 5).unwrap();
+        for k in 0..4 {
+            s[k] += of_squares[k];
+            f[k] += of_fourths[k];
+        }
+    }
+    assert_eq!((count, squares.map(f64::to_bits), fourths.map(f64::to_bits)), (20, s.map(f64::to_bits), f.map(f64::to_bits)));
+    assert_eq!(drawn(7, 7, 5), Ok((0, [0.0; 4], [0.0; 4])));
+    assert_eq!(drawn(0, u64::MAX, 0), Ok((0, [0.0; 4], [0.0; 4])));
+    assert_eq!(drawn(0, (1 << 32) + 1, 1), Err(Refusal::Samples));
 }
 
 #[test]
@@ -113,7 +183,7 @@ fn the_generator_is_xoshiro256_plus_plus() {
     assert!((0.0..1.0).contains(&Rng::new(1).uniform()));
 }
 
-/// Correlations and every graph entry, on as many vertices as there may be.
+/// Correlations, totals and every graph entry, on as many vertices as there may be.
 fn largest_calls() -> Result<(), Refusal> {
     let strip = Strip { kind: Kind::Triangular, width: 4, length: 256, periodic: true };
     let (edges, pairs) = (strip.edge_list()?, strip.labelled_pairs()?);
@@ -125,7 +195,15 @@ fn largest_calls() -> Result<(), Refusal> {
     graph.rotated(&mut [0; 4096], &mut [0; 4096], &mut [0.0; 4096])?;
     graph.spanning_forest(&mut vec![false; edges.m.len()])?;
     graph.components(&mut vec![0; 1024])?;
-    graph.factors(&[0.5; 64])?;
+    let (betas, factors) = ([0.5; 64], graph.factors(&[0.5; 64])?.all);
+    let (mut squares, mut fourths) = (vec![0.0; 64 * us.len()], vec![0.0; 64 * us.len()]);
+    let by = Sampling { seed: 1, from: 0, to: 1, samples: 1 };
+    job.sample(&betas, &factors, Manner::Block, &by, &mut squares, &mut fourths, &mut work)?;
+    let (n, few) = ladder(5);
+    let job = Job { graph: few.graph(n), us: &us[..1], vs: &[1; 1] };
+    let factors = job.graph.factors(&betas)?.all;
+    job.exhaustive(&betas, &factors, Manner::Block, &mut [0.0; 64], &mut [0.0; 64], &mut work)?;
+    job.exhaustive_c(&betas, &factors, Manner::Block, &mut vec![0.0; 64 << 5], &mut work)?;
     graph.distance(0, 1023).map(drop)
 }
 
