@@ -1,8 +1,8 @@
-//! The totals beside the original's, with one thread: enumerated ones of strips with few free edges, and sampled ones of whole strips.
+//! The totals beside the original's, with one thread: enumerated ones of short strips, and sampled ones of long strips.
 //!
 //! Both sides take the graph and, the original, its plan as made; it makes its work memory in each call, and takes the exponentials of each
 //! configuration's couplings anew. Ours is lent factors, two for each beta and edge: the last column adds the time of those exponentials.
-use crate::clock::{least_times, Rounds};
+use crate::clock::{least_times, stay_on_this_processor, Rounds};
 use crate::ours::Lists;
 use crate::ratios::Ratios;
 use crate::{strip_of_entries, Manner, KINDS, MANNERS};
@@ -13,10 +13,8 @@ use std::hint::black_box;
 use std::ops::RangeInclusive;
 
 const BETAS: [f64; 2] = [0.3, 0.7];
-/// Free edges of an enumeration: 32 configurations.
-const FREE: usize = 5;
 const SAMPLES: Sampling = Sampling { seed: 7, from: 0, to: 4, samples: 8 };
-/// About how many entries the sweep of a configuration steps over.
+/// About how many entries the sweep of a sample steps over.
 const ENTRIES: usize = 400_000;
 
 #[derive(Clone, Copy, PartialEq)]
@@ -36,22 +34,32 @@ struct Job {
     factors: Vec<f64>,
 }
 
-/// The strip's edges, all of magnitude 1.0; for an enumeration those past so many free ones get magnitude zero.
+/// How many free edges an enumeration has at most: 10 at width 4, 6 at width 12, so that a call takes up to some hundred milliseconds.
+fn most_free(w: usize) -> usize {
+    10 - (w.clamp(4, 12) - 4) / 2
+}
+
+/// The longest strip with so few free edges, of two columns at least.
+fn enumerated(strip: &Strip) -> Strip {
+    let of_length = |l| Strip { l, ..strip.clone() };
+    let fits = |l: &usize| of_length(*l).graph().cyclomatic() <= most_free(strip.w);
+    of_length((2..40).take_while(fits).last().unwrap_or(2))
+}
+
+/// The strip's edges, all of magnitude 1.0; for an enumeration those past the free ones that it takes get magnitude zero.
 fn edges_of(strip: &Strip, entry: Entry) -> Vec<(usize, usize, f64)> {
     let mut raw = strip.raw_edges();
     if entry == Entry::Exhaustive {
         let tree = Graph::new(strip.n(), &raw).spanning_forest();
-        let free = tree.iter().enumerate().filter(|(_, &tree)| !tree).map(|(e, _)| e);
-        // spread over the strip
-        let free: Vec<usize> = free.collect();
-        let stays: Vec<usize> = (0..FREE).map(|i| free[i * free.len() / FREE]).collect();
-        free.iter().filter(|e| !stays.contains(e)).for_each(|&e| raw[e].2 = 0.0);
+        let free = (0..tree.len()).filter(|&e| !tree[e]);
+        free.skip(most_free(strip.w)).for_each(|e| raw[e].2 = 0.0);
     }
     raw
 }
 
 impl Job {
-    fn new(strip: Strip, entry: Entry) -> Job {
+    fn new(strip: &Strip, entry: Entry) -> Job {
+        let strip = if entry == Entry::Exhaustive { enumerated(strip) } else { strip.clone() };
         let raw = edges_of(&strip, entry);
         let mut graph = Graph::new(strip.n(), &raw);
         graph.win = strip.graph().win;
@@ -113,7 +121,7 @@ fn measure(job: &Job, manner: Manner) -> Vec<f64> {
 fn print_job(job: &Job, manner: Manner, times: &[f64]) {
     let s = &job.strip;
     println!(
-        "| {} | {} | {} | {} | {} | {} | {} | {} | {} | {:.3} | {:.3} | {:.3} | {:.3} |",
+        "| {} | {} | {} | {} | {} | {} | {} | {} | {} | {} | {:.3} | {:.3} | {:.3} | {:.3} |",
         if job.entry == Entry::Exhaustive { "exhaustive" } else { "sample" },
         s.kind.name(),
         s.bc(),
@@ -121,6 +129,7 @@ fn print_job(job: &Job, manner: Manner, times: &[f64]) {
         s.l,
         job.graph.win,
         s.n(),
+        job.graph.cyclomatic(),
         job.pairs.len(),
         manner.name,
         1e3 * times[0],
@@ -131,23 +140,20 @@ fn print_job(job: &Job, manner: Manner, times: &[f64]) {
 }
 
 pub fn print_totals(widths: RangeInclusive<usize>) {
+    stay_on_this_processor();
+    println!();
+    println!("Totals of {} betas: of all configurations of short strips, and of drawn ones of long strips.", BETAS.len());
     println!();
     println!(
-        "Totals of {} betas and {} configurations: enumerated, with {FREE} free edges, and sampled, of whole strips.",
-        BETAS.len(),
-        1 << FREE
+        "| entry | kind | boundary | width | columns | window | vertices | free edges | pairs | manner | original, ms | ours, ms | ratio | with exp |"
     );
-    println!();
-    println!(
-        "| entry | kind | boundary | width | columns | window | vertices | pairs | manner | original, ms | ours, ms | ratio | with exp |"
-    );
-    println!("|---|---|---|---|---|---|---|---|---|---|---|---|---|");
+    println!("|---|---|---|---|---|---|---|---|---|---|---|---|---|---|");
     let mut ratios: [[Ratios; 2]; 2] = Default::default();
     for w in widths {
         for (kind, periodic) in KINDS.into_iter().flat_map(|kind| [(kind, false), (kind, true)]) {
             let Some(strip) = strip_of_entries(kind, w, periodic, ENTRIES) else { continue };
             for (e, entry) in [Entry::Exhaustive, Entry::Sample].into_iter().enumerate() {
-                let job = Job::new(strip.clone(), entry);
+                let job = Job::new(&strip, entry);
                 for (m, manner) in MANNERS.into_iter().enumerate() {
                     let times = measure(&job, manner);
                     print_job(&job, manner, &times);
