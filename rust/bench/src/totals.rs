@@ -1,4 +1,5 @@
-//! The totals beside the original's, with one thread: enumerated ones of short strips, and sampled ones of long strips.
+//! The totals beside the original's, with one thread: enumerated ones of short strips and of long ones that are almost trees, and sampled ones
+//! of long strips.
 //!
 //! Both sides take the graph and, the original, its plan as made; it makes its work memory in each call, and takes the exponentials of each
 //! configuration's couplings anew. Ours is lent factors, two for each beta and edge: the last column adds the time of those exponentials.
@@ -14,14 +15,21 @@ use std::ops::RangeInclusive;
 
 const BETAS: [f64; 2] = [0.3, 0.7];
 const SAMPLES: Sampling = Sampling { seed: 7, from: 0, to: 4, samples: 8 };
-/// About how many entries the sweep of a sample steps over.
+/// The free edges of a sparse strip: 32 configurations.
+const SPARSE: usize = 5;
+/// About how many entries the sweep of a configuration of a long strip steps over.
 const ENTRIES: usize = 400_000;
 
 #[derive(Clone, Copy, PartialEq)]
 enum Entry {
     Exhaustive,
+    /// Of a long strip with few free edges.
+    Sparse,
     Sample,
 }
+
+const ENTRIES_NAMED: [(Entry, &str); 3] =
+    [(Entry::Exhaustive, "exhaustive"), (Entry::Sparse, "exhaustive, sparse"), (Entry::Sample, "sample")];
 
 /// A strip with its standard pairs, as each side takes it.
 struct Job {
@@ -49,11 +57,15 @@ fn enumerated(strip: &Strip) -> Strip {
 /// The strip's edges, all of magnitude 1.0; for an enumeration those past the free ones that it takes get magnitude zero.
 fn edges_of(strip: &Strip, entry: Entry) -> Vec<(usize, usize, f64)> {
     let mut raw = strip.raw_edges();
-    if entry == Entry::Exhaustive {
-        let tree = Graph::new(strip.n(), &raw).spanning_forest();
-        let free = (0..tree.len()).filter(|&e| !tree[e]);
-        free.skip(most_free(strip.w)).for_each(|e| raw[e].2 = 0.0);
-    }
+    let tree = Graph::new(strip.n(), &raw).spanning_forest();
+    let free: Vec<usize> = (0..tree.len()).filter(|&e| !tree[e]).collect();
+    // the sparse ones are spread over the strip
+    let stays: Vec<usize> = match entry {
+        Entry::Exhaustive => free.iter().copied().take(most_free(strip.w)).collect(),
+        Entry::Sparse => (0..SPARSE).map(|i| free[i * free.len() / SPARSE]).collect(),
+        Entry::Sample => free.clone(),
+    };
+    free.iter().filter(|e| !stays.contains(e)).for_each(|&e| raw[e].2 = 0.0);
     raw
 }
 
@@ -72,7 +84,7 @@ impl Job {
 
     fn original(&self, plan: &Plan) -> Acc {
         match self.entry {
-            Entry::Exhaustive => exhaustive(&self.graph, plan, &BETAS, 1),
+            Entry::Exhaustive | Entry::Sparse => exhaustive(&self.graph, plan, &BETAS, 1),
             Entry::Sample => sample(&self.graph, plan, &BETAS, SAMPLES.seed, SAMPLES.from, SAMPLES.to, SAMPLES.samples, 1),
         }
     }
@@ -80,7 +92,7 @@ impl Job {
     fn ours(&self, manner: Manner, squares: &mut [f64], fourths: &mut [f64], work: &mut [f64]) -> Result<usize, Refusal> {
         let (job, factors) = (self.lists.job(), black_box(&self.factors[..]));
         match self.entry {
-            Entry::Exhaustive => job.exhaustive(&BETAS, factors, manner.ours, squares, fourths, work),
+            Entry::Exhaustive | Entry::Sparse => job.exhaustive(&BETAS, factors, manner.ours, squares, fourths, work),
             Entry::Sample => job.sample(&BETAS, factors, manner.ours, &SAMPLES, squares, fourths, work),
         }
     }
@@ -122,7 +134,7 @@ fn print_job(job: &Job, manner: Manner, times: &[f64]) {
     let s = &job.strip;
     println!(
         "| {} | {} | {} | {} | {} | {} | {} | {} | {} | {} | {:.3} | {:.3} | {:.3} | {:.3} |",
-        if job.entry == Entry::Exhaustive { "exhaustive" } else { "sample" },
+        ENTRIES_NAMED[job.entry as usize].1,
         s.kind.name(),
         s.bc(),
         s.w,
@@ -142,17 +154,17 @@ fn print_job(job: &Job, manner: Manner, times: &[f64]) {
 pub fn print_totals(widths: RangeInclusive<usize>) {
     stay_on_this_processor();
     println!();
-    println!("Totals of {} betas: of all configurations of short strips, and of drawn ones of long strips.", BETAS.len());
+    println!("Totals of {} betas: of all configurations of short strips, of all of long strips with {SPARSE} free edges, and of drawn ones of long strips.", BETAS.len());
     println!();
     println!(
         "| entry | kind | boundary | width | columns | window | vertices | free edges | pairs | manner | original, ms | ours, ms | ratio | with exp |"
     );
     println!("|---|---|---|---|---|---|---|---|---|---|---|---|---|---|");
-    let mut ratios: [[Ratios; 2]; 2] = Default::default();
+    let mut ratios: [[Ratios; 2]; 3] = Default::default();
     for w in widths {
         for (kind, periodic) in KINDS.into_iter().flat_map(|kind| [(kind, false), (kind, true)]) {
             let Some(strip) = strip_of_entries(kind, w, periodic, ENTRIES) else { continue };
-            for (e, entry) in [Entry::Exhaustive, Entry::Sample].into_iter().enumerate() {
+            for (e, (entry, _)) in ENTRIES_NAMED.into_iter().enumerate() {
                 let job = Job::new(&strip, entry);
                 for (m, manner) in MANNERS.into_iter().enumerate() {
                     let times = measure(&job, manner);
@@ -163,7 +175,7 @@ pub fn print_totals(widths: RangeInclusive<usize>) {
         }
     }
     println!();
-    for (of_entry, name) in ratios.iter().zip(["exhaustive", "sample"]) {
+    for (of_entry, (_, name)) in ratios.iter().zip(ENTRIES_NAMED) {
         for (ratios, manner) in of_entry.iter().zip(MANNERS) {
             ratios.print(&format!("{name}, {}", manner.name));
         }
