@@ -8,6 +8,8 @@ struct Timespec {
 
 extern "C" {
     fn clock_gettime(clock: i32, time: *mut Timespec) -> i32;
+    fn sched_getcpu() -> i32;
+    fn sched_setaffinity(process: i32, bytes: usize, processors: *const [u64; 16]) -> i32;
 }
 
 /// Linux's CLOCK_PROCESS_CPUTIME_ID.
@@ -20,6 +22,19 @@ fn now() -> f64 {
     let failed = unsafe { clock_gettime(PROCESS_TIME, &mut time) };
     assert_eq!(failed, 0, "no clock of the program's time");
     time.seconds as f64 + 1e-9 * time.nanoseconds as f64
+}
+
+/// Keeps this program and the threads that it starts on the processor that it is on: the time of a thread that still runs elsewhere is counted
+/// late, and that of one that was taken off is not.
+pub fn stay_on_this_processor() {
+    let mut processors = [0; 16];
+    // SAFETY: no pointer, and one to as many bytes as are told.
+    let failed = unsafe {
+        let here = sched_getcpu() as usize % 1024;
+        processors[here / 64] = 1 << (here % 64);
+        sched_setaffinity(0, 128, &processors)
+    };
+    assert_eq!(failed, 0, "the program cannot be kept on one processor");
 }
 
 /// The time of `calls` calls.

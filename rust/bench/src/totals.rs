@@ -1,8 +1,9 @@
-//! The totals beside the original's, with one thread: enumerated ones of strips with few free edges, and sampled ones of whole strips.
+//! The totals beside the original's, with one thread: enumerated ones of short strips and of long ones that are almost trees, and sampled ones
+//! of long strips.
 //!
 //! Both sides take the graph and, the original, its plan as made; it makes its work memory in each call, and takes the exponentials of each
 //! configuration's couplings anew. Ours is lent factors, two for each beta and edge: the last column adds the time of those exponentials.
-use crate::clock::{least_times, Rounds};
+use crate::clock::{least_times, stay_on_this_processor, Rounds};
 use crate::ours::Lists;
 use crate::ratios::Ratios;
 use crate::{strip_of_entries, Manner, KINDS, MANNERS};
@@ -13,17 +14,22 @@ use std::hint::black_box;
 use std::ops::RangeInclusive;
 
 const BETAS: [f64; 2] = [0.3, 0.7];
-/// Free edges of an enumeration: 32 configurations.
-const FREE: usize = 5;
 const SAMPLES: Sampling = Sampling { seed: 7, from: 0, to: 4, samples: 8 };
-/// About how many entries the sweep of a configuration steps over.
+/// The free edges of a sparse strip: 32 configurations.
+const SPARSE: usize = 5;
+/// About how many entries the sweep of a configuration of a long strip steps over.
 const ENTRIES: usize = 400_000;
 
 #[derive(Clone, Copy, PartialEq)]
 enum Entry {
     Exhaustive,
+    /// Of a long strip with few free edges.
+    Sparse,
     Sample,
 }
+
+const ENTRIES_NAMED: [(Entry, &str); 3] =
+    [(Entry::Exhaustive, "exhaustive"), (Entry::Sparse, "exhaustive, sparse"), (Entry::Sample, "sample")];
 
 /// A strip with its standard pairs, as each side takes it.
 struct Job {
@@ -36,22 +42,36 @@ struct Job {
     factors: Vec<f64>,
 }
 
-/// The strip's edges, all of magnitude 1.0; for an enumeration those past so many free ones get magnitude zero.
+/// How many free edges an enumeration has at most: 10 at width 4, 6 at width 12, so that a call takes up to some hundred milliseconds.
+fn most_free(w: usize) -> usize {
+    10 - (w.clamp(4, 12) - 4) / 2
+}
+
+/// The longest strip with so few free edges, of two columns at least.
+fn enumerated(strip: &Strip) -> Strip {
+    let of_length = |l| Strip { l, ..strip.clone() };
+    let fits = |l: &usize| of_length(*l).graph().cyclomatic() <= most_free(strip.w);
+    of_length((2..40).take_while(fits).last().unwrap_or(2))
+}
+
+/// The strip's edges, all of magnitude 1.0; for an enumeration those past the free ones that it takes get magnitude zero.
 fn edges_of(strip: &Strip, entry: Entry) -> Vec<(usize, usize, f64)> {
     let mut raw = strip.raw_edges();
-    if entry == Entry::Exhaustive {
-        let tree = Graph::new(strip.n(), &raw).spanning_forest();
-        let free = tree.iter().enumerate().filter(|(_, &tree)| !tree).map(|(e, _)| e);
-        // spread over the strip
-        let free: Vec<usize> = free.collect();
-        let stays: Vec<usize> = (0..FREE).map(|i| free[i * free.len() / FREE]).collect();
-        free.iter().filter(|e| !stays.contains(e)).for_each(|&e| raw[e].2 = 0.0);
-    }
+    let tree = Graph::new(strip.n(), &raw).spanning_forest();
+    let free: Vec<usize> = (0..tree.len()).filter(|&e| !tree[e]).collect();
+    // the sparse ones are spread over the strip
+    let stays: Vec<usize> = match entry {
+        Entry::Exhaustive => free.iter().copied().take(most_free(strip.w)).collect(),
+        Entry::Sparse => (0..SPARSE).map(|i| free[i * free.len() / SPARSE]).collect(),
+        Entry::Sample => free.clone(),
+    };
+    free.iter().filter(|e| !stays.contains(e)).for_each(|&e| raw[e].2 = 0.0);
     raw
 }
 
 impl Job {
-    fn new(strip: Strip, entry: Entry) -> Job {
+    fn new(strip: &Strip, entry: Entry) -> Job {
+        let strip = if entry == Entry::Exhaustive { enumerated(strip) } else { strip.clone() };
         let raw = edges_of(&strip, entry);
         let mut graph = Graph::new(strip.n(), &raw);
         graph.win = strip.graph().win;
@@ -64,7 +84,7 @@ impl Job {
 
     fn original(&self, plan: &Plan) -> Acc {
         match self.entry {
-            Entry::Exhaustive => exhaustive(&self.graph, plan, &BETAS, 1),
+            Entry::Exhaustive | Entry::Sparse => exhaustive(&self.graph, plan, &BETAS, 1),
             Entry::Sample => sample(&self.graph, plan, &BETAS, SAMPLES.seed, SAMPLES.from, SAMPLES.to, SAMPLES.samples, 1),
         }
     }
@@ -72,7 +92,7 @@ impl Job {
     fn ours(&self, manner: Manner, squares: &mut [f64], fourths: &mut [f64], work: &mut [f64]) -> Result<usize, Refusal> {
         let (job, factors) = (self.lists.job(), black_box(&self.factors[..]));
         match self.entry {
-            Entry::Exhaustive => job.exhaustive(&BETAS, factors, manner.ours, squares, fourths, work),
+            Entry::Exhaustive | Entry::Sparse => job.exhaustive(&BETAS, factors, manner.ours, squares, fourths, work),
             Entry::Sample => job.sample(&BETAS, factors, manner.ours, &SAMPLES, squares, fourths, work),
         }
     }
@@ -113,14 +133,15 @@ fn measure(job: &Job, manner: Manner) -> Vec<f64> {
 fn print_job(job: &Job, manner: Manner, times: &[f64]) {
     let s = &job.strip;
     println!(
-        "| {} | {} | {} | {} | {} | {} | {} | {} | {} | {:.3} | {:.3} | {:.3} | {:.3} |",
-        if job.entry == Entry::Exhaustive { "exhaustive" } else { "sample" },
+        "| {} | {} | {} | {} | {} | {} | {} | {} | {} | {} | {:.3} | {:.3} | {:.3} | {:.3} |",
+        ENTRIES_NAMED[job.entry as usize].1,
         s.kind.name(),
         s.bc(),
         s.w,
         s.l,
         job.graph.win,
         s.n(),
+        job.graph.cyclomatic(),
         job.pairs.len(),
         manner.name,
         1e3 * times[0],
@@ -131,23 +152,20 @@ fn print_job(job: &Job, manner: Manner, times: &[f64]) {
 }
 
 pub fn print_totals(widths: RangeInclusive<usize>) {
+    stay_on_this_processor();
+    println!();
+    println!("Totals of {} betas: of all configurations of short strips, of all of long strips with {SPARSE} free edges, and of drawn ones of long strips.", BETAS.len());
     println!();
     println!(
-        "Totals of {} betas and {} configurations: enumerated, with {FREE} free edges, and sampled, of whole strips.",
-        BETAS.len(),
-        1 << FREE
+        "| entry | kind | boundary | width | columns | window | vertices | free edges | pairs | manner | original, ms | ours, ms | ratio | with exp |"
     );
-    println!();
-    println!(
-        "| entry | kind | boundary | width | columns | window | vertices | pairs | manner | original, ms | ours, ms | ratio | with exp |"
-    );
-    println!("|---|---|---|---|---|---|---|---|---|---|---|---|---|");
-    let mut ratios: [[Ratios; 2]; 2] = Default::default();
+    println!("|---|---|---|---|---|---|---|---|---|---|---|---|---|---|");
+    let mut ratios: [[Ratios; 2]; 3] = Default::default();
     for w in widths {
         for (kind, periodic) in KINDS.into_iter().flat_map(|kind| [(kind, false), (kind, true)]) {
             let Some(strip) = strip_of_entries(kind, w, periodic, ENTRIES) else { continue };
-            for (e, entry) in [Entry::Exhaustive, Entry::Sample].into_iter().enumerate() {
-                let job = Job::new(strip.clone(), entry);
+            for (e, (entry, _)) in ENTRIES_NAMED.into_iter().enumerate() {
+                let job = Job::new(&strip, entry);
                 for (m, manner) in MANNERS.into_iter().enumerate() {
                     let times = measure(&job, manner);
                     print_job(&job, manner, &times);
@@ -157,7 +175,7 @@ pub fn print_totals(widths: RangeInclusive<usize>) {
         }
     }
     println!();
-    for (of_entry, name) in ratios.iter().zip(["exhaustive", "sample"]) {
+    for (of_entry, (_, name)) in ratios.iter().zip(ENTRIES_NAMED) {
         for (ratios, manner) in of_entry.iter().zip(MANNERS) {
             ratios.print(&format!("{name}, {}", manner.name));
         }

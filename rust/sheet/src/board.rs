@@ -13,6 +13,7 @@ pub struct Board {
     pub distances: Vec<Option<usize>>,
     pub n: usize,
     pub kept: usize,
+    pub free: usize,
     pub window: usize,
     /// The work memory of one call, in doubles.
     pub room: usize,
@@ -75,10 +76,11 @@ impl Board {
         let (us, vs): (Vec<usize>, Vec<usize>) = pairs.iter().map(|p| (p.u, p.v)).unzip();
         let room = Job { graph, us: &us, vs: &vs }.room().map_err(named)?;
         let kept = graph.kept_list().map_err(named)?.m.len();
+        let free = graph.cyclomatic().map_err(named)?;
         let distances = pairs.iter().map(|p| graph.distance(p.u, p.v)).collect::<Result<_, _>>().map_err(named)?;
         let diluted = options.dilution.map(|by| format!("keep {}, magnitudes {} to {}, seed {}", by.keep, by.low, by.high, by.seed));
         let (betas, manner) = (options.betas.clone(), options.manner);
-        Ok(Board { strip, betas, manner, pairs, distances, n, kept, window: floor, room, diluted, edges, us, vs })
+        Ok(Board { strip, betas, manner, pairs, distances, n, kept, free, window: floor, room, diluted, edges, us, vs })
     }
 
     pub fn graph(&self) -> Graph<'_> {
@@ -87,6 +89,10 @@ impl Board {
 
     pub fn job(&self) -> Job<'_> {
         Job { graph: self.graph(), us: &self.us, vs: &self.vs }
+    }
+
+    pub fn beta_values(&self) -> Vec<f64> {
+        self.betas.iter().map(|b| b.value).collect()
     }
 
     /// A refusal of a board that was made: it is the betas' then.

@@ -1,8 +1,9 @@
 //! What a run will take, said before it starts, and how far it is.
 
 use crate::board::Board;
+use crate::source::Source;
 use crate::trouble::Trouble;
-use copperhook::{Job, Kind, Manner, Strip};
+use copperhook::{Job, Kind, Manner, Sampling, Strip};
 use std::io::{IsTerminal, Write};
 use std::time::Instant;
 
@@ -16,11 +17,11 @@ pub struct Cost {
 }
 
 impl Cost {
-    pub fn of(board: &Board, sweeps: f64) -> Cost {
-        let entries = board.entries() * sweeps * board.betas.len() as f64;
-        // a rate need not be measured for what is short at any rate
-        let seconds = if entries < 1e8 { 0.0 } else { entries / entries_in_a_second() };
-        Cost { seconds, bytes: 8.0 * board.room as f64 }
+    pub fn of(board: &Board, source: &dyn Source) -> Cost {
+        let calls = source.sweeps() * board.betas.len() as f64;
+        // nothing need be measured for what is short at any rate
+        let seconds = if calls * board.entries() < 2e7 { 0.0 } else { calls * seconds_of_a_call(board) / source.threads() as f64 };
+        Cost { seconds, bytes: 8.0 * board.room as f64 * source.threads() as f64 }
     }
 
     pub fn is_long(&self) -> bool {
@@ -33,6 +34,29 @@ impl Cost {
             tell(&format!("sheet: about {}, with {} of work memory\n", time(self.seconds), size(self.bytes)));
         }
     }
+}
+
+/// The sweeps of one configuration at one beta: by a trial of some milliseconds with samples of the strip itself, or where one of them would
+/// take longer, by its entries.
+fn seconds_of_a_call(board: &Board) -> f64 {
+    let trial = |samples: usize| -> Result<f64, copperhook::Refusal> {
+        let factors = board.graph().factors(&[0.5])?.all;
+        let (mut squares, mut fourths) = (vec![0.0; board.pairs.len()], vec![0.0; board.pairs.len()]);
+        let (by, mut work) = (Sampling { seed: 1, from: 0, to: 1, samples }, vec![0.0; board.room]);
+        let start = Instant::now();
+        board.job().sample(&[0.5], &factors, board.manner, &by, &mut squares, &mut fourths, &mut work)?;
+        Ok(start.elapsed().as_secs_f64())
+    };
+    if board.entries() < 1e7 {
+        for samples in [1, 10, 100, 1000] {
+            match trial(samples) {
+                Ok(seconds) if seconds > 0.005 || samples == 1000 => return seconds / samples as f64,
+                Ok(_) => (),
+                Err(_) => break,
+            }
+        }
+    }
+    board.entries() / entries_in_a_second()
 }
 
 /// Of a trial of some milliseconds.
@@ -52,9 +76,9 @@ fn entries_in_a_second() -> f64 {
     trial().unwrap_or(5e8)
 }
 
-/// Work memory, all +0.0; a sentence where this machine has too little.
-pub fn work_memory(board: &Board) -> Result<Vec<f64>, Trouble> {
-    let bytes = 8.0 * board.room as f64;
+/// Work memory of so many threads, all +0.0; a sentence where this machine has too little.
+pub fn work_memory(board: &Board, threads: usize) -> Result<Vec<f64>, Trouble> {
+    let (room, bytes) = (board.room.saturating_mul(threads), 8.0 * board.room as f64 * threads as f64);
     let lacking = |free: String| {
         let strip = &board.strip;
         Trouble::Machine(format!("--width {} --length {}: the work memory is {}, {free}", strip.width, strip.length, size(bytes)))
@@ -63,8 +87,8 @@ pub fn work_memory(board: &Board) -> Result<Vec<f64>, Trouble> {
         return Err(lacking(format!("and {} are free", size(free))));
     }
     let mut work = Vec::new();
-    work.try_reserve_exact(board.room).map_err(|_| lacking("which cannot be had".to_string()))?;
-    work.resize(board.room, 0.0);
+    work.try_reserve_exact(room).map_err(|_| lacking("which cannot be had".to_string()))?;
+    work.resize(room, 0.0);
     Ok(work)
 }
 
@@ -109,10 +133,10 @@ impl Progress {
         Progress { start: Instant::now(), shown: cost.is_long() && std::io::stderr().is_terminal() }
     }
 
-    pub fn done(&self, done: usize, all: usize) {
-        if self.shown && done < all {
+    pub fn done(&self, done: u64, all: u64, what: &str) {
+        if self.shown && 0 < done && done < all {
             let left = self.start.elapsed().as_secs_f64() / done as f64 * (all - done) as f64;
-            tell(&format!("\r\x1b[Ksheet: {done} of {all} betas, about {} left", time(left)));
+            tell(&format!("\r\x1b[Ksheet: {done} of {all} {what}, about {} left", time(left)));
         }
     }
 

@@ -1,6 +1,7 @@
 //! The program that makes a sheet: `sheet --help` tells its options.
 
 mod board;
+mod configuration;
 mod cost;
 mod data;
 mod options;
@@ -9,6 +10,7 @@ mod plot;
 mod sheet;
 mod source;
 mod text;
+mod totals;
 mod trouble;
 
 use board::Board;
@@ -22,11 +24,11 @@ use trouble::Trouble;
 fn make(options: &Options) -> Result<String, Trouble> {
     let board = Board::new(options)?;
     let source = source::chosen(options, &board)?;
-    let cost = Cost::of(&board, source.sweeps());
+    let cost = Cost::of(&board, source.as_ref());
     cost.say();
-    let mut work = work_memory(&board)?;
+    let mut work = work_memory(&board, source.threads())?;
     let progress = Progress::new(&cost);
-    let values = source.values(&board, &mut work, &mut |done| progress.done(done, board.betas.len()));
+    let values = source.values(&board, &mut work, &|done, all, what| progress.done(done, all, what));
     progress.end();
     let sheet = Sheet::new(&board, source.as_ref(), values?, options.bits);
     Ok(match options.format {

@@ -1,7 +1,7 @@
 //! The options of the program.
 
 use crate::trouble::Trouble;
-use copperhook::{Dilution, Kind, Manner, Strip};
+use copperhook::{Dilution, Kind, Manner, Sampling, Strip};
 use std::path::PathBuf;
 
 pub const HELP: &str = "\
@@ -18,18 +18,25 @@ what is asked of it
     --beta B,..              inverse temperatures, up to 64
     --pairs U-V,..           these pairs of vertices, up to 256; without it the standard pairs.
                              Vertex (x, y), x along and y across, is x times the width + y
-    --signs S                the sign of each kept edge in order, as +-++; without it all are plus
-    --seed N                 the signs drawn with this seed instead
     --manner M               block (the default) or element: how often a sweep is rescaled; the last bits depend on it
+of which configurations: with at most 20 free edges of all, with more of the one whose signs are plus, unless one of these is given
+    --signs S                one: the sign of each kept edge in order, as +-++, or plus for all
+    --seed N                 one: the signs drawn with this seed
+    --enumerate              all, up to 34 free edges: the mean square of each correlation, and its standard error
+    --sample N               drawn ones, N in each chunk: mean square and error again
+        --chunks C           that many chunks, or those of A..B, from A up to, and without, B; 1 by default
+        --seed N             the seed of their streams; 1 by default
+        --threads N          chunks at a time; the bits do not depend on it
 how it is told
-    --format F               text (the default), csv, json, or svg: a plot of correlation against distance
-    --bits                   the bits of every correlation too
+    --format F               text (the default), csv, json, or svg: a plot against distance
+    --bits                   the bits of every value too
     --output FILE            to this file, which is there whole or not at all
     --help                   this text
 
 examples
     sheet --kind square --width 4 --length 6 --beta 0.44,0.6
     sheet --kind tri --width 3 --length 8 --cylinder --beta 0.3 --seed 7 --format csv
+    sheet --kind tri --width 6 --length 20 --beta 0.5 --sample 100 --chunks 40 --threads 4
     sheet --kind honey --width 4 --length 5 --beta 1 --dilute 0.9,0.5,1.5,11 --pairs 0-19,0-1 --bits
     sheet --kind square --width 8 --length 12 --beta 0.2,0.44,0.8 --format svg --output plot.svg
 
@@ -51,13 +58,21 @@ pub struct Beta {
     pub value: f64,
 }
 
-/// Which signs the kept edges have.
+/// Which configurations are asked for.
 #[derive(Clone, Debug, PartialEq)]
-pub enum Signs {
+pub enum Wanted {
+    Unsaid,
+    /// One, all plus.
     Plus,
-    /// True for minus.
-    Given(Vec<bool>),
+    /// One, true for minus.
+    Signs(Vec<bool>),
+    /// One, drawn with a seed.
     Drawn(u64),
+    Enumerated,
+    Sampled {
+        by: Sampling,
+        threads: usize,
+    },
 }
 
 #[derive(Clone, Debug, PartialEq)]
@@ -66,7 +81,7 @@ pub struct Options {
     pub dilution: Option<Dilution>,
     pub betas: Vec<Beta>,
     pub pairs: Option<Vec<(usize, usize)>>,
-    pub signs: Signs,
+    pub wanted: Wanted,
     pub manner: Manner,
     pub format: Format,
     pub bits: bool,
@@ -90,7 +105,12 @@ struct Written {
     dilution: Option<Dilution>,
     betas: Option<Vec<Beta>>,
     pairs: Option<Vec<(usize, usize)>>,
-    signs: Option<Signs>,
+    signs: Option<Wanted>,
+    seed: Option<u64>,
+    enumerate: bool,
+    sample: Option<usize>,
+    chunks: Option<(u64, u64)>,
+    threads: Option<usize>,
     manner: Option<Manner>,
     format: Option<Format>,
     bits: bool,
@@ -130,6 +150,7 @@ impl Written {
         let slot = match name {
             "--cylinder" => &mut self.cylinder,
             "--bits" => &mut self.bits,
+            "--enumerate" => &mut self.enumerate,
             _ => return Ok(false),
         };
         *slot = true;
@@ -140,8 +161,22 @@ impl Written {
     }
 
     fn value(&mut self, name: &str, value: Option<String>) -> Result<(), Trouble> {
-        const NAMES: [&str; 11] =
-            ["--kind", "--width", "--length", "--dilute", "--beta", "--pairs", "--signs", "--seed", "--manner", "--format", "--output"];
+        const NAMES: [&str; 14] = [
+            "--kind",
+            "--width",
+            "--length",
+            "--dilute",
+            "--beta",
+            "--pairs",
+            "--signs",
+            "--seed",
+            "--sample",
+            "--chunks",
+            "--threads",
+            "--manner",
+            "--format",
+            "--output",
+        ];
         if !NAMES.contains(&name) {
             return Err(Trouble::option(name, "there is no such option; sheet --help tells them"));
         }
@@ -157,14 +192,39 @@ impl Written {
             "--beta" => once(&mut self.betas, name, value.split(',').map(beta).collect::<Result<_, _>>().map_err(at)?),
             "--pairs" => once(&mut self.pairs, name, value.split(',').map(pair).collect::<Result<_, _>>().map_err(at)?),
             "--signs" => once(&mut self.signs, name, signs(&value).map_err(at)?),
-            "--seed" => once(&mut self.signs, name, Signs::Drawn(number(&value).map_err(at)?)),
+            "--seed" => once(&mut self.seed, name, number(&value).map_err(at)?),
+            "--sample" => once(&mut self.sample, name, number(&value).map_err(at)?),
+            "--chunks" => once(&mut self.chunks, name, chunks(&value).map_err(at)?),
+            "--threads" => once(&mut self.threads, name, threads(&value).map_err(at)?),
             "--manner" => once(&mut self.manner, name, manner(&value).map_err(at)?),
             "--format" => once(&mut self.format, name, format_named(&value).map_err(at)?),
             _ => once(&mut self.output, name, PathBuf::from(&value)),
         }
     }
 
-    fn put_together(self) -> Result<Options, Trouble> {
+    /// At most one kind of configurations is asked for.
+    fn wanted(&mut self) -> Result<Wanted, Trouble> {
+        let excluded = |name| Err(Trouble::option(name, "it is given twice, or with one that excludes it"));
+        let (signs, seed, sample) = (self.signs.take(), self.seed, self.sample);
+        if sample.is_none() && (self.chunks.is_some() || self.threads.is_some()) {
+            let name = if self.chunks.is_some() { "--chunks" } else { "--threads" };
+            return Err(Trouble::option(name, "it is for drawn configurations: give --sample too"));
+        }
+        match (signs, sample, self.enumerate, seed) {
+            (Some(_), Some(_), _, _) | (Some(_), _, true, _) | (Some(_), _, _, Some(_)) => excluded("--signs"),
+            (None, Some(_), true, _) | (None, None, true, Some(_)) => excluded("--enumerate"),
+            (Some(signs), ..) => Ok(signs),
+            (_, Some(samples), ..) => {
+                let (from, to) = self.chunks.unwrap_or((0, 1));
+                Ok(Wanted::Sampled { by: Sampling { seed: seed.unwrap_or(1), from, to, samples }, threads: self.threads.unwrap_or(1) })
+            }
+            (_, _, true, _) => Ok(Wanted::Enumerated),
+            (_, _, _, Some(seed)) => Ok(Wanted::Drawn(seed)),
+            _ => Ok(Wanted::Unsaid),
+        }
+    }
+
+    fn put_together(mut self) -> Result<Options, Trouble> {
         fn needed<T>(slot: Option<T>, name: &str) -> Result<T, Trouble> {
             slot.ok_or_else(|| Trouble::option(name, "it is missing; sheet --help tells the options"))
         }
@@ -174,12 +234,13 @@ impl Written {
             length: needed(self.length, "--length")?,
             periodic: self.cylinder,
         };
+        let wanted = self.wanted()?;
         Ok(Options {
             strip,
             dilution: self.dilution,
             betas: needed(self.betas, "--beta")?,
             pairs: self.pairs,
-            signs: self.signs.unwrap_or(Signs::Plus),
+            wanted,
             manner: self.manner.unwrap_or(Manner::Block),
             format: self.format.unwrap_or(Format::Text),
             bits: self.bits,
@@ -211,13 +272,28 @@ fn dilution(text: &str) -> Result<Dilution, String> {
     }
 }
 
-fn signs(text: &str) -> Result<Signs, String> {
+/// A count, or from where up to, and without, what.
+fn chunks(text: &str) -> Result<(u64, u64), String> {
+    match text.split_once("..") {
+        None => Ok((0, number(text)?)),
+        Some((from, to)) => Ok((number(from)?, number(to)?)),
+    }
+}
+
+fn threads(text: &str) -> Result<usize, String> {
+    number(text).and_then(|n: usize| if (1..=1024).contains(&n) { Ok(n) } else { Err("it is not from 1 to 1,024".to_string()) })
+}
+
+fn signs(text: &str) -> Result<Wanted, String> {
+    if text == "plus" {
+        return Ok(Wanted::Plus);
+    }
     let sign = |c: char| match c {
         '+' => Ok(false),
         '-' => Ok(true),
         _ => Err(format!("'{c}' is no sign: write + or -")),
     };
-    Ok(Signs::Given(text.chars().map(sign).collect::<Result<_, _>>()?))
+    Ok(Wanted::Signs(text.chars().map(sign).collect::<Result<_, _>>()?))
 }
 
 fn manner(text: &str) -> Result<Manner, String> {
@@ -254,8 +330,21 @@ mod tests {
         assert_eq!(options.strip, Strip { kind: Kind::Square, width: 2, length: 3, periodic: true });
         assert_eq!(options.betas[1], Beta { text: "1".to_string(), value: 1.0 });
         assert_eq!(options.pairs, Some(vec![(0, 1), (5, 2)]));
-        assert_eq!(options.signs, Signs::Given(vec![false, true, false]));
+        assert_eq!(options.wanted, Wanted::Signs(vec![false, true, false]));
         assert!(options.manner == Manner::PerElement && options.format == Format::Csv && options.bits);
+    }
+
+    #[test]
+    fn configurations_are_chosen() {
+        let wanted = |more: &str| match parsed(&format!("--kind sq --width 2 --length 3 --beta 1 {more}")) {
+            Ok(Asked::Sheet(options)) => options.wanted,
+            other => panic!("{other:?}"),
+        };
+        let sampled = |seed, from, to, threads| Wanted::Sampled { by: Sampling { seed, from, to, samples: 9 }, threads };
+        assert_eq!((wanted(""), wanted("--seed 4"), wanted("--signs plus")), (Wanted::Unsaid, Wanted::Drawn(4), Wanted::Plus));
+        assert_eq!((wanted("--enumerate"), wanted("--sample 9")), (Wanted::Enumerated, sampled(1, 0, 1, 1)));
+        assert_eq!(wanted("--sample 9 --chunks 5 --seed 4"), sampled(4, 0, 5, 1));
+        assert_eq!(wanted("--sample 9 --chunks 5..8 --threads 3"), sampled(1, 5, 8, 3));
     }
 
     #[test]
@@ -264,6 +353,11 @@ mod tests {
         for (more, named) in [
             ("--width 3", "--width: it is given twice"),
             ("--seed 1 --signs ++", "--signs: it is given twice, or with one that excludes it"),
+            ("--enumerate --seed 1", "--enumerate: it is given twice, or with one that excludes it"),
+            ("--sample 5 --signs ++", "--signs: it is given twice, or with one that excludes it"),
+            ("--chunks 0..3", "--chunks: it is for drawn configurations"),
+            ("--sample 5 --chunks 3..x", "--chunks 3..x: 'x' is no number"),
+            ("--sample 5 --threads 0", "--threads 0: it is not from 1 to 1,024"),
             ("--seed -1", "--seed -1: '-1' is no number"),
             ("--pairs 0-1,2", "--pairs 0-1,2: '2' is no pair"),
             ("--dilute 1,2,3", "--dilute 1,2,3: it takes four numbers"),

@@ -1,12 +1,16 @@
 //! Where the numbers of a sheet come from.
 
-use crate::board::{counted, Board};
-use crate::options::{Options, Signs};
+use crate::board::Board;
+use crate::configuration::Configuration;
+use crate::options::{Options, Wanted};
+use crate::totals::{Enumerated, Sampled};
 use crate::trouble::Trouble;
-use copperhook::Rng;
 
 /// The values of each pair, beta after beta.
 pub type Values = Vec<Vec<Vec<f64>>>;
+
+/// How far a run is: so many of all, and what they are called.
+pub type Done<'a> = &'a (dyn Fn(u64, u64, &str) + Sync);
 
 pub trait Source {
     /// What it is, for the sheet's head.
@@ -18,98 +22,27 @@ pub trait Source {
     /// How many calls' worth of sweeps it takes for each beta.
     fn sweeps(&self) -> f64;
 
-    /// For each beta and pair the values that `columns` names. `done` hears how many betas are done.
-    fn values(&self, board: &Board, work: &mut [f64], done: &mut dyn FnMut(usize)) -> Result<Values, Trouble>;
+    /// How many threads sweep, each with work memory of its own.
+    fn threads(&self) -> usize {
+        1
+    }
+
+    /// For each beta and pair the values that `columns` names. `work` has the room of each thread. `done` hears how far it is.
+    fn values(&self, board: &Board, work: &mut [f64], done: Done) -> Result<Values, Trouble>;
 }
+
+/// With at most so many free edges all configurations are taken, where nothing else is asked for.
+const FEW: usize = 20;
 
 /// The source that the options ask for.
 pub fn chosen(options: &Options, board: &Board) -> Result<Box<dyn Source>, Trouble> {
-    Ok(Box::new(Configuration::new(&options.signs, board.kept)?))
-}
-
-/// One configuration: the sign of each kept edge, true for minus.
-struct Configuration {
-    minus: Vec<bool>,
-    title: String,
-}
-
-impl Configuration {
-    fn new(signs: &Signs, kept: usize) -> Result<Configuration, Trouble> {
-        let (minus, title) = match signs {
-            Signs::Plus => (vec![false; kept], "all signs plus".to_string()),
-            Signs::Drawn(seed) => (drawn(*seed, kept), format!("signs drawn with seed {seed}")),
-            Signs::Given(minus) => (minus.clone(), spelled(minus)),
-        };
-        if minus.len() != kept {
-            let (signs, edges) = (counted(minus.len(), "sign", "signs"), counted(kept, "kept edge", "kept edges"));
-            let why = format!("it has {signs}, and the strip {edges}");
-            return Err(Trouble::option("--signs", why));
-        }
-        Ok(Configuration { minus, title })
-    }
-}
-
-/// The signs themselves, where a line has room for them.
-fn spelled(minus: &[bool]) -> String {
-    let signs: String = minus.iter().map(|&m| if m { '-' } else { '+' }).collect();
-    if minus.len() <= 64 {
-        format!("signs {signs}")
-    } else {
-        format!("{} signs as given", minus.len())
-    }
-}
-
-/// As the first sample of chunk 0: a new word every 64 edges, lowest bit first, 0 for plus.
-fn drawn(seed: u64, kept: usize) -> Vec<bool> {
-    let mut rng = Rng::stream(seed, 0);
-    let words: Vec<u64> = (0..kept.div_ceil(64)).map(|_| rng.next_u64()).collect();
-    (0..kept).map(|e| words[e / 64] >> (e % 64) & 1 == 1).collect()
-}
-
-impl Source for Configuration {
-    fn title(&self) -> String {
-        self.title.clone()
-    }
-
-    fn columns(&self) -> &'static [&'static str] {
-        &["correlation"]
-    }
-
-    fn sweeps(&self) -> f64 {
-        1.0
-    }
-
-    fn values(&self, board: &Board, work: &mut [f64], done: &mut dyn FnMut(usize)) -> Result<Values, Trouble> {
-        let betas: Vec<f64> = board.betas.iter().map(|b| b.value).collect();
-        let factors = board.graph().factors(&betas).map_err(|refusal| board.refused(refusal))?;
-        let mut values = Vec::new();
-        for i in 0..betas.len() {
-            let mut results = vec![0.0; board.pairs.len()];
-            let signed = factors.of_signs(i, &self.minus);
-            board.job().correlations(&signed, board.manner, &mut results, work).map_err(|refusal| board.refused(refusal))?;
-            values.push(results.into_iter().map(|x| vec![x]).collect());
-            done(i + 1);
-        }
-        Ok(values)
-    }
-}
-
-#[cfg(test)]
-mod tests {
-    use super::*;
-
-    #[test]
-    fn signs_are_drawn_as_samples_are() {
-        let mut rng = oracle::rng::Rng::stream(9, 0);
-        let (first, second) = (rng.next_u64(), rng.next_u64());
-        let minus = drawn(9, 70);
-        assert!((0..64).all(|e| minus[e] == (first >> e & 1 == 1)));
-        assert!((64..70).all(|e| minus[e] == (second >> (e - 64) & 1 == 1)));
-    }
-
-    #[test]
-    fn signs_that_do_not_fit_are_told() {
-        let why = Configuration::new(&Signs::Given(vec![true]), 4).err().unwrap();
-        assert_eq!(why.to_string(), "--signs: it has 1 sign, and the strip 4 kept edges");
-    }
+    Ok(match &options.wanted {
+        Wanted::Enumerated => Box::new(Enumerated::new(board)?),
+        Wanted::Unsaid if board.free <= FEW => Box::new(Enumerated::new(board)?),
+        Wanted::Sampled { by, threads } => Box::new(Sampled::new(*by, *threads)?),
+        Wanted::Unsaid => Box::new(Configuration::plus(board.kept)),
+        Wanted::Plus => Box::new(Configuration::plus(board.kept)),
+        Wanted::Signs(minus) => Box::new(Configuration::given(minus, board.kept)?),
+        Wanted::Drawn(seed) => Box::new(Configuration::drawn(*seed, board.kept)),
+    })
 }

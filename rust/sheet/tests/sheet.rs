@@ -1,6 +1,6 @@
 //! The program as it is run: what it prints, writes and refuses.
 
-use oracle::glass::{correlations, Plan};
+use oracle::glass::{correlations, exhaustive, sample, Acc, Plan};
 use oracle::lattice::{Graph, Kind, Strip};
 use oracle::rng::Rng;
 use std::io::Read;
@@ -42,7 +42,7 @@ opp-corners       0  3         2           0.000000000000
     assert_eq!(printed(&format!("{SQUARE} --signs +++-")), expected);
     let first = |line: &str| printed(&format!("{SQUARE} --format csv --bits {line}")).lines().nth(1).unwrap().to_string();
     let row = format!("square,free,2,2,0.6931471805599453,corner-adj-a,0,1,1,{:?},0x{:016x}", 255.0 / 353.0, (255.0f64 / 353.0).to_bits());
-    assert_eq!(first(""), row);
+    assert_eq!(first("--signs plus"), row);
     assert_eq!(first("--signs ++++"), row);
 }
 
@@ -65,10 +65,11 @@ fn original(strip: &Strip, graph: &Graph, beta: f64, seed: u64) -> Vec<(String, 
     strip.pairs().into_iter().zip(out).map(|(p, x)| (p.0, x.to_bits())).collect()
 }
 
-/// Labels and bits of a table of comma-separated values.
-fn labels_and_bits(csv: &str) -> Vec<(String, u64)> {
+/// Labels, and the bits of a column of a table of comma-separated values.
+fn labels_and_bits(csv: &str, column: &str) -> Vec<(String, u64)> {
+    let place = csv.lines().next().unwrap().split(',').position(|name| name == format!("{column} bits")).unwrap();
     let cell = |line: &str, i: usize| line.split(',').nth(i).unwrap().to_string();
-    csv.lines().skip(1).map(|line| (cell(line, 5), u64::from_str_radix(&cell(line, 10)[2..], 16).unwrap())).collect()
+    csv.lines().skip(1).map(|line| (cell(line, 5), u64::from_str_radix(&cell(line, place)[2..], 16).unwrap())).collect()
 }
 
 #[test]
@@ -84,15 +85,85 @@ fn strips_are_the_originals() {
         let strip = Strip { kind, w, l, periodic };
         let cylinder = if periodic { "--cylinder" } else { "" };
         let line = format!("--kind {name} --width {w} --length {l} {cylinder} --beta 0.7 --seed 12 --format csv --bits");
-        assert_eq!(labels_and_bits(&printed(&line)), original(&strip, &strip.graph(), 0.7, 12), "{line}");
+        assert_eq!(labels_and_bits(&printed(&line), "correlation"), original(&strip, &strip.graph(), 0.7, 12), "{line}");
         let diluted = strip.diluted(0.8, 0.5, 1.5, 99);
-        assert_eq!(labels_and_bits(&printed(&format!("{line} --dilute 0.8,0.5,1.5,99"))), original(&strip, &diluted, 0.7, 12), "{line}");
+        assert_eq!(
+            labels_and_bits(&printed(&format!("{line} --dilute 0.8,0.5,1.5,99")), "correlation"),
+            original(&strip, &diluted, 0.7, 12),
+            "{line}"
+        );
     }
 }
 
 #[test]
+fn the_settled_squares_totals() {
+    let expected = "\
+square strip, free, 2 by 2: 4 vertices, 4 kept edges, window 2
+all 2 configurations of 1 free edge: mean squares of the correlations, and their standard errors; manner block
+
+pair              u  v  distance  mean at 0.6931471805599453  error at 0.6931471805599453
+corner-adj-a      0  1         1              0.358234484804               0.163597806603
+corner-adj-l      0  2         1              0.358234484804               0.163597806603
+short-end-to-end  0  1         1              0.358234484804               0.163597806603
+end-to-end-l      0  2         1              0.358234484804               0.163597806603
+opp-corners       0  3         2              0.203135407555               0.203135407555
+";
+    assert_eq!(printed(SQUARE), expected);
+    assert_eq!(printed(&format!("{SQUARE} --enumerate")), expected);
+    let tree = printed("--kind square --width 1 --length 3 --beta 0.6931471805599453 --format csv --pairs 0-1");
+    assert_eq!(tree, "kind,boundary,width,length,beta,pair,u,v,distance,mean\nsquare,free,1,3,0.6931471805599453,0-1,0,1,1,0.36\n");
+}
+
+/// Labels with the bits of the means and of the errors, beta after beta.
+fn estimated(strip: &Strip, betas: &[f64], total: &Acc) -> [Vec<(String, u64)>; 2] {
+    let labels: Vec<String> = strip.pairs().into_iter().map(|p| p.0).collect();
+    let all = |value: &dyn Fn(usize, usize) -> f64| {
+        let bits = |(b, p): (usize, usize)| (labels[p].clone(), value(b, p).to_bits());
+        (0..betas.len()).flat_map(|b| (0..labels.len()).map(move |p| (b, p))).map(bits).collect()
+    };
+    // a variance of zero counts as +0.0
+    [all(&|b, p| total.mean(b, p)), all(&|b, p| total.se(b, p) + 0.0)]
+}
+
+#[test]
+fn totals_are_the_originals() {
+    let betas = [0.3, 0.8];
+    for (kind, name, w, l, periodic) in
+        [(Kind::Square, "square", 3, 5, false), (Kind::Tri, "tri", 2, 5, false), (Kind::Honey, "honey", 4, 4, true)]
+    {
+        let strip = Strip { kind, w, l, periodic };
+        let graph = strip.graph();
+        let pairs: Vec<(usize, usize)> = strip.pairs().iter().map(|p| (p.1, p.2)).collect();
+        let plan = Plan::new(&graph, &pairs);
+        let cylinder = if periodic { "--cylinder" } else { "" };
+        let line = format!("--kind {name} --width {w} --length {l} {cylinder} --beta 0.3,0.8 --format csv --bits");
+        let told = |more: &str| {
+            let csv = printed(&format!("{line} {more}"));
+            ["mean", "error"].map(|column| labels_and_bits(&csv, column))
+        };
+        assert_eq!(told(""), estimated(&strip, &betas, &exhaustive(&graph, &plan, &betas, 1)), "{line}");
+        let total = estimated(&strip, &betas, &sample(&graph, &plan, &betas, 8, 3, 20, 7, 1));
+        for threads in [1, 2, 5, 40] {
+            assert_eq!(told(&format!("--sample 7 --chunks 3..20 --seed 8 --threads {threads}")), total, "{line} with {threads} threads");
+        }
+    }
+}
+
+#[test]
+fn the_head_tells_which_configurations() {
+    let second = |line: &str| printed(&format!("--kind tri --width 4 --length 9 --beta 0.4 {line}")).lines().nth(1).unwrap().to_string();
+    let squares = "mean squares of the correlations, and their standard errors; manner block";
+    assert_eq!(second(""), "all signs plus; manner block");
+    assert_eq!(second("--seed 5"), "signs drawn with seed 5; manner block");
+    assert_eq!(second("--sample 3"), format!("3 configurations drawn with seed 1, chunk 0 of 3 samples: {squares}"));
+    assert_eq!(second("--sample 3 --chunks 2..4"), format!("6 configurations drawn with seed 1, chunks 2 to 3 of 3 samples: {squares}"));
+    let one = "1 configuration drawn with seed 1, chunk 0 of 1 sample: the squares of the correlations; manner block";
+    assert_eq!(second("--sample 1"), one);
+}
+
+#[test]
 fn other_formats() {
-    let json = printed(&format!("{SQUARE} --format json --bits"));
+    let json = printed(&format!("{SQUARE} --signs plus --format json --bits"));
     assert!(
         json.contains("\"pair\": \"opp-corners\", \"u\": 0, \"v\": 3, \"distance\": 2, \"correlation\": [0.6373937677053825]"),
         "{json}"
@@ -141,6 +212,19 @@ fn troubles_name_the_option_and_the_number() {
             "--kind sq --width 2 --length 2 --beta 1 --dilute 0.5,0,inf,3",
             "sheet: --dilute 0.5,0,inf,3: keep isn't finite, or a magnitude bound isn't finite or its size is above 1,024 (refusal 17)\n",
         ),
+        (
+            "--kind sq --width 2 --length 36 --beta 1 --enumerate",
+            "sheet: --enumerate: free edges exceed 34 for enumerated totals, or 24 for stored correlations (refusal 9)\n",
+        ),
+        (
+            "--kind sq --width 2 --length 2 --beta 1 --sample 65537 --chunks 65536",
+            "sheet: --sample 65537 --chunks 0..65536: chunks times samples per chunk exceed 2^32 (refusal 11)\n",
+        ),
+        (
+            "--kind sq --width 2 --length 2 --beta 700 --sample 4 --chunks 3 --threads 2",
+            "sheet: --beta 700: some pair's partition sum Z isn't finite and above zero (refusal 14)\n",
+        ),
+        ("--kind sq --width 2 --length 2 --beta 1 --threads 2", "sheet: --threads: it is for drawn configurations: give --sample too\n"),
         ("--kind sq --width 2 --length 2 --beta 1 --signs +-", "sheet: --signs: it has 2 signs, and the strip 4 kept edges\n"),
     ] {
         let output = sheet(line);

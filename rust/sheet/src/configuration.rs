@@ -1,0 +1,96 @@
+//! The correlations of one configuration.
+
+use crate::board::{counted, Board};
+use crate::source::{Done, Source, Values};
+use crate::trouble::Trouble;
+use copperhook::Rng;
+
+/// One configuration: the sign of each kept edge, true for minus.
+pub struct Configuration {
+    minus: Vec<bool>,
+    title: String,
+}
+
+impl Configuration {
+    pub fn plus(kept: usize) -> Configuration {
+        Configuration { minus: vec![false; kept], title: "all signs plus".to_string() }
+    }
+
+    pub fn drawn(seed: u64, kept: usize) -> Configuration {
+        Configuration { minus: drawn(seed, kept), title: format!("signs drawn with seed {seed}") }
+    }
+
+    pub fn given(minus: &[bool], kept: usize) -> Result<Configuration, Trouble> {
+        if minus.len() != kept {
+            let (signs, edges) = (counted(minus.len(), "sign", "signs"), counted(kept, "kept edge", "kept edges"));
+            let why = format!("it has {signs}, and the strip {edges}");
+            return Err(Trouble::option("--signs", why));
+        }
+        Ok(Configuration { minus: minus.to_vec(), title: spelled(minus) })
+    }
+}
+
+/// The signs themselves, where a line has room for them.
+fn spelled(minus: &[bool]) -> String {
+    let signs: String = minus.iter().map(|&m| if m { '-' } else { '+' }).collect();
+    if minus.len() <= 64 {
+        format!("signs {signs}")
+    } else {
+        format!("{} signs as given", minus.len())
+    }
+}
+
+/// As the first sample of chunk 0: a new word every 64 edges, lowest bit first, 0 for plus.
+fn drawn(seed: u64, kept: usize) -> Vec<bool> {
+    let mut rng = Rng::stream(seed, 0);
+    let words: Vec<u64> = (0..kept.div_ceil(64)).map(|_| rng.next_u64()).collect();
+    (0..kept).map(|e| words[e / 64] >> (e % 64) & 1 == 1).collect()
+}
+
+impl Source for Configuration {
+    fn title(&self) -> String {
+        self.title.clone()
+    }
+
+    fn columns(&self) -> &'static [&'static str] {
+        &["correlation"]
+    }
+
+    fn sweeps(&self) -> f64 {
+        1.0
+    }
+
+    fn values(&self, board: &Board, work: &mut [f64], done: Done) -> Result<Values, Trouble> {
+        let betas = board.beta_values();
+        let factors = board.graph().factors(&betas).map_err(|refusal| board.refused(refusal))?;
+        let mut values = Vec::new();
+        for i in 0..betas.len() {
+            let mut results = vec![0.0; board.pairs.len()];
+            let signed = factors.of_signs(i, &self.minus);
+            board.job().correlations(&signed, board.manner, &mut results, work).map_err(|refusal| board.refused(refusal))?;
+            values.push(results.into_iter().map(|x| vec![x]).collect());
+            done(i as u64 + 1, betas.len() as u64, "betas");
+        }
+        Ok(values)
+    }
+}
+
+#[cfg(test)]
+mod tests {
+    use super::*;
+
+    #[test]
+    fn signs_are_drawn_as_samples_are() {
+        let mut rng = oracle::rng::Rng::stream(9, 0);
+        let (first, second) = (rng.next_u64(), rng.next_u64());
+        let minus = drawn(9, 70);
+        assert!((0..64).all(|e| minus[e] == (first >> e & 1 == 1)));
+        assert!((64..70).all(|e| minus[e] == (second >> (e - 64) & 1 == 1)));
+    }
+
+    #[test]
+    fn signs_that_do_not_fit_are_told() {
+        let why = Configuration::given(&[true], 4).err().unwrap();
+        assert_eq!(why.to_string(), "--signs: it has 1 sign, and the strip 4 kept edges");
+    }
+}
