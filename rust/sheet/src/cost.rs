@@ -1,10 +1,10 @@
-//! What a run will take, said before it starts, and how far it is.
+//! What a run will take, said before it starts.
 
 use crate::board::Board;
+use crate::progress::tell;
 use crate::source::Source;
 use crate::trouble::Trouble;
 use copperhook::{Job, Kind, Manner, Sampling, Strip};
-use std::io::{IsTerminal, Write};
 use std::time::Instant;
 
 /// A run is long from so many seconds on, and large from so many bytes on.
@@ -100,7 +100,7 @@ fn free_memory() -> Option<f64> {
     Some(1024.0 * kilobytes)
 }
 
-fn time(seconds: f64) -> String {
+pub fn time(seconds: f64) -> String {
     match seconds {
         s if s < 1.0 => "a second at most".to_string(),
         s if s < 120.0 => format!("{s:.0} seconds"),
@@ -114,36 +114,6 @@ fn size(bytes: f64) -> String {
         b if b < 1e6 => format!("{:.1} kB", b / 1e3),
         b if b < 1e9 => format!("{:.1} MB", b / 1e6),
         b => format!("{:.1} GB", b / 1e9),
-    }
-}
-
-/// A standard error that is closed is no reason to end.
-pub fn tell(text: &str) {
-    let _ = std::io::stderr().write_all(text.as_bytes());
-}
-
-/// A line that is written over, on a terminal alone.
-pub struct Progress {
-    start: Instant,
-    shown: bool,
-}
-
-impl Progress {
-    pub fn new(cost: &Cost) -> Progress {
-        Progress { start: Instant::now(), shown: cost.is_long() && std::io::stderr().is_terminal() }
-    }
-
-    pub fn done(&self, done: u64, all: u64, what: &str) {
-        if self.shown && 0 < done && done < all {
-            let left = self.start.elapsed().as_secs_f64() / done as f64 * (all - done) as f64;
-            tell(&format!("\r\x1b[Ksheet: {done} of {all} {what}, about {} left", time(left)));
-        }
-    }
-
-    pub fn end(&self) {
-        if self.shown {
-            tell("\r\x1b[K");
-        }
     }
 }
 

@@ -7,6 +7,7 @@ mod data;
 mod options;
 mod output;
 mod plot;
+mod progress;
 mod sheet;
 mod source;
 mod text;
@@ -14,8 +15,9 @@ mod totals;
 mod trouble;
 
 use board::Board;
-use cost::{tell, work_memory, Cost, Progress};
+use cost::{work_memory, Cost};
 use options::{Asked, Format, Options};
+use progress::tell;
 use sheet::Sheet;
 use std::process::ExitCode;
 use trouble::Trouble;
@@ -27,10 +29,8 @@ fn make(options: &Options) -> Result<String, Trouble> {
     let cost = Cost::of(&board, source.as_ref());
     cost.say();
     let mut work = work_memory(&board, source.threads())?;
-    let progress = Progress::new(&cost);
-    let values = source.values(&board, &mut work, &|done, all, what| progress.done(done, all, what));
-    progress.end();
-    let sheet = Sheet::new(&board, source.as_ref(), values?, options.bits);
+    let values = progress::shown(&cost, |done| source.values(&board, &mut work, done))?;
+    let sheet = Sheet::new(&board, source.as_ref(), values, options.bits);
     Ok(match options.format {
         Format::Text => text::text(&sheet),
         Format::Csv => data::csv(&sheet),

@@ -1,0 +1,84 @@
+//! How far a run is, on a terminal.
+
+use crate::cost::{time, Cost};
+use crate::source::Done;
+use std::io::{IsTerminal, Write};
+use std::sync::mpsc::{channel, RecvTimeoutError};
+use std::sync::Mutex;
+use std::time::{Duration, Instant};
+
+/// A standard error that is closed is no reason to end.
+pub fn tell(text: &str) {
+    let _ = std::io::stderr().write_all(text.as_bytes());
+}
+
+/// So many of all are done, after so many seconds.
+struct Report {
+    done: u64,
+    all: u64,
+    what: String,
+    seconds: f64,
+}
+
+/// The line at a moment: by what was done so far, and before the first is done by what the run was thought to take.
+fn line(report: Option<&Report>, thought: f64, seconds: f64) -> String {
+    let (parts, whole) = match report {
+        Some(r) => (format!("{} of {} {}, ", r.done, r.all, r.what), r.seconds / r.done as f64 * r.all as f64),
+        None => (String::new(), thought),
+    };
+    let percent = (100.0 * seconds / whole.max(1e-9)).min(99.0);
+    if seconds < whole {
+        format!("{parts}about {percent:.0} per cent, about {} left", time(whole - seconds))
+    } else {
+        format!("{parts}about {percent:.0} per cent, longer than was thought")
+    }
+}
+
+/// Does the work. Where it is long and standard error a terminal, a line there tells every half second how far it is.
+pub fn shown<T>(cost: &Cost, work: impl FnOnce(Done) -> T) -> T {
+    if !cost.is_long() || !std::io::stderr().is_terminal() {
+        return work(&|_, _, _| ());
+    }
+    let start = Instant::now();
+    let last: Mutex<Option<Report>> = Mutex::new(None);
+    let hear = |done: u64, all: u64, what: &str| {
+        let report = Report { done, all, what: what.to_string(), seconds: start.elapsed().as_secs_f64() };
+        *last.lock().unwrap_or_else(|poisoned| poisoned.into_inner()) = Some(report);
+    };
+    std::thread::scope(|scope| {
+        let (working, over) = channel::<()>();
+        let last = &last;
+        scope.spawn(move || {
+            while over.recv_timeout(Duration::from_millis(500)) == Err(RecvTimeoutError::Timeout) {
+                let report = last.lock().unwrap_or_else(|poisoned| poisoned.into_inner());
+                let told = line(report.as_ref(), cost.seconds, start.elapsed().as_secs_f64());
+                tell(&format!("\r\x1b[Ksheet: {told}"));
+            }
+            tell("\r\x1b[K");
+        });
+        let result = work(&hear);
+        drop(working);
+        result
+    })
+}
+
+#[cfg(test)]
+mod tests {
+    use super::*;
+
+    fn report(done: u64) -> Report {
+        Report { done, all: 4, what: "betas".to_string(), seconds: 60.0 }
+    }
+
+    #[test]
+    fn the_first_part_goes_by_what_was_thought() {
+        assert_eq!(line(None, 100.0, 25.0), "about 25 per cent, about 75 seconds left");
+        assert_eq!(line(None, 100.0, 130.0), "about 99 per cent, longer than was thought");
+    }
+
+    #[test]
+    fn later_parts_go_by_those_that_are_done() {
+        assert_eq!(line(Some(&report(2)), 1.0, 72.0), "2 of 4 betas, about 60 per cent, about 48 seconds left");
+        assert_eq!(line(Some(&report(1)), 1.0, 250.0), "1 of 4 betas, about 99 per cent, longer than was thought");
+    }
+}
