@@ -1,13 +1,14 @@
 //! Copperhook's time beside the original's: the same jobs, in one run, both built for release.
 //!
-//!     rust/bench/run [--quick | --width N | --totals]
+//!     rust/bench/run [--quick | --width N | --checks | --totals]
 //!
 //! proves what is needed, builds the archive and runs this. `--quick` stops at width 10; `--width N` measures one width alone, from 1 to 24,
-//! and tells how much memory a job's room is; `--totals` measures the totals alone.
+//! and tells how much memory a job's room is; `--checks` measures what a call costs before its sweeps, `--totals` the totals alone.
 //!
 //! The original's plan and work memory are made once, outside the timed loop, as its callers do. Ours checks and plans in every call and
 //! clears its room. The original takes the exponentials of the couplings inside, ours is lent factors: the last column adds to ours the time
 //! of these exponentials. Each job's bits are compared first. A time is the least of several rounds, in which the sides take turns.
+mod checks;
 mod clock;
 mod ours;
 mod ratios;
@@ -187,76 +188,6 @@ fn print_sheet(widths: RangeInclusive<usize>, rounds: &Rounds, tell_room: bool) 
     }
 }
 
-/// What a call costs before its sweeps, on strips of about a thousand vertices.
-fn print_checks() {
-    println!();
-    println!("Checks and plan, in microseconds: the original's Graph::new and Plan::new; our room; our correlations refused by 13, after every check.");
-    println!("Then all of one call from the edges on: the original's graph, plan, work memory and correlations; our correlations.");
-    println!();
-    println!("| strip | graph and plan | room | ratio | refused by 13 | ratio | original, all | ours, all | ratio |");
-    println!("|---|---|---|---|---|---|---|---|---|");
-    for (w, l) in [(4, 256), (8, 128), (16, 64)] {
-        for kind in KINDS {
-            let job = Job::new(Strip { kind, w, l, periodic: false });
-            let before = before_the_sweeps(&job);
-            let all = from_the_edges(&job);
-            println!(
-                "| {} {w} x {l} | {:.1} | {:.1} | {:.2} | {:.1} | {:.2} | {:.1} | {:.1} | {:.2} |",
-                kind.name(),
-                1e6 * before[0],
-                1e6 * before[1],
-                before[1] / before[0],
-                1e6 * before[2],
-                before[2] / before[0],
-                1e6 * all[0],
-                1e6 * all[1],
-                all[1] / all[0],
-            );
-        }
-    }
-}
-
-fn before_the_sweeps(job: &Job) -> Vec<f64> {
-    std::env::set_var("FDK_SLOW", BLOCK.slow);
-    let mut results = vec![0.0; job.pairs.len()];
-    least_times(
-        &Rounds { least: 20, round: 0.003, total: 0.5 },
-        &mut [
-            &mut || {
-                let graph = Graph::new(job.graph.n, black_box(&job.raw));
-                black_box(Plan::new(&graph, black_box(&job.pairs)));
-            },
-            &mut || {
-                black_box(job.room());
-            },
-            &mut || {
-                let refused = job.lists.correlations(black_box(&job.factors), BLOCK.ours, &mut results, &mut []);
-                assert_eq!(refused, Err(copperhook::Refusal::WorkMemory));
-            },
-        ],
-    )
-}
-
-fn from_the_edges(job: &Job) -> Vec<f64> {
-    std::env::set_var("FDK_SLOW", BLOCK.slow);
-    let mut theirs = vec![0.0; job.pairs.len()];
-    let mut results = vec![0.0; job.pairs.len()];
-    let mut work = vec![0.0; job.room()];
-    least_times(
-        &Rounds { least: 5, round: 0.003, total: 0.5 },
-        &mut [
-            &mut || {
-                let graph = Graph::new(job.graph.n, black_box(&job.raw));
-                let plan = Plan::new(&graph, black_box(&job.pairs));
-                correlations(&plan, black_box(&job.couplings), &mut plan.work(), &mut theirs);
-            },
-            &mut || {
-                let _ = black_box(job.lists.correlations(black_box(&job.factors), BLOCK.ours, &mut results, &mut work));
-            },
-        ],
-    )
-}
-
 fn main() {
     let words: Vec<String> = std::env::args().skip(1).collect();
     let words: Vec<&str> = words.iter().map(String::as_str).collect();
@@ -266,14 +197,15 @@ fn main() {
     match words[..] {
         [] => {
             print_sheet(4..=20, &rounds, false);
-            print_checks();
+            checks::print_checks();
             totals::print_totals(4..=12);
         }
         ["--quick"] => {
             print_sheet(4..=10, &rounds, false);
-            print_checks();
+            checks::print_checks();
             totals::print_totals(4..=8);
         }
+        ["--checks"] => checks::print_checks(),
         ["--totals"] => totals::print_totals(4..=12),
         ["--width", w] => match w.parse::<usize>() {
             Ok(w) if (1..=24).contains(&w) => print_sheet(w..=w, &Rounds { least: 3, ..rounds }, true),
@@ -284,6 +216,6 @@ fn main() {
 }
 
 fn usage() -> ! {
-    eprintln!("usage: rust/bench/run [--quick | --width N | --totals], N from 1 to 24");
+    eprintln!("usage: rust/bench/run [--quick | --width N | --checks | --totals], N from 1 to 24");
     std::process::exit(2);
 }
