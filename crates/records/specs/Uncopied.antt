@@ -58,7 +58,7 @@ module _ (n floor : ℕ) (a b : List ℕ) (m factors : List Float) (manner : Man
   uncopied us vs e c = go (decLt 256 (length us))
     where
       go : Dec (256 < length us) → Answered us vs
-      go (yes h) = alike (take mostCopied us) (take mostCopied vs) us vs (omega (arith, length-take-le mostCopied us h)) h c
+      go (yes h) = alike (take mostCopied us) (take mostCopied vs) us vs (omega (arith, length-take-le mostCopied us (omega arith))) h c
       go (no h) = subst (λ (l : List ℕ). Answered us l) (take-all mostCopied vs (omega arith))
           (subst (λ (l : List ℕ). Answered l (take mostCopied vs)) (take-all mostCopied us (omega arith)) c)
 
