@@ -17,16 +17,16 @@ front-length : (l : List ℕ) (k : ℕ) → length l ≡ mostCopied → k ≤ mo
 front-length l k e h = sym (length-take-le k l (front-fits l k e h))
 
 array-share-prefix-us : tie.Need-array-share-prefix-us
-array-share-prefix-us c = front-fits (c .before .before .before .before .before .before .before .before .args .e .us) _ (search needs) (search needs)
+array-share-prefix-us c = search (needs, front-fits)
 
 slice-aggregate-copperhook-correlations : tie.Need-slice-aggregate-copperhook-correlations
-slice-aggregate-copperhook-correlations c = front-length _ _ (search needs) (search needs)
+slice-aggregate-copperhook-correlations c = search (needs, front-length)
 
 array-share-prefix-vs : tie.Need-array-share-prefix-vs
-array-share-prefix-vs c = front-fits (c .before .before .before .before .before .before .before .before .before .args .e .vs) _ (search needs) (search needs)
+array-share-prefix-vs c = search (needs, front-fits)
 
 slice-aggregate-copperhook-correlations-2 : tie.Need-slice-aggregate-copperhook-correlations-2
-slice-aggregate-copperhook-correlations-2 c = front-length _ _ (search needs) (search needs)
+slice-aggregate-copperhook-correlations-2 c = search (needs, front-length)
 
 copperhook-correlations-requires : tie.Need-copperhook-correlations-requires
 copperhook-correlations-requires c κs = search needs
