@@ -1,6 +1,7 @@
--- The pairs that are not copied change nothing: where there are some, the job is refused for its vertices or for its many pairs.
-use mathlib.Core.Path.{_≡_, refl, sym, subst, _∙_}
-use mathlib.Core.Bool.{Bool, true, false, cond, _||_}
+-- The pairs that are not copied change nothing: where there are some, the job is refused for its vertices or for its many pairs (1 or 2),
+-- and neither refusal reads a pair.
+use mathlib.Core.Path.{_≡_, sym, subst, _∙_}
+use mathlib.Core.Bool.{Bool, true, false, cond, or-true}
 use mathlib.Core.List.{List}
 use Prim.Native.Nat.{ℕ, _<_}
 use native.Mathlib.Decide.{decLt}
@@ -19,10 +20,6 @@ use Rattle.records.specs.declared.Pair.{Pair}
 use Rattle.records.specs.declared.Ends.{Ends}
 use Rattle.records.specs.Columns.{firsts, seconds, firstEnds, secondEnds, mostCopied, Gathered}
 
-or-true : (t : Bool) → t || true ≡ true
-or-true true = refl
-or-true false = refl
-
 many-pairs : (q : Request) → 256 < length (q .firsts) → badLists q ≡ true
 many-pairs q h = simp (lt-ltb _ _ h, or-true)
 
@@ -30,6 +27,7 @@ many-pairs q h = simp (lt-ltb _ _ h, or-true)
 refused-many : (q : Request) → 256 < length (q .firsts) → refusal ofCorrelations q ≡ cond (badVertices q) 1 2
 refused-many q h = rw (many-pairs q h)
 
+-- neither leaves anything in the lists
 not-kept : (t : Bool) (r : ℕ) → r ≡ cond t 1 2 → (r ≡ 0 → ⊥) × (r ≡ 14 → ⊥)
 not-kept true r e = (λ z. omega arith, λ z. omega arith)
 not-kept false r e = (λ z. omega arith, λ z. omega arith)
@@ -54,6 +52,7 @@ module _ (n floor : ℕ) (a b : List ℕ) (m factors : List Float) (manner : Man
         memory = c .memory ∙ sym (cleared-not r _ work (apart .0) (apart .1)) ∙ cleared-not r _ work (apart .0) (apart .1);
       }
 
+  -- the first 257 pairs answer for all
   uncopied : (us vs : List ℕ) → length us ≡ length vs → Answered (take mostCopied us) (take mostCopied vs) → Answered us vs
   uncopied us vs e c = go (decLt 256 (length us))
     where
@@ -66,4 +65,5 @@ module _ (n floor : ℕ) (a b : List ℕ) (m factors : List Float) (manner : Man
   pub answered : (pairs : List Pair) (e : Ends) → Gathered pairs e → Answered (firstEnds e) (secondEnds e) → Answered (firsts pairs) (seconds pairs)
   answered pairs e g c =
       uncopied (firsts pairs) (seconds pairs) (length-map pairs (λ (p : Pair). p .u) ∙ sym (length-map pairs (λ (p : Pair). p .v)))
-      (subst (λ (l : List ℕ). Answered (take mostCopied (firsts pairs)) l) (g .second-ends) (subst (λ (l : List ℕ). Answered l (secondEnds e)) (g .first-ends) c))
+      (subst (λ (l : List ℕ). Answered (take mostCopied (firsts pairs)) l) (g .second-ends)
+      (subst (λ (l : List ℕ). Answered l (secondEnds e)) (g .first-ends) c))
