@@ -92,6 +92,20 @@ size_t copperhook_correlations(size_t n, size_t floor, const size_t *a, size_t a
                                size_t factors_len, size_t manner, double *results, size_t results_len, double *work,
                                size_t work_len);
 
+/* Two vertices whose correlation is asked for, in either order. */
+struct copperhook_pair {
+    size_t u, v;
+};
+
+/*
+ * The same with one list of pairs where copperhook_correlations has two lists of ends: pair i is pairs[i].u and pairs[i].v.
+ * Refusals: 1 to 8, 10, 12, 13, 14.
+ */
+size_t copperhook_correlations_of(size_t n, size_t floor, const size_t *a, size_t a_len, const size_t *b, size_t b_len, const double *m,
+                                  size_t m_len, const struct copperhook_pair *pairs, size_t pairs_len, const double *factors,
+                                  size_t factors_len, size_t manner, double *results, size_t results_len, double *work,
+                                  size_t work_len);
+
 /*
  * The couplings that the caller makes factors of: beta times magnitude, rounded once. That of beta i and kept edge e, of k kept ones, is
  * at i * k + e of `results`, which has exactly betas_len * k doubles.

@@ -9,6 +9,7 @@ mod estimates;
 mod generator;
 mod graph;
 mod kinds;
+mod pair_records;
 mod pairs;
 mod room;
 mod sqrt;

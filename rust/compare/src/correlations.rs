@@ -139,7 +139,10 @@ fn spoil(draw: &mut Draw, job: &mut Job) {
         5 => link(job, |edges| long_edge(draw, edges)),
         6 => link(job, |edges| short_edges(draw, edges)),
         7 => drop(if draw.once_in(2) { job.pairs.us.pop() } else { job.pairs.vs.pop() }),
-        8 => (job.pairs, job.results) = (Pairs { us: vec![0; 257], vs: vec![n.wrapping_sub(1); 257] }, 257),
+        8 => {
+            let many = draw.of(&[257, 257, 258, 1000]);
+            (job.pairs, job.results) = (Pairs { us: vec![0; many], vs: vec![n.wrapping_sub(1); many] }, many);
+        }
         9 => {
             if let Some(i) = pair.filter(|&i| i < job.pairs.vs.len()) {
                 job.pairs.vs[i] = draw.of(&[n, usize::MAX, 1 << 63, job.pairs.us[i]]);
@@ -176,10 +179,11 @@ fn link(job: &mut Job, add: impl FnOnce(&mut Edges)) {
     }
 }
 
-/// A job's lists, lent: a, b, us and vs, the magnitudes and the factors.
+/// A job's lists, lent: a, b, us and vs, the pairs as records, the magnitudes and the factors.
 struct Lent<'a> {
     job: &'a Job,
     numbers: [Guarded<usize>; 4],
+    records: Guarded<usize>,
     m: Guarded<f64>,
     factors: Guarded<f64>,
 }
@@ -188,7 +192,8 @@ impl Lent<'_> {
     fn new(job: &Job) -> Lent<'_> {
         let (e, p) = (&job.edges, &job.pairs);
         let numbers = [&e.a, &e.b, &p.us, &p.vs].map(|list| Guarded::new(list));
-        Lent { job, numbers, m: Guarded::new(&e.m), factors: Guarded::new(&job.factors) }
+        let (records, m, factors) = (Guarded::new(&p.records()), Guarded::new(&e.m), Guarded::new(&job.factors));
+        Lent { job, numbers, records, m, factors }
     }
 
     fn room(&self, room: &mut usize) -> usize {
@@ -210,10 +215,25 @@ impl Lent<'_> {
         }
     }
 
+    #[rustfmt::skip]
+    fn correlations_of(&self, results: &mut Guarded<f64>, work: &mut Guarded<f64>) -> usize {
+        let [a, b, _, _] = self.numbers.each_ref().map(|list| (list.pointer(), list.len()));
+        let (e, m, f) = (&self.job.edges, (self.m.pointer(), self.m.len()), (self.factors.pointer(), self.factors.len()));
+        let pairs = (self.records.pointer().cast(), self.records.len() / 2);
+        let (results, work) = ((results.pointer_mut(), results.len()), (work.pointer_mut(), work.len()));
+        unsafe {
+            sys::copperhook_correlations_of(
+                e.n, e.floor, a.0, a.1, b.0, b.1, m.0, m.1, pairs.0, pairs.1, f.0, f.1, usize::from(!self.job.each),
+                results.0, results.1, work.0, work.1,
+            )
+        }
+    }
+
     fn unchanged(&self) -> Result<(), String> {
         let (e, p) = (&self.job.edges, &self.job.pairs);
         let named = [("a", &e.a), ("b", &e.b), ("us", &p.us), ("vs", &p.vs)];
         self.numbers.iter().zip(named).try_for_each(|(list, (name, lent))| list.holds(name, lent))?;
+        self.records.holds("records", &p.records())?;
         self.m.holds("m", &e.m)?;
         self.factors.holds("factors", &self.job.factors)
     }
@@ -230,13 +250,24 @@ fn compare_room(job: &Job) -> Result<(), String> {
     lent.unchanged()
 }
 
-/// The call, and what it answers and leaves.
+/// The call with two lists of ends, and where these are of one length that with records.
 fn compare(job: &Job, before: f64) -> Result<usize, String> {
-    let mut held = vec![before; work_length(job)];
-    let outcome = outcome(job, held.len(), before)?;
+    let length = work_length(job);
+    let outcome = outcome(job, length, before)?;
     let lent = Lent::new(job);
-    let (mut results, mut work) = (Guarded::new(&vec![before; job.results]), Guarded::new(&held));
-    let number = lent.correlations(&mut results, &mut work);
+    if job.pairs.us.len() == job.pairs.vs.len() {
+        compare_call(&lent, &outcome, length, before, Lent::correlations_of).map_err(|why| format!("pair records: {why}"))?;
+    }
+    compare_call(&lent, &outcome, length, before, Lent::correlations)
+}
+
+type Call<'a> = fn(&Lent<'a>, &mut Guarded<f64>, &mut Guarded<f64>) -> usize;
+
+/// A call, and what it answers and leaves.
+fn compare_call<'a>(lent: &Lent<'a>, outcome: &Outcome, length: usize, before: f64, call: Call<'a>) -> Result<usize, String> {
+    let mut held = vec![before; length];
+    let (mut results, mut work) = (Guarded::new(&vec![before; lent.job.results]), Guarded::new(&held));
+    let number = call(lent, &mut results, &mut work);
     equal("answer", number, outcome.number)?;
     results.holds("results", &outcome.results)?;
     held[..outcome.cleared].fill(0.0);

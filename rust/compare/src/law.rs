@@ -19,6 +19,13 @@ pub struct Pairs {
     pub vs: Vec<usize>,
 }
 
+impl Pairs {
+    /// As records: the two ends of each pair side by side.
+    pub fn records(&self) -> Vec<usize> {
+        self.us.iter().zip(&self.vs).flat_map(|(&u, &v)| [u, v]).collect()
+    }
+}
+
 fn sized(x: f64) -> bool {
     x.is_finite() && x.abs() <= 1024.0
 }

@@ -11,6 +11,14 @@ pub enum Manner {
     Block = 1,
 }
 
+/// Two vertices whose correlation is asked for, in either order.
+#[repr(C)]
+#[derive(Clone, Copy, Debug, PartialEq, Eq)]
+pub struct Pair {
+    pub u: usize,
+    pub v: usize,
+}
+
 /// A graph with the pairs whose correlations are asked for: pair i is `us[i]` and `vs[i]`, in either order. Pairs may repeat.
 #[derive(Clone, Copy, Debug)]
 pub struct Job<'a> {
@@ -90,6 +98,22 @@ impl Job<'_> {
             by.seed, by.from, by.to, by.samples,
             squares.as_mut_ptr(), squares.len(), fourths.as_mut_ptr(), fourths.len(), work.as_mut_ptr(), work.len(), &mut count));
         Refusal::told(number).map(|()| count)
+    }
+}
+
+impl Graph<'_> {
+    /// As [`Job::correlations`], with the pairs in one list.
+    pub fn correlations_of(
+        &self,
+        pairs: &[Pair],
+        factors: &[f64],
+        manner: Manner,
+        results: &mut [f64],
+        work: &mut [f64],
+    ) -> Result<(), Refusal> {
+        Refusal::told(with_lists!(copperhook_correlations_of(self, self.floor;
+            pairs.as_ptr(), pairs.len(), factors.as_ptr(), factors.len(), manner as usize,
+            results.as_mut_ptr(), results.len(), work.as_mut_ptr(), work.len())))
     }
 }
 

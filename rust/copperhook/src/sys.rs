@@ -3,6 +3,8 @@
 //! A list is a pointer and the number of its elements. The pointer is aligned and not null, and a list that is written overlaps no other.
 //! Each call is total: nothing else is asked of the caller.
 
+use crate::job::Pair;
+
 extern "C" {
     pub fn copperhook_room(
         n: usize,
@@ -33,6 +35,26 @@ extern "C" {
         us_len: usize,
         vs: *const usize,
         vs_len: usize,
+        factors: *const f64,
+        factors_len: usize,
+        manner: usize,
+        results: *mut f64,
+        results_len: usize,
+        work: *mut f64,
+        work_len: usize,
+    ) -> usize;
+
+    pub fn copperhook_correlations_of(
+        n: usize,
+        floor: usize,
+        a: *const usize,
+        a_len: usize,
+        b: *const usize,
+        b_len: usize,
+        m: *const f64,
+        m_len: usize,
+        pairs: *const Pair,
+        pairs_len: usize,
         factors: *const f64,
         factors_len: usize,
         manner: usize,

@@ -1,6 +1,6 @@
 //! The settled examples of document 01, through the bindings, and what lists hold after calls that are refused.
 
-use copperhook::{estimate, Dilution, EdgeList, Estimate, Graph, Job, Kind, Manner, Refusal, Rng, Sampling, Strip};
+use copperhook::{estimate, Dilution, EdgeList, Estimate, Graph, Job, Kind, Manner, Pair, Refusal, Rng, Sampling, Strip};
 
 const MANNERS: [Manner; 2] = [Manner::PerElement, Manner::Block];
 
@@ -44,6 +44,31 @@ fn the_square() {
         job.correlations(&[2.0, 2.0, 2.0, last], Manner::Block, &mut results, &mut work).unwrap();
         assert_eq!(results.map(f64::to_bits), expected.map(f64::to_bits));
     }
+}
+
+#[test]
+fn pair_records_are_two_lists() {
+    let graph = Graph::new(3, &[0, 1], &[1, 2], &[1.0; 2]);
+    let job = Job { graph, us: &[0, 2, 1], vs: &[2, 1, 0] };
+    let pairs = [(0, 2), (2, 1), (1, 0)].map(|(u, v)| Pair { u, v });
+    let (mut ends, mut records, mut work) = ([9.0; 3], [9.0; 3], vec![9.0; job.room().unwrap()]);
+    job.correlations(&[2.0, 3.0], Manner::Block, &mut ends, &mut work).unwrap();
+    graph.correlations_of(&pairs, &[2.0, 3.0], Manner::Block, &mut records, &mut work).unwrap();
+    assert_eq!(ends.map(f64::to_bits), records.map(f64::to_bits));
+    assert!(ends[1] != ends[2] && work.iter().all(|x| x.to_bits() == 0));
+}
+
+#[test]
+fn too_many_pair_records_are_refused() {
+    let graph = Graph::new(2, &[0], &[1], &[1.0]);
+    let pairs = [Pair { u: 0, v: 1 }; 400];
+    let (mut results, mut work) = (vec![9.0; 400], vec![9.0; 4000]);
+    for (count, expected) in [(0, Ok(())), (256, Ok(())), (257, Err(Refusal::ListLengths)), (400, Err(Refusal::ListLengths))] {
+        let answer = graph.correlations_of(&pairs[..count], &[2.0], Manner::Block, &mut results[..count], &mut work);
+        assert_eq!((answer, results[256]), (expected, 9.0));
+    }
+    let none = Graph::new(0, &[], &[], &[]);
+    assert_eq!(none.correlations_of(&pairs, &[], Manner::Block, &mut results, &mut work), Err(Refusal::VertexCount));
 }
 
 #[test]
@@ -192,6 +217,8 @@ fn largest_calls() -> Result<(), Refusal> {
     let job = Job { graph, us: &us, vs: &vs };
     let (mut results, mut work) = (vec![0.0; us.len()], vec![0.0; job.room()?]);
     job.correlations(&vec![1.5; edges.m.len()], Manner::Block, &mut results, &mut work)?;
+    let records: Vec<Pair> = pairs.iter().map(|p| Pair { u: p.u, v: p.v }).collect();
+    graph.correlations_of(&records, &vec![1.5; edges.m.len()], Manner::Block, &mut results, &mut work)?;
     graph.rotated(&mut [0; 4096], &mut [0; 4096], &mut [0.0; 4096])?;
     graph.spanning_forest(&mut vec![false; edges.m.len()])?;
     graph.components(&mut vec![0; 1024])?;

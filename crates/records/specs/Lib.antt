@@ -1,0 +1,3 @@
+-- The definitions that the contracts cite, and the law of what is not copied.
+pub mod Columns
+pub mod Uncopied
