@@ -2,11 +2,11 @@
 use mathlib.Core.Path.{_≡_, refl, _∙_}
 use Prim.Native.Nat.{_+_, _*_, _-_, _%_, _^_, _≤_, _<_}
 use native.Mathlib.Omega.{arith}
-use lib.ListN.{length, length-set}
+use lib.ListN.{length}
 use borrow.Author.Needs.{scaled-fits}
 use Rattle.sweep.specs.Rule.{mix}
 use Rattle.stride_backward.specs.Fourfold.{fourfold, fourfold-none}
-use Rattle.runs.specs.Fours.{after-seven, same-eight, four}
+use Rattle.runs.specs.Fours.{after-one, after-two, after-three, after-four, after-five, after-six, after-seven, same-eight, four}
 use Rattle.runs.specs.Turn.{Turn, turn-of, word, less-by-two, even-next, two-more}
 use Rattle.stride_backward.proofs.BackwardTurn.{lowerRun, upperRun, run-turn}
 use Rattle.stride_backward.proofs.backward_run.Statement.{statement}
@@ -178,7 +178,7 @@ mul-v-2 : tie.Need-mul-v-2 Inv-loop μ-loop
 mul-v-2 c = let t = turn (c .before .before .before .before .before .before .before .before) in scaled-fits _ _ 8 (t .first .next) (t .bytes)
 
 slice-write-v-2 : tie.Need-slice-write-v-2 Inv-loop μ-loop
-slice-write-v-2 c = simp length-set (turn (c .before .before .before .before .before .before .before .before) .first .next)
+slice-write-v-2 c = after-one _ (c .before .before .before .before .before .before .before .before .before .loop .v) _ _ (turn (c .before .before .before .before .before .before .before .before) .first .next)
 
 add-v-4 : tie.Need-add-v-4 Inv-loop μ-loop
 add-v-4 c = let t = turn (c .before .before .before .before .before .before .before .before) in word (t .second .at) (t .bytes)
@@ -187,7 +187,7 @@ mul-v-3 : tie.Need-mul-v-3 Inv-loop μ-loop
 mul-v-3 c = let t = turn (c .before .before .before .before .before .before .before .before) in scaled-fits _ _ 8 (t .second .at) (t .bytes)
 
 slice-write-v-3 : tie.Need-slice-write-v-3 Inv-loop μ-loop
-slice-write-v-3 c = simp length-set (turn (c .before .before .before .before .before .before .before .before) .second .at)
+slice-write-v-3 c = after-two _ (c .before .before .before .before .before .before .before .before .before .loop .v) _ _ _ _ (turn (c .before .before .before .before .before .before .before .before) .second .at)
 
 add-v-5 : tie.Need-add-v-5 Inv-loop μ-loop
 add-v-5 c = let t = turn (c .before .before .before .before .before .before .before .before) in word (t .second .at) (t .bytes)
@@ -199,7 +199,7 @@ mul-v-4 : tie.Need-mul-v-4 Inv-loop μ-loop
 mul-v-4 c = let t = turn (c .before .before .before .before .before .before .before .before) in scaled-fits _ _ 8 (t .second .next) (t .bytes)
 
 slice-write-v-4 : tie.Need-slice-write-v-4 Inv-loop μ-loop
-slice-write-v-4 c = simp length-set (turn (c .before .before .before .before .before .before .before .before) .second .next)
+slice-write-v-4 c = after-three _ (c .before .before .before .before .before .before .before .before .before .loop .v) _ _ _ _ _ _ (turn (c .before .before .before .before .before .before .before .before) .second .next)
 
 add-v-7 : tie.Need-add-v-7 Inv-loop μ-loop
 add-v-7 c = let t = turn (c .before .before .before .before .before .before .before .before) in word (t .third .at) (t .bytes)
@@ -208,7 +208,7 @@ mul-v-5 : tie.Need-mul-v-5 Inv-loop μ-loop
 mul-v-5 c = let t = turn (c .before .before .before .before .before .before .before .before) in scaled-fits _ _ 8 (t .third .at) (t .bytes)
 
 slice-write-v-5 : tie.Need-slice-write-v-5 Inv-loop μ-loop
-slice-write-v-5 c = simp length-set (turn (c .before .before .before .before .before .before .before .before) .third .at)
+slice-write-v-5 c = after-four _ (c .before .before .before .before .before .before .before .before .before .loop .v) _ _ _ _ _ _ _ _ (turn (c .before .before .before .before .before .before .before .before) .third .at)
 
 add-v-8 : tie.Need-add-v-8 Inv-loop μ-loop
 add-v-8 c = let t = turn (c .before .before .before .before .before .before .before .before) in word (t .third .at) (t .bytes)
@@ -220,7 +220,7 @@ mul-v-6 : tie.Need-mul-v-6 Inv-loop μ-loop
 mul-v-6 c = let t = turn (c .before .before .before .before .before .before .before .before) in scaled-fits _ _ 8 (t .third .next) (t .bytes)
 
 slice-write-v-6 : tie.Need-slice-write-v-6 Inv-loop μ-loop
-slice-write-v-6 c = simp length-set (turn (c .before .before .before .before .before .before .before .before) .third .next)
+slice-write-v-6 c = after-five _ (c .before .before .before .before .before .before .before .before .before .loop .v) _ _ _ _ _ _ _ _ _ _ (turn (c .before .before .before .before .before .before .before .before) .third .next)
 
 add-v-10 : tie.Need-add-v-10 Inv-loop μ-loop
 add-v-10 c = let t = turn (c .before .before .before .before .before .before .before .before) in word (t .fourth .at) (t .bytes)
@@ -229,7 +229,7 @@ mul-v-7 : tie.Need-mul-v-7 Inv-loop μ-loop
 mul-v-7 c = let t = turn (c .before .before .before .before .before .before .before .before) in scaled-fits _ _ 8 (t .fourth .at) (t .bytes)
 
 slice-write-v-7 : tie.Need-slice-write-v-7 Inv-loop μ-loop
-slice-write-v-7 c = simp length-set (turn (c .before .before .before .before .before .before .before .before) .fourth .at)
+slice-write-v-7 c = after-six _ (c .before .before .before .before .before .before .before .before .before .loop .v) _ _ _ _ _ _ _ _ _ _ _ _ (turn (c .before .before .before .before .before .before .before .before) .fourth .at)
 
 add-v-11 : tie.Need-add-v-11 Inv-loop μ-loop
 add-v-11 c = let t = turn (c .before .before .before .before .before .before .before .before) in word (t .fourth .at) (t .bytes)

@@ -2,12 +2,12 @@
 use mathlib.Core.Path.{_≡_, refl, _∙_}
 use Prim.Native.Nat.{_+_, _*_, _-_, _%_, _^_, _≤_, _<_}
 use native.Mathlib.Omega.{arith}
-use lib.ListN.{length, length-set}
+use lib.ListN.{length}
 use Rattle.vector.specs.Part.{put, fill-none}
 use Rattle.vector.specs.Tabulate.{tabulate}
 use borrow.Author.Needs.{scaled-fits}
 use Rattle.sweep.specs.Rule.{blend}
-use Rattle.runs.specs.Fours.{after-seven, same-eight, four}
+use Rattle.runs.specs.Fours.{after-one, after-two, after-three, after-four, after-five, after-six, after-seven, same-eight, four}
 use Rattle.runs.specs.Turn.{Turn, turn-of, word, less-by-two, even-next, two-more}
 use Rattle.stride_forward.proofs.ForwardTurn.{runRule, run-turn}
 use Rattle.stride_forward.proofs.forward_run.Statement.{statement}
@@ -150,7 +150,7 @@ mul-v-4 : tie.Need-mul-v-4 Inv-loop μ-loop
 mul-v-4 c = let t = turn (c .before .before .before .before .before .before .before .before) in scaled-fits _ _ 8 (t .eight .at-1) (t .bytes)
 
 slice-write-v-2 : tie.Need-slice-write-v-2 Inv-loop μ-loop
-slice-write-v-2 c = simp length-set (turn (c .before .before .before .before .before .before .before .before) .eight .at-1)
+slice-write-v-2 c = after-one _ (c .before .before .before .before .before .before .before .before .before .loop .v) _ _ (turn (c .before .before .before .before .before .before .before .before) .eight .at-1)
 
 mul-v-5 : tie.Need-mul-v-5 Inv-loop μ-loop
 mul-v-5 c = let t = turn (c .before .before .before .before .before .before .before .before) in word (t .times) (t .bytes)
@@ -165,7 +165,7 @@ mul-v-6 : tie.Need-mul-v-6 Inv-loop μ-loop
 mul-v-6 c = let t = turn (c .before .before .before .before .before .before .before .before) in scaled-fits _ _ 8 (t .eight .at-2) (t .bytes)
 
 slice-write-v-3 : tie.Need-slice-write-v-3 Inv-loop μ-loop
-slice-write-v-3 c = simp length-set (turn (c .before .before .before .before .before .before .before .before) .eight .at-2)
+slice-write-v-3 c = after-two _ (c .before .before .before .before .before .before .before .before .before .loop .v) _ _ _ _ (turn (c .before .before .before .before .before .before .before .before) .eight .at-2)
 
 mul-v-7 : tie.Need-mul-v-7 Inv-loop μ-loop
 mul-v-7 c = let t = turn (c .before .before .before .before .before .before .before .before) in word (t .times) (t .bytes)
@@ -180,7 +180,7 @@ mul-v-8 : tie.Need-mul-v-8 Inv-loop μ-loop
 mul-v-8 c = let t = turn (c .before .before .before .before .before .before .before .before) in scaled-fits _ _ 8 (t .eight .at-3) (t .bytes)
 
 slice-write-v-4 : tie.Need-slice-write-v-4 Inv-loop μ-loop
-slice-write-v-4 c = simp length-set (turn (c .before .before .before .before .before .before .before .before) .eight .at-3)
+slice-write-v-4 c = after-three _ (c .before .before .before .before .before .before .before .before .before .loop .v) _ _ _ _ _ _ (turn (c .before .before .before .before .before .before .before .before) .eight .at-3)
 
 mul-v-9 : tie.Need-mul-v-9 Inv-loop μ-loop
 mul-v-9 c = let t = turn (c .before .before .before .before .before .before .before .before) in word (t .times) (t .bytes)
@@ -195,7 +195,7 @@ mul-v-10 : tie.Need-mul-v-10 Inv-loop μ-loop
 mul-v-10 c = let t = turn (c .before .before .before .before .before .before .before .before) in scaled-fits _ _ 8 (t .eight .at-4) (t .bytes)
 
 slice-write-v-5 : tie.Need-slice-write-v-5 Inv-loop μ-loop
-slice-write-v-5 c = simp length-set (turn (c .before .before .before .before .before .before .before .before) .eight .at-4)
+slice-write-v-5 c = after-four _ (c .before .before .before .before .before .before .before .before .before .loop .v) _ _ _ _ _ _ _ _ (turn (c .before .before .before .before .before .before .before .before) .eight .at-4)
 
 mul-v-11 : tie.Need-mul-v-11 Inv-loop μ-loop
 mul-v-11 c = let t = turn (c .before .before .before .before .before .before .before .before) in word (t .times) (t .bytes)
@@ -210,7 +210,7 @@ mul-v-12 : tie.Need-mul-v-12 Inv-loop μ-loop
 mul-v-12 c = let t = turn (c .before .before .before .before .before .before .before .before) in scaled-fits _ _ 8 (t .eight .at-5) (t .bytes)
 
 slice-write-v-6 : tie.Need-slice-write-v-6 Inv-loop μ-loop
-slice-write-v-6 c = simp length-set (turn (c .before .before .before .before .before .before .before .before) .eight .at-5)
+slice-write-v-6 c = after-five _ (c .before .before .before .before .before .before .before .before .before .loop .v) _ _ _ _ _ _ _ _ _ _ (turn (c .before .before .before .before .before .before .before .before) .eight .at-5)
 
 mul-v-13 : tie.Need-mul-v-13 Inv-loop μ-loop
 mul-v-13 c = let t = turn (c .before .before .before .before .before .before .before .before) in word (t .times) (t .bytes)
@@ -225,7 +225,7 @@ mul-v-14 : tie.Need-mul-v-14 Inv-loop μ-loop
 mul-v-14 c = let t = turn (c .before .before .before .before .before .before .before .before) in scaled-fits _ _ 8 (t .eight .at-6) (t .bytes)
 
 slice-write-v-7 : tie.Need-slice-write-v-7 Inv-loop μ-loop
-slice-write-v-7 c = simp length-set (turn (c .before .before .before .before .before .before .before .before) .eight .at-6)
+slice-write-v-7 c = after-six _ (c .before .before .before .before .before .before .before .before .before .loop .v) _ _ _ _ _ _ _ _ _ _ _ _ (turn (c .before .before .before .before .before .before .before .before) .eight .at-6)
 
 mul-v-15 : tie.Need-mul-v-15 Inv-loop μ-loop
 mul-v-15 c = let t = turn (c .before .before .before .before .before .before .before .before) in word (t .times) (t .bytes)
