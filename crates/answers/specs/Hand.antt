@@ -29,7 +29,7 @@ pub record Reached (J : Job Float) (r : List Float) (w u t at : ℕ) : Type 0 wh
 pub record AdvancePair (w t to last : ℕ) : Type 0 where
   pub next : last ≡ t + 1
   pub inside : last ≤ to
-  pub wide : 3 ≤ w
+  pub wide : 4 ≤ w
 
 abbrev pub AdvanceTurn : (w t to last : ℕ) → Type 0
 AdvanceTurn w t to last = (last ≡ t) ⊎ AdvancePair w t to last

@@ -49,7 +49,19 @@ fn advance(
         let scale = room[scales + next];
         let then = room[scales + last];
         let dst = 1 - src;
-        forward_through(room, scales + n, plan, w, next, last, scale, then, src, dst);
+        forward_through(
+            room,
+            scales + n,
+            plan,
+            w,
+            next,
+            last,
+            scale,
+            then,
+            src,
+            dst,
+            false,
+        );
         src = dst;
         t = last;
     }

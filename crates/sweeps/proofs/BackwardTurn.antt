@@ -13,8 +13,10 @@ use Rattle.transfer.specs.Rounded.{ieee}
 use Rattle.transfer.specs.Sweep as S
 use Rattle.plan.specs.Layout.{stepIn, forwardPlace, backwardPlace}
 use Rattle.sweep.specs.Place.{held, hold}
+use Rattle.symmetry.specs.Symmetric.{start-symmetric}
 use Rattle.vertex.specs.Frame.{Fits, Wrote, wrote-same, wrote-other}
 use Rattle.vertex.specs.Ready.{Ready, PlanOf, Stepping, tail-factors}
+use Rattle.vertex.specs.Steady.{through-backward}
 use Rattle.vertex.specs.Through.{Through, backwardBy, through, backward-full, through-one, through-two, through-full}
 use Rattle.sweeps.specs.Target.{Target}
 use Rattle.sweeps.specs.Kept.{Since}
@@ -121,6 +123,7 @@ module _ {plan : List ℕ} (e : List Float) {r : List Float} {n w scales : ℕ} 
         ready = rw (start-since .same) g;
         since = since-none plan r n w scales;
         free = target-free (aimed e g first-below target) (λ v. v < u) (λ v q x. omega arith);
+        symmetric = rw (wrote-same e r w dst first-wrote (written-inside e g first-below target)) (start-symmetric w);
         newest = λ J of. first-newest o J (of .vertices) (of .window);
       }
 
@@ -251,5 +254,7 @@ module _ {plan : List ℕ} {r₀ r : List Float} {n w scales : ℕ} {each : Bool
           ready = rw (now .same) (g .ready);
           since = since-then (g .since) now;
           free = target-free aim (λ v. v < u) (λ v q e. omega arith);
+          symmetric = rw (wrote-same r r₂ w dst wrote (place-of (g .ready) dst coming-fits .inside))
+              (through-backward (drop (scales + n) r) scale one (held r w src) (g .ready .wide) (g .ready .vertex t (g .below)) (g .ready .vertex last last-below) (g .symmetric));
           newest = newest-turn;
         }

@@ -15,8 +15,10 @@ use Rattle.transfer.specs.Rounded.{ieee}
 use Rattle.transfer.specs.Sweep as S
 use Rattle.plan.specs.Layout.{stepIn, forwardPlace}
 use Rattle.sweep.specs.Place.{held, hold}
+use Rattle.symmetry.specs.Symmetric.{Symmetric, start-symmetric}
 use Rattle.vertex.specs.Frame.{Fits, moving-fits, Wrote, wrote-length, wrote-same, wrote-other, wrote-at, wrote-drop, set-held}
 use Rattle.vertex.specs.Ready.{Ready, PlanOf, Stepping}
+use Rattle.vertex.specs.Steady.{through-forward}
 use Rattle.vertex.specs.Through.{Through, forwardBy, through, forward-full, through-one, through-two, through-full}
 use Rattle.sweeps.specs.Target.{Target}
 use Rattle.sweeps.specs.Kept.{SameFrom}
@@ -84,6 +86,7 @@ module _ {plan : List ℕ} (e : List Float) {r : List Float} {n w scales : ℕ} 
         ready = rw (start-same .same) g;
         since = record { same = refl; tail = refl };
         free = record { fits = first-fits; off = λ u c d p x. omega (arith, g .forward .high u c p) };
+        symmetric = rw (wrote-same e r w 0 first-wrote first-inside) (start-symmetric w);
         newest = λ J of. record {
           vector = wrote-same e r w 0 first-wrote first-inside ∙ ap (S.start ieee) (sym (of .window)) ∙ sym (first-vector J);
           entry = o ∙ sym (first-entry J);
@@ -132,6 +135,19 @@ module _ {plan : List ℕ} {r₀ r : List Float} {n w scales : ℕ} {each : Bool
         (λ p. inr (record { wide = p .wide; reads = stepping (g .ready) last src dst last-inside (g .free .fits) going-fits (target-other aimed (λ u. t ≤ u) (g .free) last-order) .reads }))
         turn)
 
+    room : (u : ℕ) → u < n → scales + u < length r
+    room u l = let e = g .ready .ends in omega arith
+
+    -- the scales lie behind the places
+    places : (p : ℕ) → Fits w scales p → held r₁ w p ≡ held r w p
+    places p f =
+        let l = length-set r (scales + last) one in
+        set-held (set r (scales + last) one) w (scales + t) p scale (omega (arith, room t b)) (omega arith)
+        ∙ set-held r w (scales + last) p one (room last last-inside) (omega arith)
+
+    pub going-symmetric : Symmetric w (held r₁ w src)
+    going-symmetric = rw (places src (g .free .fits)) (g .symmetric)
+
     module _ {r₂ : List Float} {most′ : Float} (unit : one ≡ ieee .𝟙) (one-over : scale ≡ div binary64 (ieee .𝟙) most)
         (step : r₂ ≡ hold r₁ w dst (through (forwardBy plan (drop (scales + n) r₁) w) t last scale one (held r₁ w src)))
         (taken : most′ ≡ S.stored ieee (cond each perElement block) 3 last (held r₂ w dst)) where
@@ -141,20 +157,10 @@ module _ {plan : List ℕ} {r₀ r : List Float} {n w scales : ℕ} {each : Bool
       inside : (p : ℕ) → Fits w scales p → Fits w (length r₁) p
       inside p f = rw length-same (place-of (g .ready) p f .inside)
 
-      room : (u : ℕ) → u < n → scales + u < length r
-      room u l = let e = g .ready .ends in omega arith
-
       tail₁ : drop (scales + n) r₁ ≡ drop (scales + n) r₀
       tail₁ =
           drop-set-lt (scales + n) (set r (scales + last) one) (scales + t) scale (omega arith)
           ∙ drop-set-lt (scales + n) r (scales + last) one (omega (arith, last-inside)) ∙ g .since .tail
-
-      -- the scales lie behind the places
-      places : (p : ℕ) → Fits w scales p → held r₁ w p ≡ held r w p
-      places p f =
-          let l = length-set r (scales + last) one in
-          set-held (set r (scales + last) one) w (scales + t) p scale (omega (arith, room t b)) (omega arith)
-          ∙ set-held r w (scales + last) p one (room last last-inside) (omega arith)
 
       -- in job J
       module _ (J : Job Float) (of : PlanOf J plan (drop (scales + n) r₀) n w each) where
@@ -274,5 +280,7 @@ module _ {plan : List ℕ} {r₀ r : List Float} {n w scales : ℕ} {each : Bool
               tail = wrote-drop r₁ r₂ w dst wrote fits (scales + n) (omega (arith, going-fits)) ∙ tail₁;
             };
             free = target-free aimed (λ u. last + 1 ≤ u) (λ u q e. omega arith);
+            symmetric = rw (wrote-same r₁ r₂ w dst wrote fits)
+                (through-forward (drop (scales + n) r₁) scale one (held r₁ w src) (g .ready .wide) (g .ready .vertex t b) (g .ready .vertex last last-inside) going-symmetric);
             newest = newest-turn;
           }

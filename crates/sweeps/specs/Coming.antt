@@ -10,6 +10,7 @@ use Rattle.transfer.specs.Rounded.{ieee}
 use Rattle.transfer.specs.Sweep as S
 use Rattle.plan.specs.Layout.{backwardPlace}
 use Rattle.sweep.specs.Place.{held}
+use Rattle.symmetry.specs.Symmetric.{Symmetric}
 use Rattle.vertex.specs.Ready.{Ready, PlanOf, Backward}
 use Rattle.sweeps.specs.Target.{Free}
 use Rattle.sweeps.specs.Kept.{Since}
@@ -26,4 +27,5 @@ pub record Coming (plan : List ℕ) (r₀ r : List Float) (n w scales : ℕ) (ea
   pub ready : Ready plan (length r) n w scales
   pub since : Since plan r₀ r n w scales
   pub free : Free (backwardPlace plan) n w scales src (λ u. u < t)
+  pub symmetric : Symmetric w (held r w src)
   pub newest : (J : Job Float) → PlanOf J plan (drop (scales + n) r₀) n w each → NewestBackward J plan r n w t src most

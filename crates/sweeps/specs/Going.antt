@@ -10,6 +10,7 @@ use Rattle.transfer.specs.Rounded.{ieee}
 use Rattle.transfer.specs.Sweep as S
 use Rattle.plan.specs.Layout.{forwardPlace}
 use Rattle.sweep.specs.Place.{held}
+use Rattle.symmetry.specs.Symmetric.{Symmetric}
 use Rattle.vertex.specs.Ready.{Ready, PlanOf, Forward}
 use Rattle.sweeps.specs.Target.{Free}
 use Rattle.sweeps.specs.Kept.{SameFrom}
@@ -26,4 +27,5 @@ pub record Going (plan : List ℕ) (r₀ r : List Float) (n w scales : ℕ) (eac
   pub ready : Ready plan (length r) n w scales
   pub since : SameFrom r₀ r (scales + n)
   pub free : Free (forwardPlace plan) n w scales src (λ u. t ≤ u)
+  pub symmetric : Symmetric w (held r w src)
   pub newest : (J : Job Float) → PlanOf J plan (drop (scales + n) r₀) n w each → NewestForward J plan r w scales t src most

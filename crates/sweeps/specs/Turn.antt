@@ -10,7 +10,7 @@ use Rattle.plan.specs.Layout.{forwardPlace, backwardPlace}
 pub record ForwardPair (plan : List ℕ) (n w : ℕ) (each : Bool) (t last : ℕ) : Type 0 where
   pub next : last ≡ t + 1
   pub inside : last < n
-  pub wide : 3 ≤ w
+  pub wide : 4 ≤ w
   pub blocks : each ≡ false
   pub due : t % 4 ≡ 3 → ⊥
   pub passing : forwardPlace plan t ≡ 0
@@ -23,7 +23,7 @@ ForwardTurn plan n w each t last = (last ≡ t) ⊎ ForwardPair plan n w each t 
 pub record BackwardPair (plan : List ℕ) (w : ℕ) (each : Bool) (t last : ℕ) : Type 0 where
   pub next : t ≡ last + 1
   pub some : 1 ≤ last
-  pub wide : 3 ≤ w
+  pub wide : 4 ≤ w
   pub blocks : each ≡ false
   pub due : t % 4 ≡ 0 → ⊥
   pub passing : backwardPlace plan last ≡ 0

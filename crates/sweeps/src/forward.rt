@@ -63,7 +63,7 @@ pub fn sweep_forward(
         room[scales + last] = 1.0;
         room[scales + t] = scale;
         let dst = place_for(forward_place(plan, last), src);
-        forward_through(room, factors, plan, w, t, last, scale, 1.0, src, dst);
+        forward_through(room, factors, plan, w, t, last, scale, 1.0, src, dst, true);
         most = stored(room, dst, w, each, 3, last);
         src = dst;
         t = last + 1;

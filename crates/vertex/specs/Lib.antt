@@ -2,3 +2,4 @@
 pub mod Frame
 pub mod Ready
 pub mod Through
+pub mod Steady

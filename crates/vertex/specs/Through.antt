@@ -16,7 +16,7 @@ use Rattle.vertex.specs.Ready.{Readable}
 
 -- What a second step asks.
 pub record Second (plan : List ℕ) (len w factors last : ℕ) : Type 0 where
-  pub wide : 3 ≤ w
+  pub wide : 4 ≤ w
   pub reads : Readable plan len w factors last
 
 abbrev pub Through : (plan : List ℕ) (len w factors t last : ℕ) → Type 0

@@ -82,7 +82,7 @@ backward-through-requires c κs =
     let g = c .before .before .before .before .before .loop .inv in
     let placed = c .before in
     let turn = c .before .before .before .backward-last .ensures in
-    (coming-step _ g turn (next placed) (target placed), coming-through _ g turn (next placed) (target placed))
+    (coming-step _ g turn (next placed) (target placed), coming-through _ g turn (next placed) (target placed), g .symmetric)
 
 stored-requires : tie.Need-stored-requires Inv-loop μ-loop
 stored-requires c κs =

@@ -10,7 +10,7 @@ use Rattle.vertex.specs.Frame.{moving-fits}
 use Rattle.sweeps.specs.Target.{Target}
 use Rattle.sweeps.specs.Going.{Going}
 use Rattle.sweeps.proofs.Frames.{place-of}
-use Rattle.sweeps.proofs.ForwardTurn.{start-same, going-start, turn-inside, going-fits, going-step, going-through, going-turn}
+use Rattle.sweeps.proofs.ForwardTurn.{start-same, going-start, turn-inside, going-fits, going-step, going-through, going-symmetric, going-turn}
 use Rattle.sweeps.proofs.forward.sweep_forward.Statement.{statement}
 use Rattle.sweeps.proofs.forward.sweep_forward.Tie as tie
 
@@ -75,7 +75,7 @@ forward-through-requires c κs =
     let g = c .before .before .before .before .before .loop .inv in
     let b = c .before .before .before .before .loop-test .taken in
     let turn = c .before .before .before .forward-last .ensures in
-    (going-step g b turn (target (c .before)) _ _, going-through g b turn (target (c .before)) _ _)
+    (going-step g b turn (target (c .before)) _ _, going-through g b turn (target (c .before)) _ _, λ _. going-symmetric g b turn (target (c .before)) _ _)
 
 stored-requires : tie.Need-stored-requires Inv-loop μ-loop
 stored-requires c κs =

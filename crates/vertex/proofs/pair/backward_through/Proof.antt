@@ -13,7 +13,7 @@ backward-two-at-requires : tie.Need-backward-two-at-requires
 backward-two-at-requires c κs =
     let s = c .before .before .before .before in
     let two = second-of (s .pre .1) (c .before .if1 .left) in
-    (s .pre .0, two)
+    (s .pre .0, two, s .pre .2)
 
 same-length : tie.Need-same-length
 same-length c = search needs

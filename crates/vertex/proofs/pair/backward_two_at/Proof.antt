@@ -1,5 +1,7 @@
 -- Both tables are read, and the steps are taken by them.
+use lib.ListN.{drop}
 use Rattle.sweep.specs.Constants.{one-is}
+use Rattle.vertex.specs.Steady.{step-below}
 use borrow.Author.Needs.{needs}
 use Rattle.vertex.proofs.pair.backward_two_at.Statement.{statement}
 use Rattle.vertex.proofs.pair.backward_two_at.Tie as tie
@@ -34,13 +36,14 @@ near-count-requires c κs = search needs
 near-count-requires-2 : tie.Need-near-count-requires-2
 near-count-requires-2 c κs = search needs
 
-stride-backward-requires : tie.Need-stride-backward-requires
-stride-backward-requires c κs =
+mirrored-backward-requires : tie.Need-mirrored-backward-requires
+mirrored-backward-requires c κs =
     let s = c .before .before .before .before .before .before .before .before .before .before .before .before .before .before .before .before .before .before .before .before .before .before .before .before .before .before .before in (
       s .pre .1 .wide,
       s .pre .0 .places,
       rw (c .before .before .before .before .before .before .before .before .near-count .ensures) (c .before .before .before .before .before .before .before .before .before .before .before .before .before .before .before .before .before .before .before .before .tables-at .ensures .1),
       rw (c .before .before .before .before .before .before .before .near-count2 .ensures) (c .before .before .before .before .before .before .before .before .before .before .before .before .tables-at2 .ensures .1),
+      s .pre .2,
     )
 
 same-length : tie.Need-same-length
@@ -48,9 +51,12 @@ same-length c = search needs
 
 returns : tie.Need-returns
 returns c =
-    c .before .before .stride-backward .ensures _ _ _ _
+    let s = c .before .before .before .before .before .before .before .before .before .before .before .before .before .before .before .before .before .before .before .before .before .before .before .before .before .before .before .before .before .before in
+    let x = drop (s .args .factors) (s .args .room .now) in
+    c .before .before .mirrored-backward .ensures _ _ _ _
     (rw (c .before .before .before .before .before .before .before .before .before .before .before .near-count .ensures, one-is) (c .before .before .before .before .before .before .before .before .before .before .before .before .before .before .before .before .before .before .before .before .before .before .before .tables-at .ensures .0))
     (rw (c .before .before .before .before .before .before .before .before .before .before .near-count2 .ensures, one-is) (c .before .before .before .before .before .before .before .before .before .before .before .before .before .before .before .tables-at2 .ensures .0))
+    (step-below x (s .pre .1 .reads .vertex)) (step-below x (s .pre .0 .reads .vertex))
 
 pub backward-two-at-spec : {M : Type 1} → statement M
 backward-two-at-spec =
@@ -66,6 +72,6 @@ backward-two-at-spec =
     tables-at-requires-2
     near-count-requires
     near-count-requires-2
-    stride-backward-requires
+    mirrored-backward-requires
     same-length
     returns)

@@ -13,7 +13,7 @@ forward-two-at-requires : tie.Need-forward-two-at-requires
 forward-two-at-requires c κs =
     let s = c .before .before .before .before in
     let two = second-of (s .pre .1) (c .before .if1 .left) in
-    (s .pre .0, two)
+    (s .pre .0, two, s .pre .2)
 
 same-length : tie.Need-same-length
 same-length c = search needs

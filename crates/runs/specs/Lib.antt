@@ -1,0 +1,10 @@
+-- The runs of two steps: the definitions that the contracts cite, and what a loop over the runs knows.
+pub mod Quarter
+pub mod Rule
+pub mod InFour
+pub mod Fours
+pub mod Turn
+pub mod Patterns
+pub mod Picks
+pub mod AtRun
+pub mod RunWeights

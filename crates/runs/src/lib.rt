@@ -1,0 +1,54 @@
+// The runs of two steps: indexes in which the patterns of both change with the lowest bit alone.
+ghost use Prim.Native.Nat.{_+_, _<_, _≤_};
+ghost use Rattle.runs.specs.Rule.{Picked, Sparse};
+
+// Weights of one table: at the patterns of an even place and of the one that goes with it, and the same at an odd place.
+pub struct Four {
+    pub first: f64,
+    pub second: f64,
+    pub third: f64,
+    pub fourth: f64,
+}
+
+// The table at m, and with a and b added.
+pub fn four_at(table: &[f64; 16], m: usize, a: usize, b: usize) -> Four
+    requires { ⌜ m + a + b < 16 ⌝ }
+    ensures { λ r. ⌜ Picked (now (table .entry)) m a b r ⌝ }
+{
+    Four {
+        first: table[m],
+        second: table[m + a],
+        third: table[m + b],
+        fourth: table[m + a + b],
+    }
+}
+
+// The lowest of the bits that is not below `low`, or h where there is none below h.
+fn run_bit(bits: &[usize; 4], n: usize, low: usize, h: usize) -> usize
+    requires { ⌜ (n ≤ 4) × (low ≤ h) ⌝ }
+    ensures { λ r. ⌜ (low ≤ r) × (r ≤ h) ⌝ }
+    ensures { λ r. ⌜ Sparse (now (bits .entry)) n low r ⌝ }
+{
+    let mut e = h;
+    let mut i = 0usize;
+    while i < n {
+        let b = bits[i];
+        i += 1;
+        if b >= low {
+            if b < e {
+                e = b;
+            }
+        }
+    }
+    e
+}
+
+// The runs have 2 to this many places: within one the first step's pattern sees bit 0 of the place alone, and the second's sees bits 0
+// and 1 of twice the place alone. A vector has 4 * 2 ^ h entries.
+pub fn runs_of(bits: &[usize; 4], n: usize, bits2: &[usize; 4], n2: usize, h: usize) -> usize
+    requires { ⌜ (n ≤ 4) × (n2 ≤ 4) × (1 ≤ h) × (h < 64) ⌝ }
+    ensures { λ r. ⌜ (1 ≤ r) × (r ≤ h) × Sparse (now (bits .entry)) n 1 r × Sparse (now (bits2 .entry)) n2 2 (r + 1) ⌝ }
+{
+    let e = run_bit(bits, n, 1, h);
+    run_bit(bits2, n2, 2, e + 1) - 1
+}

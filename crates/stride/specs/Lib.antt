@@ -1,6 +1,0 @@
--- The definitions that the contracts cite, and that two steps at once are the second of the first.
-pub mod Quarter
-pub mod Rule
-pub mod Fourfold
-pub mod ForwardTwice
-pub mod BackwardTwice
