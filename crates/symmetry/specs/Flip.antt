@@ -1,5 +1,5 @@
--- Where every spin is flipped, every bit of an index is, and so every bit of its pattern.
-use mathlib.Core.Path.{_≡_, refl}
+-- Where every spin is flipped, every bit of an index is, and so every bit of its pattern: the tables change places.
+use mathlib.Core.Path.{_≡_, refl, sym, ap}
 use mathlib.Core.List.{List, [], _∷_}
 use Prim.Native.Nat.{ℕ, _+_, _*_, _-_, _/_, _%_, _^_, _<_}
 use native.Mathlib.Nat.{mod-lt, pow-suc}
@@ -10,7 +10,8 @@ use lib.Ieee.{Float}
 use Rattle.vector.specs.Power.{pow-double}
 use Rattle.transfer.specs.Checked.{All}
 use Rattle.transfer.specs.Job.{Back}
-use Rattle.transfer.specs.Sweep.{pattern}
+use Rattle.transfer.specs.Rounded.{ieee}
+use Rattle.transfer.specs.Sweep.{pattern, up, down}
 
 -- the bits that a step's near edges read are below h
 abbrev pub Below : ℕ → List (Back Float) → Type 0
@@ -43,3 +44,14 @@ unfolding pattern
 pattern-flip [] h k a b = refl
 pattern-flip (x ∷ bs) h k a b =
     rw (pow-suc, pattern-flip bs h k (a .1) b, flip-bit h (x .distance - 1) k (a .0) b) (omega (arith, pattern-below bs k))
+
+pub up-flips : (others : List (Back Float)) (sc : Float) (h k : ℕ) → Below h others → k < 2 ^ h
+    → up ieee others sc (pattern others (2 ^ h - 1 - k)) ≡ down ieee others sc (pattern others k)
+unfolding down
+up-flips others sc h k low b = ap (up ieee others sc) (pattern-flip others h k low b)
+
+pub down-flips : (others : List (Back Float)) (sc : Float) (h k : ℕ) → Below h others → k < 2 ^ h
+    → down ieee others sc (pattern others (2 ^ h - 1 - k)) ≡ up ieee others sc (pattern others k)
+down-flips others sc h k low b =
+    let e : 2 ^ h - 1 - (2 ^ h - 1 - k) ≡ k = omega arith in
+    rw e at (sym (up-flips others sc h (2 ^ h - 1 - k) low (omega arith)))
