@@ -3,3 +3,5 @@ pub mod Sign
 pub mod Alike
 pub mod Running
 pub mod Terms
+pub mod Half
+pub mod Even
