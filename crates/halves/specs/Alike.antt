@@ -23,6 +23,10 @@ pub data Alike : Float → Float → Type 0 where
 pub alike-is : {x y : Float} → x ≡ y → Alike x y
 alike-is e = rw e same
 
+pub alike-sym : {x y : Float} → Alike x y → Alike y x
+alike-sym same = same
+alike-sym zeros = zeros
+
 pub alike-trans : {x y z : Float} → Alike x y → Alike y z → Alike x z
 alike-trans same q = q
 alike-trans zeros same = zeros

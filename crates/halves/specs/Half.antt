@@ -14,8 +14,7 @@ use Rattle.vector.specs.Power.{pow-double}
 use Rattle.transfer.specs.Job.{Step}
 use Rattle.transfer.specs.Rounded.{ieee}
 use Rattle.transfer.specs.Sweep as S
-use Rattle.sweep.specs.Rule.{blend, mix}
-use Rattle.symmetry.specs.Entries.{ups, downs, lower, upper}
+use Rattle.symmetry.specs.Entries.{ups, downs, blend, mix, lower, upper}
 
 -- the half there and back: entries 0, 1, .., 2 ^ (w - 1) - 1, and then down to 0 again
 abbrev pub thereAndBack : {A : Type 0} → ℕ → (ℕ → A) → ℕ → A
@@ -41,7 +40,6 @@ module _ (w : ℕ) (wide : 1 ≤ w) where
 -- Forward, with a from the half's front and b from its end: entry 2k is (ep a + em b) up, entry 2k + 1 is (em a + ep b) down. The coefficients
 -- of b are turned: not at all in an even half, to their negatives in an odd one.
 unfoldable pub forwardHalf : ℕ → Step Float → Float → (Float → Float) → (ℕ → Float) → ℕ → Float
-unfolding blend
 forwardHalf w s sc turn h j =
     let k = j / 2 in
     let a = h k in
@@ -53,7 +51,6 @@ forwardHalf w s sc turn h j =
 -- Backward, for a window of 2 or more, from entries 2k and 2k + 1: x and y are those times up and down; entry k is ep x + em y, and entry
 -- 2 ^ (w - 1) - 1 - k is em x + ep y.
 unfoldable pub backwardHalf : ℕ → Step Float → Float → (ℕ → Float) → ℕ → Float
-unfolding mix
 backwardHalf w s sc h j =
     let k = min j (2 ^ (w - 1) - 1 - j) in
     cond (ltb j (2 ^ (w - 2)))

@@ -5,3 +5,4 @@ pub mod Running
 pub mod Terms
 pub mod Half
 pub mod Even
+pub mod Odd

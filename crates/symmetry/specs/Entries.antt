@@ -17,16 +17,24 @@ ups s sc k = S.up ieee (s .others) sc (S.pattern (s .others) k)
 abbrev pub downs : Step Float → Float → ℕ → Float
 downs s sc k = S.down ieee (s .others) sc (S.pattern (s .others) k)
 
+-- (x a + y b) p, each operation rounded once
+abbrev pub blend : (x y p a b : Float) → Float
+blend x y p a b = mul binary64 (add binary64 (mul binary64 x a) (mul binary64 y b)) p
+
+-- x (a p) + y (b q), each operation rounded once
+abbrev pub mix : (x y p q a b : Float) → Float
+mix x y p q a b = add binary64 (mul binary64 x (mul binary64 a p)) (mul binary64 y (mul binary64 b q))
+
 -- in the window w, with the scale sc, from the entries v
 module _ (w : ℕ) (s : Step Float) (sc : Float) (v : ℕ → Float) where
   abbrev half : ℕ
   half = 2 ^ (w - 1)
 
   abbrev pub evens : ℕ → Float
-  evens k = mul binary64 (add binary64 (mul binary64 (S.ep ieee (s .left)) (v k)) (mul binary64 (S.em ieee (s .left)) (v (half + k)))) (ups s sc k)
+  evens k = blend (S.ep ieee (s .left)) (S.em ieee (s .left)) (ups s sc k) (v k) (v (half + k))
 
   abbrev pub odds : ℕ → Float
-  odds k = mul binary64 (add binary64 (mul binary64 (S.em ieee (s .left)) (v k)) (mul binary64 (S.ep ieee (s .left)) (v (half + k)))) (downs s sc k)
+  odds k = blend (S.em ieee (s .left)) (S.ep ieee (s .left)) (downs s sc k) (v k) (v (half + k))
 
   pub forward-even : (j k : ℕ) → j ≡ 2 * k → S.forwardAt ieee w s sc v j ≡ evens k
   unfolding S.forwardAt
@@ -42,18 +50,11 @@ module _ (w : ℕ) (s : Step Float) (sc : Float) (v : ℕ → Float) where
       let q : j / 2 ≡ k = omega arith in
       rw (r, q)
 
-  -- the entries 2 k and 2 k + 1 times the tables
-  abbrev pub up-part : ℕ → Float
-  up-part k = mul binary64 (v (2 * k)) (ups s sc k)
-
-  abbrev pub down-part : ℕ → Float
-  down-part k = mul binary64 (v (2 * k + 1)) (downs s sc k)
-
   abbrev pub lower : ℕ → Float
-  lower k = add binary64 (mul binary64 (S.ep ieee (s .left)) (up-part k)) (mul binary64 (S.em ieee (s .left)) (down-part k))
+  lower k = mix (S.ep ieee (s .left)) (S.em ieee (s .left)) (ups s sc k) (downs s sc k) (v (2 * k)) (v (2 * k + 1))
 
   abbrev pub upper : ℕ → Float
-  upper k = add binary64 (mul binary64 (S.em ieee (s .left)) (up-part k)) (mul binary64 (S.ep ieee (s .left)) (down-part k))
+  upper k = mix (S.em ieee (s .left)) (S.ep ieee (s .left)) (ups s sc k) (downs s sc k) (v (2 * k)) (v (2 * k + 1))
 
   pub backward-low : (j : ℕ) → j < half → S.backwardAt ieee w s sc v j ≡ lower j
   unfolding S.backwardAt

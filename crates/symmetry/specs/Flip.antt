@@ -1,12 +1,15 @@
 -- Where every spin is flipped, every bit of an index is, and so every bit of its pattern: the tables change places.
 use mathlib.Core.Path.{_≡_, refl, sym, ap}
+use mathlib.Core.Bool.{not}
 use mathlib.Core.List.{List, [], _∷_}
-use Prim.Native.Nat.{ℕ, _+_, _*_, _-_, _/_, _%_, _^_, _<_}
+use Prim.Native.Nat.{ℕ, zero, suc, _+_, _*_, _-_, _/_, _%_, _^_, _<_}
 use native.Mathlib.Nat.{mod-lt, pow-suc}
 use native.Mathlib.Omega.{arith}
+use lib.Dec.{eqb}
 use lib.Pow.{pow-add, pow-pos, split, high, shr-lt}
 use lib.ListN.{length}
 use lib.Ieee.{Float}
+use Rattle.vector.specs.Bits.{bit}
 use Rattle.vector.specs.Power.{pow-double}
 use Rattle.transfer.specs.Checked.{All}
 use Rattle.transfer.specs.Job.{Back}
@@ -33,6 +36,14 @@ flip-bit h c k l b =
       high (2 ^ (h - c) - 1 - k / 2 ^ c) c {lo = 2 ^ c - 1 - k % 2 ^ c} (omega arith),
     )
     (omega arith)
+
+bit-turns : (x : ℕ) → x < 2 → eqb (1 - x) 1 ≡ not (eqb x 1)
+bit-turns zero b = refl
+bit-turns (suc zero) b = refl
+bit-turns (suc (suc x)) b = absurd (omega arith)
+
+pub bit-flips : (h c k : ℕ) → c < h → k < 2 ^ h → bit c (2 ^ h - 1 - k) ≡ not (bit c k)
+bit-flips h c k l b = rw (flip-bit h c k l b) (bit-turns (k / 2 ^ c % 2) (mod-lt (k / 2 ^ c) (omega arith)))
 
 pattern-below : (bs : List (Back Float)) (k : ℕ) → pattern bs k < 2 ^ length bs
 unfolding pattern

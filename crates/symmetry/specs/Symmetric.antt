@@ -77,11 +77,12 @@ module _ (w : ℕ) (s : Step Float) (sc : Float) (v : List Float) (wide : 1 ≤ 
       (λ l. E.forward-odd w s sc (S.at ieee v) (2 ^ w - 1 - j) (half - 1 - j / 2) (omega arith) ∙ odd-flips (j / 2) (omega arith) ∙ sym (E.forward-even w s sc (S.at ieee v) j (j / 2) (omega arith)))
       (λ l. E.forward-even w s sc (S.at ieee v) (2 ^ w - 1 - j) (half - 1 - j / 2) (omega arith) ∙ even-flips (j / 2) (omega arith) ∙ sym (E.forward-odd w s sc (S.at ieee v) j (j / 2) (omega arith))))
 
+  -- the entries 2 k and 2 k + 1 times the tables
   abbrev up-part : ℕ → Float
-  up-part = E.up-part w s sc (S.at ieee v)
+  up-part k = mul binary64 (S.at ieee v (2 * k)) (E.ups s sc k)
 
   abbrev down-part : ℕ → Float
-  down-part = E.down-part w s sc (S.at ieee v)
+  down-part k = mul binary64 (S.at ieee v (2 * k + 1)) (E.downs s sc k)
 
   abbrev lower : ℕ → Float
   lower = E.lower w s sc (S.at ieee v)
