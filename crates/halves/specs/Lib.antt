@@ -6,3 +6,4 @@ pub mod Terms
 pub mod Half
 pub mod Even
 pub mod Odd
+pub mod Sums
