@@ -20,13 +20,16 @@ pub data Alike : Float → Float → Type 0 where
   same : {x : Float} → Alike x x
   zeros : {s t : Bool} {d e : ℤ} → Alike (fin s 0 d) (fin t 0 e)
 
+-- what is the same is alike
 pub alike-is : {x y : Float} → x ≡ y → Alike x y
 alike-is e = rw e same
 
+-- either way round
 pub alike-sym : {x y : Float} → Alike x y → Alike y x
 alike-sym same = same
 alike-sym zeros = zeros
 
+-- and in a chain
 pub alike-trans : {x y z : Float} → Alike x y → Alike y z → Alike x z
 alike-trans same q = q
 alike-trans zeros same = zeros
@@ -58,10 +61,12 @@ sum-nought f false a false b c p q = let e : a + b ≡ a = omega arith in rw e
 sum-nought f true a false b c p q = let e : a - b ≡ a = omega arith in rw (le-ltb a b (omega arith), lt-ltb b a (omega arith), e)
 sum-nought f false a true b c p q = let e : a - b ≡ a = omega arith in rw (le-ltb a b (omega arith), e)
 
+-- so of two zeros of the format
 pub add-noughts : (f : Format) (s : Bool) (d : ℤ) (t : Bool) (e : ℤ) → add f (fin s 0 d) (fin t 0 e) ≡ fin (s && t) 0 (pos 0)
 unfolding add
 add-noughts f s d t e = sum-noughts f s _ t _ _ (omega arith) (omega arith) (mul-pos (down-pos d) (down-pos e))
 
+-- and of a zero behind a number that is none
 pub add-nought : (f : Format) (s : Bool) (m : ℕ) (d : ℤ) (t : Bool) (e : ℤ) → add f (fin s (suc m) d) (fin t 0 e) ≡ round f s (suc m * up d) (down d)
 unfolding add
 add-nought f s m d t e =
@@ -69,8 +74,9 @@ add-nought f s m d t e =
     sum-nought f s (a * down e) t _ (down d * down e) (mul-pos (mul-pos (omega arith) (up-pos d)) (down-pos e)) (omega arith)
     ∙ round-same f s (a * down e) (down d * down e) a (down d) (mul-pos (down-pos d) (down-pos e)) (down-pos d) (omega arith)
 
--- ---- no operation tells them apart
+-- ---- operations on numbers that are alike give numbers that are alike, infinities and NaN included
 
+-- negation
 pub alike-neg : {x y : Float} → Alike x y → Alike (neg x) (neg y)
 unfolding neg
 alike-neg same = same
@@ -86,6 +92,7 @@ first-factor f nan zeros = unfold mul in same
 first-factor f (inf u) zeros = unfold mul in same
 first-factor f (fin u n c) (zeros {s} {t} {d} {e}) = rw (nought-times f s u d n c, nought-times f t u e n c) zeros
 
+-- a product
 pub alike-mul : (f : Format) {x y z t : Float} → Alike x z → Alike y t → Alike (mul f x y) (mul f z t)
 alike-mul f {x} {y} {z} {t} p q = alike-trans (first-factor f y p) (rw (product-commutes f z y, product-commutes f z t) (first-factor f z q))
 
@@ -96,14 +103,16 @@ second-term f (inf u) zeros = unfold add in same
 second-term f (fin u zero c) (zeros {s} {t} {d} {e}) = rw (add-noughts f u c s d, add-noughts f u c t e) zeros
 second-term f (fin u (suc n) c) (zeros {s} {t} {d} {e}) = rw (add-nought f u n c s d, add-nought f u n c t e) same
 
+-- a sum
 pub alike-add : (f : Format) {x y z t : Float} → Alike x z → Alike y t → Alike (add f x y) (add f z t)
 alike-add f {x} {y} {z} {t} p q = alike-trans (second-term f x q) (rw (sum-commutes f x t, sum-commutes f z t) (second-term f t p))
 
+-- a difference
 pub alike-sub : (f : Format) {x y z t : Float} → Alike x z → Alike y t → Alike (sub f x y) (sub f z t)
 unfolding sub
 alike-sub f p q = alike-add f p (alike-neg q)
 
--- a negated sum is the sum of the negated, but for a zero: a number less itself is +0 either way
+-- numbers of unlike signs: one less itself is +0 either way
 unlike-neg : (f : Format) (s t : Bool) (a b c : ℕ) → 0 < c
     → Alike (neg (cond (ltb a b) (round f t (b - a) c) (round f (s && ltb b a) (a - b) c)))
     (cond (ltb a b) (round f (not t) (b - a) c) (round f (not s && ltb b a) (a - b) c))
@@ -131,6 +140,7 @@ sum-neg f false a false b c p = alike-is (round-neg f false (a + b) c)
 sum-neg f true a false b c p = unlike-neg f true false a b c p
 sum-neg f false a true b c p = unlike-neg f false true a b c p
 
+-- a negated sum is the sum of the negated, but for the sign of a zero
 pub add-negated : (f : Format) (x y : Float) → Alike (neg (add f x y)) (add f (neg x) (neg y))
 unfolding add neg
 add-negated f nan y = same

@@ -35,6 +35,7 @@ pub even-entry : {w : ℕ} {h : ℕ → Float} {v : List Float} → 1 ≤ w → 
 even-entry {w} {h} wide e =
     by-halves w wide _ (λ j b. e .low j b ∙ sym (there w wide h j b)) (λ j b. e .high j b ∙ sym (back w wide h j b))
 
+-- all 1.0
 pub start-even : (w : ℕ) → 1 ≤ w → Even w (λ j. ieee .𝟙) (S.start ieee w)
 unfolding S.start
 start-even w wide = even-of wide (start-symmetric w) (λ j b. tabulate-at (λ j. ieee .𝟙) (2 ^ w) j (ieee .𝟘) (omega (arith, pow-double w wide)))
@@ -45,6 +46,7 @@ module _ (w : ℕ) (s : Step Float) (sc : Float) (h : ℕ → Float) (v : List F
   whole : 2 ^ w ≡ 2 * 2 ^ (w - 1)
   whole = pow-double w wide
 
+  -- the forward step goes from half to half
   pub forward-even : Even w (forwardHalf w s sc (λ x. x) h) (S.forwardStep ieee w s sc v)
   unfolding S.forwardStep S.forwardAt forwardHalf
   forward-even =
@@ -73,6 +75,7 @@ module _ (w : ℕ) (s : Step Float) (sc : Float) (h : ℕ → Float) (v : List F
       ∙ upper-same k (omega arith)
       ∙ sym (backwardHalf-end w s sc h k wider (rw e at b)))
 
+  -- so does the backward step
   pub backward-even : 2 ≤ w → Even w (backwardHalf w s sc h) (S.backwardStep ieee w s sc v)
   unfolding S.backwardStep
   backward-even wider =

@@ -24,13 +24,15 @@ module _ (w : ℕ) (wide : 1 ≤ w) where
   whole : 2 ^ w ≡ 2 * 2 ^ (w - 1)
   whole = pow-double w wide
 
+  -- on the way there
   pub there : {A : Type 0} (h : ℕ → A) (j : ℕ) → j < 2 ^ (w - 1) → thereAndBack w h j ≡ h j
   there h j b = ap h (min-eq-left (omega (arith, whole)))
 
+  -- on the way back
   pub back : {A : Type 0} (h : ℕ → A) (j : ℕ) → j < 2 ^ (w - 1) → thereAndBack w h (2 ^ w - 1 - j) ≡ h j
   back h j b = let i : 2 ^ w - 1 - (2 ^ w - 1 - j) ≡ j = omega (arith, whole) in rw i (ap h (min-eq-right (omega (arith, whole))))
 
-  -- what holds of entries j and 2 ^ w - 1 - j of the lower half's j holds of all
+  -- what holds of j and of 2 ^ w - 1 - j for every j of the lower half holds of every index
   pub by-halves : (P : ℕ → Type 0) → ((j : ℕ) → j < 2 ^ (w - 1) → P j) → ((j : ℕ) → j < 2 ^ (w - 1) → P (2 ^ w - 1 - j)) → (j : ℕ) → j < 2 ^ w → P j
   by-halves P p q j b =
       dite (decLt j (2 ^ (w - 1)))
@@ -58,6 +60,7 @@ backwardHalf w s sc h j =
     (mix (S.em ieee (s .left)) (S.ep ieee (s .left)) (ups s sc k) (downs s sc k) (h (2 * k)) (h (2 * k + 1)))
 
 module _ (w : ℕ) (s : Step Float) (sc : Float) (turn : Float → Float) (h : ℕ → Float) (j k : ℕ) where
+  -- its even entries
   pub forwardHalf-even : j ≡ 2 * k
       → forwardHalf w s sc turn h j ≡ blend (S.ep ieee (s .left)) (turn (S.em ieee (s .left))) (ups s sc k) (h k) (h (2 ^ (w - 1) - 1 - k))
   unfolding forwardHalf
@@ -66,6 +69,7 @@ module _ (w : ℕ) (s : Step Float) (sc : Float) (turn : Float → Float) (h : �
       let q : j / 2 ≡ k = omega arith in
       rw (r, q)
 
+  -- its odd entries
   pub forwardHalf-odd : j ≡ 2 * k + 1
       → forwardHalf w s sc turn h j ≡ blend (S.em ieee (s .left)) (turn (S.ep ieee (s .left))) (downs s sc k) (h k) (h (2 ^ (w - 1) - 1 - k))
   unfolding forwardHalf
@@ -78,10 +82,12 @@ module _ (w : ℕ) (s : Step Float) (sc : Float) (h : ℕ → Float) (k : ℕ) (
   half : 2 ^ (w - 1) ≡ 2 * 2 ^ (w - 2)
   half = let e : w - 1 - 1 ≡ w - 2 = omega arith in rw e at (pow-double (w - 1) (omega arith))
 
+  -- its entries at the front
   pub backwardHalf-front : backwardHalf w s sc h k ≡ lower w s sc h k
   unfolding backwardHalf
   backwardHalf-front = rw (min-eq-left {n = k} {m = 2 ^ (w - 1) - 1 - k} (omega (arith, half)), lt-ltb k (2 ^ (w - 2)) b)
 
+  -- its entries at the end, from the same pair
   pub backwardHalf-end : backwardHalf w s sc h (2 ^ (w - 1) - 1 - k) ≡ upper w s sc h k
   unfolding backwardHalf
   backwardHalf-end =

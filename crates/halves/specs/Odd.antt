@@ -31,6 +31,7 @@ pub record Odd (w : ℕ) (h : ℕ → Float) (v : List Float) : Type 0 where
 unfoldable pub alternateHalf : (ℕ → Float) → ℕ → Float
 alternateHalf h j = cond (bit 0 j) (neg (h j)) (h j)
 
+-- is the odd half of the alternated vector, of an even half h
 pub alternate-odd : (w : ℕ) (h : ℕ → Float) (v : List Float) → 1 ≤ w → Even w h v → Odd w (alternateHalf h) (S.alternate ieee w v)
 unfolding S.alternate alternateHalf
 alternate-odd w h v wide e =
@@ -116,6 +117,7 @@ module _ (w : ℕ) (s : Step Float) (sc : Float) (h : ℕ → Float) (v : List F
       )
       (high-blend (S.em ieee (s .left)) (S.ep ieee (s .left)) (E.downs s sc k) k (omega arith)))
 
+  -- it goes from half to half, with the signs in the coefficients
   pub forward-odd : Odd w (forwardHalf w s sc neg h) (S.forwardStep ieee w s sc v)
   unfolding S.forwardStep
   forward-odd =

@@ -29,7 +29,7 @@ pub record Running (f : Format) (a : Float) : Type 0 where
   pub fit : T (fits f a)
   pub plain : T (not (minusZero a))
 
--- ---- a sum forgets the sign of a zero
+-- ---- it forgets the sign of a zero
 
 add-same : (f : Format) (a : Float) {x y : Float} → T (not (minusZero a)) → Alike x y → add f a x ≡ add f a y
 add-same f a p same = refl
@@ -39,9 +39,11 @@ add-same f (fin true zero c) p zeros = absurd p
 add-same f (fin false zero c) p (zeros {s} {t} {d} {e}) = add-noughts f false c s d ∙ sym (add-noughts f false c t e)
 add-same f (fin u (suc n) c) p (zeros {s} {t} {d} {e}) = add-nought f u n c s d ∙ sym (add-nought f u n c t e)
 
+-- that is added
 pub add-forgets : (f : Format) {a x y : Float} → Running f a → Alike x y → add f a x ≡ add f a y
 add-forgets f {a} r h = add-same f a (r .plain) h
 
+-- or subtracted
 pub sub-forgets : (f : Format) {a x y : Float} → Running f a → Alike x y → sub f a x ≡ sub f a y
 unfolding sub
 sub-forgets f r h = add-forgets f r (alike-neg h)
@@ -160,9 +162,11 @@ add-plain f (fin s m e) (fin t n d) p q r =
     (rw (mul-comm (down e) (down d)) (whole-of f t n d (down e) q))
     (λ z. positive-of m e d (rw z at r))
 
+-- what it comes to by a sum is such a number again
 pub add-running : (f : Format) {a : Float} (x : Float) → Running f a → T (fits f x) → Running f (add f a x)
 add-running f {a} x r h = record { fit = add-fits f a x; plain = add-plain f a x (r .fit) h (r .plain) }
 
+-- and by a difference
 pub sub-running : (f : Format) {a : Float} (x : Float) → Running f a → T (fits f x) → Running f (sub f a x)
 unfolding sub
 sub-running f x r h = add-running f (neg x) r (neg-fits f x h)

@@ -10,6 +10,7 @@ not-not : (s : Bool) → not (not s) ≡ s
 not-not true = refl
 not-not false = refl
 
+-- negated twice
 pub neg-neg : (x : Float) → neg (neg x) ≡ x
 unfolding neg
 neg-neg nan = refl

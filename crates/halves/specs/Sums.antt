@@ -21,14 +21,14 @@ use Rattle.halves.specs.Even.{Even, even-entry}
 use Rattle.halves.specs.Odd.{Odd}
 
 -- the products of two vectors' entries, and of two halves'
-abbrev products : List Float → List Float → ℕ → Float
+abbrev pub products : List Float → List Float → ℕ → Float
 products v b j = mul binary64 (S.at ieee v j) (S.at ieee b j)
 
 abbrev pub halfProducts : (ℕ → Float) → (ℕ → Float) → ℕ → Float
 halfProducts h k j = mul binary64 (h j) (k j)
 
 -- whether bits 0 and d of an index differ
-abbrev differ : ℕ → ℕ → Bool
+abbrev pub differ : ℕ → ℕ → Bool
 differ d j = not (Bool·beq (bit 0 j) (bit d j))
 
 beq-not : (s t : Bool) → not (Bool·beq (not s) (not t)) ≡ not (Bool·beq s t)
@@ -58,6 +58,7 @@ module _ (w : ℕ) (wide : 1 ≤ w) where
   -- ---- the sums of the vector v, of the half h, and the backward vector b, of the half k
 
   module _ (h k : ℕ → Float) (v b : List Float) (even : Even w k b) where
+    -- Z
     pub Z-halves : Even w h v → sum ieee (2 ^ w) (products v b) ≡ sum ieee (2 ^ w) (thereAndBack w (halfProducts h k))
     Z-halves e = sum-same (2 ^ w) (products v b) (thereAndBack w (halfProducts h k)) (λ j l. rw (even-entry wide e j l, even-entry wide even j l))
 

@@ -29,12 +29,14 @@ next-running : (m : Bool) {a : Float} (x : Float) → Running binary64 a → T (
 next-running true x r h = sub-running binary64 x r h
 next-running false x r h = add-running binary64 x r h
 
+-- what a signed sum has come to
 pub sum-running : (n : ℕ) (m : ℕ → Bool) (f : ℕ → Float) → ((j : ℕ) → j < n → T (fits binary64 (f j)))
     → Running binary64 (signedSum ieee n m f)
 unfolding signedSum
 sum-running zero m f p = record { fit = unfold fits in tt; plain = tt }
 sum-running (suc n) m f p = next-running (m n) (f n) (sum-running n m f (λ j b. p j (omega arith))) (p n (omega arith))
 
+-- signed sums of terms that are the same, each with its sign
 pub signed-same : (n : ℕ) (m k : ℕ → Bool) (f g : ℕ → Float) → ((j : ℕ) → j < n → T (fits binary64 (f j)))
     → ((j : ℕ) → j < n → SameTerm (m j) (f j) (k j) (g j)) → signedSum ieee n m f ≡ signedSum ieee n k g
 unfolding signedSum
@@ -43,11 +45,12 @@ signed-same (suc n) m k f g p q =
     same-next (sum-running n m f (λ j b. p j (omega arith))) (q n (omega arith))
     ∙ ap (λ a. cond (k n) (sub binary64 a (g n)) (add binary64 a (g n))) (signed-same n m k f g (λ j b. p j (omega arith)) (λ j b. q j (omega arith)))
 
--- as terms with the same signs do
+-- of terms that are alike, with the same signs
 pub signed-forgets : (n : ℕ) (m : ℕ → Bool) (f g : ℕ → Float) → ((j : ℕ) → j < n → T (fits binary64 (f j)))
     → ((j : ℕ) → j < n → Alike (f j) (g j)) → signedSum ieee n m f ≡ signedSum ieee n m g
 signed-forgets n m f g p q = signed-same n m m f g p (λ j b. like (q j b))
 
+-- sums of terms that are the same
 pub sum-same : (n : ℕ) (f g : ℕ → Float) → ((j : ℕ) → j < n → f j ≡ g j) → sum ieee n f ≡ sum ieee n g
 unfolding sum
 sum-same zero f g p = refl

@@ -30,6 +30,7 @@ module _ (w : ℕ) (s : Step Float) (sc : Float) (v : ℕ → Float) where
   abbrev half : ℕ
   half = 2 ^ (w - 1)
 
+  -- entries 2 k and 2 k + 1 of the forward step
   abbrev pub evens : ℕ → Float
   evens k = blend (S.ep ieee (s .left)) (S.em ieee (s .left)) (ups s sc k) (v k) (v (half + k))
 
@@ -50,6 +51,7 @@ module _ (w : ℕ) (s : Step Float) (sc : Float) (v : ℕ → Float) where
       let q : j / 2 ≡ k = omega arith in
       rw (r, q)
 
+  -- entries k and 2 ^ (w - 1) + k of the backward step
   abbrev pub lower : ℕ → Float
   lower k = mix (S.ep ieee (s .left)) (S.em ieee (s .left)) (ups s sc k) (downs s sc k) (v (2 * k)) (v (2 * k + 1))
 

@@ -42,6 +42,7 @@ bit-turns zero b = refl
 bit-turns (suc zero) b = refl
 bit-turns (suc (suc x)) b = absurd (omega arith)
 
+-- a bit of the index
 pub bit-flips : (h c k : ℕ) → c < h → k < 2 ^ h → bit c (2 ^ h - 1 - k) ≡ not (bit c k)
 bit-flips h c k l b = rw (flip-bit h c k l b) (bit-turns (k / 2 ^ c % 2) (mod-lt (k / 2 ^ c) (omega arith)))
 
@@ -50,17 +51,20 @@ unfolding pattern
 pattern-below [] k = omega arith
 pattern-below (b ∷ bs) k = rw pow-suc (omega (arith, pattern-below bs k))
 
+-- every bit of the pattern
 pub pattern-flip : (bs : List (Back Float)) (h k : ℕ) → Below h bs → k < 2 ^ h → pattern bs (2 ^ h - 1 - k) ≡ 2 ^ length bs - 1 - pattern bs k
 unfolding pattern
 pattern-flip [] h k a b = refl
 pattern-flip (x ∷ bs) h k a b =
     rw (pow-suc, pattern-flip bs h k (a .1) b, flip-bit h (x .distance - 1) k (a .0) b) (omega (arith, pattern-below bs k))
 
+-- the spin-up table gives what the spin-down table gave
 pub up-flips : (others : List (Back Float)) (sc : Float) (h k : ℕ) → Below h others → k < 2 ^ h
     → up ieee others sc (pattern others (2 ^ h - 1 - k)) ≡ down ieee others sc (pattern others k)
 unfolding down
 up-flips others sc h k low b = ap (up ieee others sc) (pattern-flip others h k low b)
 
+-- and the other way round
 pub down-flips : (others : List (Back Float)) (sc : Float) (h k : ℕ) → Below h others → k < 2 ^ h
     → down ieee others sc (pattern others (2 ^ h - 1 - k)) ≡ up ieee others sc (pattern others k)
 down-flips others sc h k low b =
