@@ -1,20 +1,20 @@
--- A rounded sum does not ask which number comes first.
+-- A rounded sum does not ask which number comes first, and neither does a product.
 use mathlib.Core.Path.{_≡_, refl, ap, _∙_}
 use mathlib.Core.Bool.{Bool, true, false, cond, _&&_}
 use mathlib.Core.Logic.{dite}
-use Prim.Native.Nat.{ℕ, _+_, _*_, _-_}
+use Prim.Native.Nat.{ℕ, _*_, _-_}
 use native.Mathlib.Nat.{add-comm, mul-comm}
 use native.Mathlib.Decide.{decLt}
 use native.Mathlib.Omega.{arith}
-use lib.Dec.{ltb}
+use lib.Dec.{ltb, eqb}
 use borrow.Author.Tests.{lt-ltb, le-ltb}
-use lib.Ieee.{Float, nan, inf, fin, Format, add, sum, round, down}
+use lib.Ieee.{Float, nan, inf, fin, Format, unlike, up, down, round, add, sum, mul}
 
-and-true : (s : Bool) → (s && true) ≡ s
+pub and-true : (s : Bool) → (s && true) ≡ s
 and-true true = refl
 and-true false = refl
 
-and-false : (s : Bool) → (s && false) ≡ false
+pub and-false : (s : Bool) → (s && false) ≡ false
 and-false true = refl
 and-false false = refl
 
@@ -51,3 +51,21 @@ sum-commutes f (inf s) (fin t n d) = refl
 sum-commutes f (fin s m e) nan = refl
 sum-commutes f (fin s m e) (inf t) = refl
 sum-commutes f (fin s m e) (fin t n d) = sum-comm f s _ t _ _ ∙ ap (sum f t _ s _) (mul-comm (down e) (down d))
+
+unlike-sym : (s t : Bool) → unlike s t ≡ unlike t s
+unlike-sym true true = refl
+unlike-sym true false = refl
+unlike-sym false true = refl
+unlike-sym false false = refl
+
+pub product-commutes : (f : Format) (x y : Float) → mul f x y ≡ mul f y x
+unfolding mul
+product-commutes f nan nan = refl
+product-commutes f nan (inf t) = refl
+product-commutes f nan (fin t n d) = refl
+product-commutes f (inf s) nan = refl
+product-commutes f (inf s) (inf t) = ap inf (unlike-sym s t)
+product-commutes f (inf s) (fin t n d) = ap (λ u. cond (eqb n 0) nan (inf u)) (unlike-sym s t)
+product-commutes f (fin s m e) nan = refl
+product-commutes f (fin s m e) (inf t) = ap (λ u. cond (eqb m 0) nan (inf u)) (unlike-sym s t)
+product-commutes f (fin s m e) (fin t n d) = rw (unlike-sym s t, mul-comm (m * up e) (n * up d), mul-comm (down e) (down d))

@@ -1,21 +1,19 @@
 -- A vector in which every entry is that of the index with every spin flipped, and the steps that keep it so.
-use mathlib.Core.Path.{_≡_, refl, sym, ap, _∙_}
+use mathlib.Core.Path.{_≡_, refl, sym, _∙_}
 use mathlib.Core.List.{List}
 use mathlib.Core.Logic.{dite}
 use Prim.Native.Nat.{ℕ, _+_, _*_, _-_, _/_, _%_, _^_, _≤_, _<_}
 use native.Mathlib.Decide.{decLt}
-use native.Mathlib.Nat.{mod-eq-of-lt}
 use native.Mathlib.Omega.{arith}
-use lib.Pow as Pow
-use lib.Ieee.{Float, binary64, add, mul}
-use borrow.Author.Tests.{lt-ltb, le-ltb}
+use lib.Ieee.{Float, binary64, mul}
 use Rattle.vector.specs.Power.{pow-double}
 use Rattle.vector.specs.Tabulate.{tabulate, tabulate-at}
 use Rattle.transfer.specs.Job.{Step}
 use Rattle.transfer.specs.Rounded.{ieee}
 use Rattle.transfer.specs.Sweep as S
 use Rattle.symmetry.specs.Commute.{sum-commutes}
-use Rattle.symmetry.specs.Flip.{Below, pattern-flip}
+use Rattle.symmetry.specs.Flip.{Below, up-flips, down-flips}
+use Rattle.symmetry.specs.Entries as E
 
 -- entry 2 ^ w - 1 - j is entry j
 pub record Symmetric (w : ℕ) (v : List Float) : Type 0 where
@@ -47,37 +45,20 @@ module _ (w : ℕ) (s : Step Float) (sc : Float) (v : List Float) (wide : 1 ≤ 
   whole : 2 ^ w ≡ 2 * half
   whole = pow-double w wide
 
-  -- the tables at the pattern of k, and of k with every spin flipped
-  abbrev ups : ℕ → Float
-  ups k = S.up ieee (s .others) sc (S.pattern (s .others) k)
-
-  abbrev downs : ℕ → Float
-  downs k = S.down ieee (s .others) sc (S.pattern (s .others) k)
-
-  up-flips : (k : ℕ) → k < half → ups (half - 1 - k) ≡ downs k
-  unfolding S.down
-  up-flips k b = ap (S.up ieee (s .others) sc) (pattern-flip (s .others) (w - 1) k low b)
-
-  down-flips : (k : ℕ) → k < half → downs (half - 1 - k) ≡ ups k
-  down-flips k b = let e : half - 1 - (half - 1 - k) ≡ k = omega arith in rw e at (sym (up-flips (half - 1 - k) (omega arith)))
-
   -- an entry whose flipped one is number j
   entry-flips : (i j : ℕ) → j < 2 ^ w → i + j + 1 ≡ 2 ^ w → S.at ieee v i ≡ S.at ieee v j
   entry-flips i j b e = let g : 2 ^ w - 1 - j ≡ i = omega arith in rw g at (even .flipped j b)
 
-  -- the entries 2 k and 2 k + 1 of the forward step
   abbrev evens : ℕ → Float
-  evens k =
-      mul binary64 (add binary64 (mul binary64 (S.ep ieee (s .left)) (S.at ieee v k)) (mul binary64 (S.em ieee (s .left)) (S.at ieee v (half + k)))) (ups k)
+  evens = E.evens w s sc (S.at ieee v)
 
   abbrev odds : ℕ → Float
-  odds k =
-      mul binary64 (add binary64 (mul binary64 (S.em ieee (s .left)) (S.at ieee v k)) (mul binary64 (S.ep ieee (s .left)) (S.at ieee v (half + k)))) (downs k)
+  odds = E.odds w s sc (S.at ieee v)
 
   odd-flips : (k : ℕ) → k < half → odds (half - 1 - k) ≡ evens k
   odd-flips k b =
       rw (
-        down-flips k b,
+        down-flips (s .others) sc (w - 1) k low b,
         entry-flips (half - 1 - k) (half + k) (omega (arith, whole)) (omega (arith, whole)),
         entry-flips (half + (half - 1 - k)) k (omega (arith, whole)) (omega (arith, whole)),
         sum-commutes binary64 (mul binary64 (S.em ieee (s .left)) (S.at ieee v (half + k))) (mul binary64 (S.ep ieee (s .left)) (S.at ieee v k)),
@@ -86,20 +67,6 @@ module _ (w : ℕ) (s : Step Float) (sc : Float) (v : List Float) (wide : 1 ≤ 
   even-flips : (k : ℕ) → k < half → evens (half - 1 - k) ≡ odds k
   even-flips k b = let e : half - 1 - (half - 1 - k) ≡ k = omega arith in rw e at (sym (odd-flips (half - 1 - k) (omega arith)))
 
-  forward-even : (j k : ℕ) → j ≡ 2 * k → S.forwardAt ieee w s sc (S.at ieee v) j ≡ evens k
-  unfolding S.forwardAt
-  forward-even j k h =
-      let r : j / 1 % 2 ≡ 0 = omega arith in
-      let q : j / 2 ≡ k = omega arith in
-      rw (r, q)
-
-  forward-odd : (j k : ℕ) → j ≡ 2 * k + 1 → S.forwardAt ieee w s sc (S.at ieee v) j ≡ odds k
-  unfolding S.forwardAt
-  forward-odd j k h =
-      let r : j / 1 % 2 ≡ 1 = omega arith in
-      let q : j / 2 ≡ k = omega arith in
-      rw (r, q)
-
   pub forward-symmetric : Symmetric w (S.forwardStep ieee w s sc v)
   unfolding S.forwardStep
   forward-symmetric =
@@ -107,29 +74,29 @@ module _ (w : ℕ) (s : Step Float) (sc : Float) (v : List Float) (wide : 1 ≤ 
       (λ j b.
       let m = whole in
       dite (decLt (j % 2) 1)
-      (λ l. forward-odd (2 ^ w - 1 - j) (half - 1 - j / 2) (omega arith) ∙ odd-flips (j / 2) (omega arith) ∙ sym (forward-even j (j / 2) (omega arith)))
-      (λ l. forward-even (2 ^ w - 1 - j) (half - 1 - j / 2) (omega arith) ∙ even-flips (j / 2) (omega arith) ∙ sym (forward-odd j (j / 2) (omega arith))))
+      (λ l. E.forward-odd w s sc (S.at ieee v) (2 ^ w - 1 - j) (half - 1 - j / 2) (omega arith) ∙ odd-flips (j / 2) (omega arith) ∙ sym (E.forward-even w s sc (S.at ieee v) j (j / 2) (omega arith)))
+      (λ l. E.forward-even w s sc (S.at ieee v) (2 ^ w - 1 - j) (half - 1 - j / 2) (omega arith) ∙ even-flips (j / 2) (omega arith) ∙ sym (E.forward-odd w s sc (S.at ieee v) j (j / 2) (omega arith))))
 
-  -- the entries k and half + k of the backward step
+  -- the entries 2 k and 2 k + 1 times the tables
   abbrev up-part : ℕ → Float
-  up-part k = mul binary64 (S.at ieee v (2 * k)) (ups k)
+  up-part k = mul binary64 (S.at ieee v (2 * k)) (E.ups s sc k)
 
   abbrev down-part : ℕ → Float
-  down-part k = mul binary64 (S.at ieee v (2 * k + 1)) (downs k)
+  down-part k = mul binary64 (S.at ieee v (2 * k + 1)) (E.downs s sc k)
 
   abbrev lower : ℕ → Float
-  lower k = add binary64 (mul binary64 (S.ep ieee (s .left)) (up-part k)) (mul binary64 (S.em ieee (s .left)) (down-part k))
+  lower = E.lower w s sc (S.at ieee v)
 
   abbrev upper : ℕ → Float
-  upper k = add binary64 (mul binary64 (S.em ieee (s .left)) (up-part k)) (mul binary64 (S.ep ieee (s .left)) (down-part k))
+  upper = E.upper w s sc (S.at ieee v)
 
   up-part-flips : (k : ℕ) → k < half → up-part (half - 1 - k) ≡ down-part k
   up-part-flips k b =
-      rw (up-flips k b, entry-flips (2 * (half - 1 - k)) (2 * k + 1) (omega (arith, whole)) (omega (arith, whole)))
+      rw (up-flips (s .others) sc (w - 1) k low b, entry-flips (2 * (half - 1 - k)) (2 * k + 1) (omega (arith, whole)) (omega (arith, whole)))
 
   down-part-flips : (k : ℕ) → k < half → down-part (half - 1 - k) ≡ up-part k
   down-part-flips k b =
-      rw (down-flips k b, entry-flips (2 * (half - 1 - k) + 1) (2 * k) (omega (arith, whole)) (omega (arith, whole)))
+      rw (down-flips (s .others) sc (w - 1) k low b, entry-flips (2 * (half - 1 - k) + 1) (2 * k) (omega (arith, whole)) (omega (arith, whole)))
 
   upper-flips : (k : ℕ) → k < half → upper (half - 1 - k) ≡ lower k
   upper-flips k b =
@@ -139,19 +106,9 @@ module _ (w : ℕ) (s : Step Float) (sc : Float) (v : List Float) (wide : 1 ≤ 
         sum-commutes binary64 (mul binary64 (S.em ieee (s .left)) (down-part k)) (mul binary64 (S.ep ieee (s .left)) (up-part k)),
       )
 
-  lower-flips : (k : ℕ) → k < half → lower (half - 1 - k) ≡ upper k
+  -- so the lower half of the backward step reads the lower half of v alone
+  pub lower-flips : (k : ℕ) → k < half → lower (half - 1 - k) ≡ upper k
   lower-flips k b = let e : half - 1 - (half - 1 - k) ≡ k = omega arith in rw e at (sym (upper-flips (half - 1 - k) (omega arith)))
-
-  backward-low : (j : ℕ) → j < half → S.backwardAt ieee w s sc (S.at ieee v) j ≡ lower j
-  unfolding S.backwardAt
-  backward-low j b = rw (lt-ltb j half b, mod-eq-of-lt {n = j} {m = half} b)
-
-  backward-high : (j k : ℕ) → j ≡ half + k → k < half → S.backwardAt ieee w s sc (S.at ieee v) j ≡ upper k
-  unfolding S.backwardAt
-  backward-high j k h b =
-      let g : j ≡ 1 * half + k = omega arith in
-      let e : j % half ≡ k = rw g (Pow.low 1 (w - 1) b) in
-      rw (le-ltb j half (omega arith), e)
 
   pub backward-symmetric : Symmetric w (S.backwardStep ieee w s sc v)
   unfolding S.backwardStep
@@ -160,8 +117,8 @@ module _ (w : ℕ) (s : Step Float) (sc : Float) (v : List Float) (wide : 1 ≤ 
       (λ j b.
       let m = whole in
       dite (decLt j half)
-      (λ l. backward-high (2 ^ w - 1 - j) (half - 1 - j) (omega arith) (omega arith) ∙ upper-flips j l ∙ sym (backward-low j l))
+      (λ l. E.backward-high w s sc (S.at ieee v) (2 ^ w - 1 - j) (half - 1 - j) (omega arith) (omega arith) ∙ upper-flips j l ∙ sym (E.backward-low w s sc (S.at ieee v) j l))
       (λ l.
-      backward-low (2 ^ w - 1 - j) (omega arith)
+      E.backward-low w s sc (S.at ieee v) (2 ^ w - 1 - j) (omega arith)
       ∙ (let e : 2 ^ w - 1 - j ≡ half - 1 - (j - half) = omega arith in rw e (lower-flips (j - half) (omega arith)))
-      ∙ sym (backward-high j (j - half) (omega arith) (omega arith))))
+      ∙ sym (E.backward-high w s sc (S.at ieee v) j (j - half) (omega arith) (omega arith))))

@@ -1,0 +1,9 @@
+-- A vector by its lower half: the definitions, and the laws of the steps and the sums.
+pub mod Sign
+pub mod Alike
+pub mod Running
+pub mod Terms
+pub mod Half
+pub mod Even
+pub mod Odd
+pub mod Sums

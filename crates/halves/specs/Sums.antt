@@ -1,0 +1,81 @@
+-- Z and N of a pair by halves: the sums over a vector are sums over its half there and back, bit for bit.
+use mathlib.Core.Path.{_≡_, refl}
+use mathlib.Core.Bool.{Bool, true, false, not, Bool·beq}
+use mathlib.Core.List.{List}
+use Prim.Native.Nat.{ℕ, _*_, _-_, _^_, _≤_, _<_}
+use native.Mathlib.Omega.{arith}
+use lib.Dec.{T}
+use lib.Ieee.{Float, binary64, mul, fits}
+use lib.Ieee.Fits.{mul-fits}
+use Rattle.vector.specs.Bits.{bit}
+use Rattle.vector.specs.Power.{pow-double}
+use Rattle.transfer.specs.Arithmetic.{sum, signedSum}
+use Rattle.transfer.specs.Rounded.{ieee}
+use Rattle.transfer.specs.Sweep as S
+use Rattle.symmetry.specs.Flip.{bit-flips}
+use Rattle.halves.specs.Sign.{neg-first}
+use Rattle.halves.specs.Alike.{alike-is, alike-mul}
+use Rattle.halves.specs.Terms.{SameTerm, like, turned, signed-same, sum-same}
+use Rattle.halves.specs.Half.{thereAndBack, there, back, by-halves}
+use Rattle.halves.specs.Even.{Even, even-entry}
+use Rattle.halves.specs.Odd.{Odd}
+
+-- the products of two vectors' entries, and of two halves'
+abbrev pub products : List Float → List Float → ℕ → Float
+products v b j = mul binary64 (S.at ieee v j) (S.at ieee b j)
+
+abbrev pub halfProducts : (ℕ → Float) → (ℕ → Float) → ℕ → Float
+halfProducts h k j = mul binary64 (h j) (k j)
+
+-- whether bits 0 and d of an index differ
+abbrev pub differ : ℕ → ℕ → Bool
+differ d j = not (Bool·beq (bit 0 j) (bit d j))
+
+beq-not : (s t : Bool) → not (Bool·beq (not s) (not t)) ≡ not (Bool·beq s t)
+beq-not true true = refl
+beq-not true false = refl
+beq-not false true = refl
+beq-not false false = refl
+
+differ-flips : (w d j : ℕ) → d < w → j < 2 ^ w → differ d (2 ^ w - 1 - j) ≡ differ d j
+differ-flips w d j l b = rw (bit-flips w 0 j (omega arith) b, bit-flips w d j l b) (beq-not (bit 0 j) (bit d j))
+
+module _ (w : ℕ) (wide : 1 ≤ w) where
+  whole : 2 ^ w ≡ 2 * 2 ^ (w - 1)
+  whole = pow-double w wide
+
+  -- a sum whose terms at j and 2 ^ w - 1 - j are the half's at j
+  pub signed-halves : (m : ℕ → Bool) (f g : ℕ → Float) → ((j : ℕ) → T (fits binary64 (f j)))
+      → ((j : ℕ) → j < 2 ^ (w - 1) → SameTerm (m j) (f j) (m j) (g j))
+      → ((j : ℕ) → j < 2 ^ (w - 1) → SameTerm (m (2 ^ w - 1 - j)) (f (2 ^ w - 1 - j)) (m j) (g j))
+      → signedSum ieee (2 ^ w) m f ≡ signedSum ieee (2 ^ w) (thereAndBack w m) (thereAndBack w g)
+  signed-halves m f g p q r =
+      signed-same (2 ^ w) m (thereAndBack w m) f (thereAndBack w g) (λ j _. p j)
+      (by-halves w wide (λ j. SameTerm (m j) (f j) (thereAndBack w m j) (thereAndBack w g j))
+      (λ j b. rw (there w wide m j b, there w wide g j b) (q j b))
+      (λ j b. rw (back w wide m j b, back w wide g j b) (r j b)))
+
+  -- ---- the sums of the vector v, of the half h, and the backward vector b, of the half k
+
+  module _ (h k : ℕ → Float) (v b : List Float) (even : Even w k b) where
+    -- Z
+    pub Z-halves : Even w h v → sum ieee (2 ^ w) (products v b) ≡ sum ieee (2 ^ w) (thereAndBack w (halfProducts h k))
+    Z-halves e = sum-same (2 ^ w) (products v b) (thereAndBack w (halfProducts h k)) (λ j l. rw (even-entry wide e j l, even-entry wide even j l))
+
+    -- N of a direct pair: bits 0 and d differ at 2 ^ w - 1 - j where they do at j
+    pub direct-halves : Even w h v → (d : ℕ) → d < w
+        → signedSum ieee (2 ^ w) (differ d) (products v b) ≡ signedSum ieee (2 ^ w) (thereAndBack w (differ d)) (thereAndBack w (halfProducts h k))
+    direct-halves e d l =
+        signed-halves (differ d) (products v b) (halfProducts h k) (λ j. mul-fits binary64 (S.at ieee v j) (S.at ieee b j))
+        (λ j c. like (alike-mul binary64 (alike-is (e .low j c)) (alike-is (even .low j c))))
+        (λ j c. rw (differ-flips w d j l (omega (arith, whole))) (like (alike-mul binary64 (alike-is (e .high j c)) (alike-is (even .high j c)))))
+
+    -- N of a propagated pair: at 2 ^ w - 1 - j both the sign and the propagated entry turn
+    pub propagated-halves : Odd w h v
+        → signedSum ieee (2 ^ w) (bit 0) (products v b) ≡ signedSum ieee (2 ^ w) (thereAndBack w (bit 0)) (thereAndBack w (halfProducts h k))
+    propagated-halves o =
+        signed-halves (bit 0) (products v b) (halfProducts h k) (λ j. mul-fits binary64 (S.at ieee v j) (S.at ieee b j))
+        (λ j c. like (alike-mul binary64 (o .low j c) (alike-is (even .low j c))))
+        (λ j c.
+        let t = alike-mul binary64 (o .high j c) (alike-is (even .high j c)) in
+        rw (bit-flips w 0 j wide (omega (arith, whole))) (turned (rw (← neg-first binary64 (h j) (k j)) at t)))
