@@ -7,3 +7,4 @@ pub mod Half
 pub mod Even
 pub mod Odd
 pub mod Sums
+pub mod Largest
