@@ -1,5 +1,5 @@
 -- A call's answer and lists, from what its checks answered and what was found.
-use mathlib.Core.Path.{_≡_, refl, sym, ap, _∙_}
+use mathlib.Core.Path.{_≡_, refl, sym, ap, _∙_, subst}
 use mathlib.Core.Bool.{Bool, true, false, cond, not}
 use mathlib.Core.List.{List}
 use Prim.Native.Nat.{ℕ, zero, suc}
@@ -37,18 +37,19 @@ module _ (early lists number count : ℕ) (bad : Bool) (whole : number ≡ orEls
         go zero p = absurd (z (sym p))
         go (suc k) p = p
 
-    pub refused-lists : 0 ≡ early → r ≡ lists → Totalled number count squared fourthed end (Refused r) squares squares fourths fourths work work
-    refused-lists o e = refused-by (whole ∙ ap (λ (k : ℕ). orElse k (orElse lists (cond bad 14 0))) (sym o) ∙ go lists (sym e))
+    pub refused-lists : (k : ℕ) → k ≡ early → k ≡ 0 → r ≡ lists → Totalled number count squared fourthed end (Refused r) squares squares fourths fourths work work
+    refused-lists k u v e = refused-by (whole ∙ ap (λ (i : ℕ). orElse i (orElse lists (cond bad 14 0))) (sym u ∙ v) ∙ go lists (sym e))
       where
         go : (k : ℕ) → k ≡ r → orElse k (cond bad 14 0) ≡ r
         go zero p = absurd (z (sym p))
         go (suc k) p = p
 
   -- by none of these: what was found decides
-  module _ (o : 0 ≡ early) (e : 0 ≡ lists) (sums : ℕ) (squares′ fourths′ work′ : List Float) where
+  module _ (q : ℕ) (u : q ≡ early) (v : q ≡ 0) (d : ℕ) (e : d ≡ lists) (z : d ≡ 0) (sums : ℕ) (s : Bool) (squares′ fourths′ work′ : List Float)
+      (f : Finished bad squared fourthed sums end s squares′ fourths′ work work′) where
     found : (t : Bool) → bad ≡ t → number ≡ cond t 14 0
     found t p =
-        whole ∙ ap (λ (k : ℕ). orElse k (orElse lists (cond bad 14 0))) (sym o) ∙ ap (λ (k : ℕ). orElse k (cond bad 14 0)) (sym e)
+        whole ∙ ap (λ (k : ℕ). orElse k (orElse lists (cond bad 14 0))) (sym u ∙ v) ∙ ap (λ (k : ℕ). orElse k (cond bad 14 0)) (sym e ∙ z)
         ∙ ap (λ (x : Bool). cond x 14 0) p
 
     turned : (s u : Bool) → s ≡ not u → u ≡ not s
@@ -57,25 +58,32 @@ module _ (early lists number count : ℕ) (bad : Bool) (whole : number ≡ orEls
     turned false true p = refl
     turned false false p = p
 
-    pub all-added : Finished bad squared fourthed sums end true squares′ fourths′ work work′ → (k : ℕ) → k ≡ count
+    made : (t : Bool) → s ≡ t → Finished bad squared fourthed sums end t squares′ fourths′ work work′
+    made t y = subst (λ (x : Bool). Finished bad squared fourthed sums end x squares′ fourths′ work work′) y f
+
+    pub all-added : s ≡ true → (k : ℕ) → k ≡ count
         → Totalled number count squared fourthed end (Number k) squares squares′ fourths fourths′ work work′
     unfolding settled cleared
-    all-added g k c = rw (found false (turned true bad (g .squares-are .told))) (record {
-      answer = ap Number c;
-      squares-are = g .squares-are .values;
-      fourths-are = g .fourths-are .values;
-      memory = g .memory;
-    })
+    all-added y k c =
+        let g = made true y in
+        rw (found false (turned true bad (g .squares-are .told))) (record {
+          answer = ap Number c;
+          squares-are = g .squares-are .values;
+          fourths-are = g .fourths-are .values;
+          memory = g .memory;
+        })
 
-    pub refused-14 : length squares ≡ sums → length fourths ≡ sums → Finished bad squared fourthed sums end false squares′ fourths′ work work′
+    pub refused-14 : s ≡ false → length squares ≡ sums → length fourths ≡ sums
         → Totalled number count squared fourthed end (Refused 14) squares squares′ fourths fourths′ work work′
     unfolding settled cleared
-    refused-14 p q g = rw (found true (turned false bad (g .squares-are .told))) (record {
-      answer = refl;
-      squares-are = g .squares-are .values ∙ ap zeros (sym p);
-      fourths-are = g .fourths-are .values ∙ ap zeros (sym q);
-      memory = g .memory;
-    })
+    refused-14 y p q =
+        let g = made false y in
+        rw (found true (turned false bad (g .squares-are .told))) (record {
+          answer = refl;
+          squares-are = g .squares-are .values ∙ ap zeros (sym p);
+          fourths-are = g .fourths-are .values ∙ ap zeros (sym q);
+          memory = g .memory;
+        })
 
 -- a call with one list, from one that has it twice
 pub once : {number count : ℕ} {correlations : List Float} {end : ℕ} {r : Answer} {stored stored′ work work′ : List Float}

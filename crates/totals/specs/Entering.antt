@@ -1,5 +1,5 @@
 -- A call that its checks pass, from the fronts of the lists that its kept edges stand in.
-use mathlib.Core.Path.{_≡_, ap, _∙_, subst}
+use mathlib.Core.Path.{_≡_, sym, ap, _∙_, subst}
 use mathlib.Core.Bool.{Bool, false, not}
 use mathlib.Core.List.{List}
 use Prim.Native.Nat.{ℕ, _-_, _*_, _≤_, _<_}
@@ -13,6 +13,7 @@ use borrow.Author.Tests.{lt-ltb, ltb-false, eqb-true, not-false}
 use Rattle.vector.specs.Count.{count}
 use Rattle.vector.specs.Search.{or-false}
 use Rattle.forest.specs.Labels.{isTree}
+use Rattle.forest.specs.Paths as Paths
 use Rattle.transfer.specs.Job as Job
 use Rattle.transfer.specs.Room.{room}
 use Rattle.transfer.specs.Rounded.{ieee}
@@ -22,6 +23,7 @@ use Rattle.checks.specs.Request.{badFactorList, signedFactors, tooManyChunks}
 use Rattle.checks.specs.First.{unless}
 use Rattle.checks.specs.AcceptedJob.{accepted-factors, accepted-buffers, buffersRefusal}
 use Rattle.checks.specs.AcceptedTotals.{misfits, misfits-alone, enumerationLists, samplingLists, few-samples}
+use Rattle.plan.specs.Edges.{Edges}
 use Rattle.lattice.specs.Fronts.{front-early, front-late, early-part}
 use Rattle.lattice.specs.Graphs.{freeCount}
 use Rattle.refuse.specs.Checked.{ReadyJob}
@@ -32,6 +34,14 @@ use Rattle.totals.specs.Finished.{Passed, Finished}
 -- a sum for each beta and pair
 pub few-products : (betas pairs : ℕ) → betas ≤ 64 → pairs ≤ 256 → betas * pairs ≤ 16384
 few-products betas pairs b p = let h : betas * pairs ≤ 64 * pairs = mul-le-mul-right pairs b in omega arith
+
+-- the edges that a plan is of are edges that a forest spans
+pub joins : {early late : List ℕ} {n w : ℕ} → Edges early late n w → Paths.Edges n early late
+joins g = record {
+  paired = sym (g .matched);
+  early-below = λ e l. omega (arith, g .ordered e l, g .inside e l);
+  late-below = λ e l. g .inside e l;
+}
 
 -- both buffers are of the length that is wanted
 pub fits-both : (wanted squares fourths : ℕ) → misfits wanted squares fourths ≡ false → (squares ≡ wanted) × (fourths ≡ wanted)
@@ -69,16 +79,20 @@ module _ {n floor : ℕ} {a b : List ℕ} {m : List Float} {us vs : List ℕ} {k
 
   -- ---- of an enumeration
 
-  pub enumeration-lists : (betas : ℕ) (factors : List Float) (free free′ most : ℕ) (misfit : Bool) (work : ℕ) → free ≡ free′
-      → enumerationLists n w k us vs betas factors free most misfit work
-      ≡ enumerationLists n (windowFrom floor a b m) (length (kept a b m)) us vs betas factors free′ most misfit work
-  enumeration-lists betas factors free free′ most misfit work e = rw (g .window, g .written .edges, e)
+  -- the kept edges make a graph that a forest spans
+  pub joined : Paths.Edges n (take k early′) (take k late′)
+  joined = rw (front-early (g .written), front-late (g .written)) (joins (g .edges))
 
-  pub enumeration-passed : (betas : ℕ) (factors : List Float) (free most : ℕ) (misfit : Bool) (work : ℕ) → betas ≤ 64
-      → enumerationLists n w k us vs betas factors free most misfit work ≡ 0
+  pub enumeration-lists : (betas : ℕ) (factors : List Float) (free free′ most : ℕ) (misfit : Bool) (work r : ℕ) → free ≡ free′
+      → r ≡ enumerationLists n w k us vs betas factors free most misfit work
+      → r ≡ enumerationLists n (windowFrom floor a b m) (length (kept a b m)) us vs betas factors free′ most misfit work
+  enumeration-lists betas factors free free′ most misfit work r e h = rw (g .window, g .written .edges, e) at h
+
+  pub enumeration-passed : (betas : ℕ) (factors : List Float) (free most : ℕ) (misfit : Bool) (work r : ℕ) → betas ≤ 64
+      → r ≡ enumerationLists n w k us vs betas factors free most misfit work → r ≡ 0
       → Passed n w (take k early′) (take k late′) us vs (length factors) betas work × (misfit ≡ false) × (free ≤ most)
-  enumeration-passed betas factors free most misfit work few z =
-      let t9 = unless (ltb most free) {k = 9} (omega arith) z in
+  enumeration-passed betas factors free most misfit work r few h z =
+      let t9 = unless (ltb most free) {k = 9} (omega arith) (sym h ∙ z) in
       let t10 = unless (badFactorList factors (signedFactors betas k)) {k = 10} (omega arith) (t9 .1) in
       let p = passed-lists factors betas misfit work few (t10 .0) (t10 .1) in
       (p .0, p .1, ltb-false most free (t9 .0))
@@ -88,8 +102,12 @@ module _ {n floor : ℕ} {a b : List ℕ} {m : List Float} {us vs : List ℕ} {k
   unfolding freeCount
   free-is free e = e
 
-  pub free-fronts : freeCount (take k early′) (take k late′) ≡ freeCount (earlyEnds (kept a b m)) (lateEnds (kept a b m))
+  free-fronts : freeCount (take k early′) (take k late′) ≡ freeCount (earlyEnds (kept a b m)) (lateEnds (kept a b m))
   free-fronts = rw (front-early (g .written), front-late (g .written))
+
+  pub free-kept : (free : ℕ) → free ≡ count (λ e. not (isTree (take k early′) (take k late′) e)) (length (take k early′))
+      → free ≡ freeCount (earlyEnds (kept a b m)) (lateEnds (kept a b m))
+  free-kept free e = free-is free e ∙ free-fronts
 
   module _ (betas : ℕ) (lent : List Float) (sound : Bool) (squares fourths work work′ : List Float) where
     abbrev EnumerationDone : List ℕ → List ℕ → ℕ → Job.Manner → ℕ → Type 0
@@ -103,11 +121,11 @@ module _ {n floor : ℕ} {a b : List ℕ} {m : List Float} {us vs : List ℕ} {k
 
   -- ---- of an enumeration that stores each correlation
 
-  pub storing-lists : (betas : ℕ) (factors : List Float) (free free′ wanted wanted′ stored work : ℕ) → free ≡ free′ → (free ≤ 24 → wanted ≡ wanted′)
-      → enumerationLists n w k us vs betas factors free 24 (misfits wanted stored stored) work
-      ≡ enumerationLists n (windowFrom floor a b m) (length (kept a b m)) us vs betas factors free′ 24 (not (eqb stored wanted′)) work
-  storing-lists betas factors free free′ wanted wanted′ stored work e h =
-      go (decLt 24 free) ∙ enumeration-lists betas factors free free′ 24 (not (eqb stored wanted′)) work e
+  pub storing-lists : (betas : ℕ) (factors : List Float) (free free′ wanted wanted′ stored work r : ℕ) → free ≡ free′ → (free ≤ 24 → wanted ≡ wanted′)
+      → r ≡ enumerationLists n w k us vs betas factors free 24 (misfits wanted stored stored) work
+      → r ≡ enumerationLists n (windowFrom floor a b m) (length (kept a b m)) us vs betas factors free′ 24 (not (eqb stored wanted′)) work
+  storing-lists betas factors free free′ wanted wanted′ stored work r e h q =
+      enumeration-lists betas factors free free′ 24 (not (eqb stored wanted′)) work r e (q ∙ go (decLt 24 free))
     where
       go : Dec (24 < free) → enumerationLists n w k us vs betas factors free 24 (misfits wanted stored stored) work
           ≡ enumerationLists n w k us vs betas factors free 24 (not (eqb stored wanted′)) work
@@ -128,16 +146,16 @@ module _ {n floor : ℕ} {a b : List ℕ} {m : List Float} {us vs : List ℕ} {k
 
   -- ---- of a sampling
 
-  pub sampling-lists : (betas : ℕ) (factors : List Float) (from to samples : ℕ) (misfit : Bool) (work : ℕ)
-      → samplingLists n w k us vs betas factors from to samples misfit work
-      ≡ samplingLists n (windowFrom floor a b m) (length (kept a b m)) us vs betas factors from to samples misfit work
-  sampling-lists betas factors from to samples misfit work = rw (g .window, g .written .edges)
+  pub sampling-lists : (betas : ℕ) (factors : List Float) (from to samples : ℕ) (misfit : Bool) (work r : ℕ)
+      → r ≡ samplingLists n w k us vs betas factors from to samples misfit work
+      → r ≡ samplingLists n (windowFrom floor a b m) (length (kept a b m)) us vs betas factors from to samples misfit work
+  sampling-lists betas factors from to samples misfit work r h = rw (g .window, g .written .edges) at h
 
-  pub sampling-passed : (betas : ℕ) (factors : List Float) (from to samples : ℕ) (misfit : Bool) (work : ℕ) → betas ≤ 64
-      → samplingLists n w k us vs betas factors from to samples misfit work ≡ 0
+  pub sampling-passed : (betas : ℕ) (factors : List Float) (from to samples : ℕ) (misfit : Bool) (work r : ℕ) → betas ≤ 64
+      → r ≡ samplingLists n w k us vs betas factors from to samples misfit work → r ≡ 0
       → Passed n w (take k early′) (take k late′) us vs (length factors) betas work × (misfit ≡ false) × ((to - from) * samples ≤ 4294967296)
-  sampling-passed betas factors from to samples misfit work few z =
-      let t10 = unless (badFactorList factors (signedFactors betas k)) {k = 10} (omega arith) z in
+  sampling-passed betas factors from to samples misfit work r few h z =
+      let t10 = unless (badFactorList factors (signedFactors betas k)) {k = 10} (omega arith) (sym h ∙ z) in
       let t11 = unless (tooManyChunks from to samples) {k = 11} (omega arith) (t10 .1) in
       let p = passed-lists factors betas misfit work few (t10 .0) (t11 .1) in
       (p .0, p .1, few-samples from to samples (t11 .0))

@@ -88,25 +88,27 @@ module _ (n floor : ℕ) (a b : List ℕ) (m : List Float) (us vs : List ℕ) (b
   enumeration-refused-early r e z =
       record { call = refused-early Early ListsOfEnumeration _ _ badEnumeration enumeration-whole _ _ _ squares fourths work r z (early-not-14 n floor a b m us vs betas factors r e) e }
 
-  pub enumeration-refused-lists : (r : ℕ) → 0 ≡ Early → r ≡ ListsOfEnumeration → (r ≡ 0 → ⊥)
+  pub enumeration-refused-lists : (q : ℕ) → q ≡ Early → q ≡ 0 → (r : ℕ) → r ≡ ListsOfEnumeration → (r ≡ 0 → ⊥)
       → Enumerated n floor a b m us vs betas factors manner (Refused r) squares squares fourths fourths work work
-  enumeration-refused-lists r o e z =
+  enumeration-refused-lists q u v r e z =
       record {
         call = refused-lists Early ListsOfEnumeration _ _ badEnumeration enumeration-whole _ _ _ squares fourths work r z
-            (enumeration-not-14 n floor a b m us vs betas factors free mostCounted misfit (length work) r e) o e;
+            (enumeration-not-14 n floor a b m us vs betas factors free mostCounted misfit (length work) r e) q u v e;
       }
 
-  module _ (o : 0 ≡ Early) (e : 0 ≡ ListsOfEnumeration) (squares′ fourths′ work′ : List Float) where
-    pub enumeration-added : Finished badEnumeration (enumerationSums (square ieee)) (enumerationSums (fourth ieee)) sums end true squares′ fourths′ work work′
-        → (k : ℕ) → k ≡ enumeratedCount free → Enumerated n floor a b m us vs betas factors manner (Number k) squares squares′ fourths fourths′ work work′
-    enumeration-added g k c =
-        record { call = all-added Early ListsOfEnumeration _ _ badEnumeration enumeration-whole _ _ _ squares fourths work o e sums squares′ fourths′ work′ g k c }
+  module _ (q : ℕ) (u : q ≡ Early) (v : q ≡ 0) (d : ℕ) (e : d ≡ ListsOfEnumeration) (z : d ≡ 0) (s : Bool) (squares′ fourths′ work′ : List Float)
+      (g : Finished badEnumeration (enumerationSums (square ieee)) (enumerationSums (fourth ieee)) sums end s squares′ fourths′ work work′) where
+    pub enumeration-added : s ≡ true → (k : ℕ) → k ≡ enumeratedCount free → Enumerated n floor a b m us vs betas factors manner (Number k) squares squares′ fourths fourths′ work work′
+    enumeration-added y k c =
+        record {
+          call = all-added Early ListsOfEnumeration _ _ badEnumeration enumeration-whole _ _ _ squares fourths work q u v d e z sums s squares′ fourths′ work′ g y k c;
+        }
 
-    pub enumeration-refused-14 : length squares ≡ sums → length fourths ≡ sums
-        → Finished badEnumeration (enumerationSums (square ieee)) (enumerationSums (fourth ieee)) sums end false squares′ fourths′ work work′
-        → Enumerated n floor a b m us vs betas factors manner (Refused 14) squares squares′ fourths fourths′ work work′
-    enumeration-refused-14 p q g =
-        record { call = refused-14 Early ListsOfEnumeration _ _ badEnumeration enumeration-whole _ _ _ squares fourths work o e sums squares′ fourths′ work′ p q g }
+    pub enumeration-refused-14 : s ≡ false → length squares ≡ sums → length fourths ≡ sums → Enumerated n floor a b m us vs betas factors manner (Refused 14) squares squares′ fourths fourths′ work work′
+    enumeration-refused-14 y p t =
+        record {
+          call = refused-14 Early ListsOfEnumeration _ _ badEnumeration enumeration-whole _ _ _ squares fourths work q u v d e z sums s squares′ fourths′ work′ g y p t;
+        }
 
   -- ---- of `sample`
 
@@ -129,26 +131,27 @@ module _ (n floor : ℕ) (a b : List ℕ) (m : List Float) (us vs : List ℕ) (b
     sampling-refused-early r e z =
         record { call = refused-early Early ListsOfSampling _ _ badSampling sampling-whole _ _ _ squares fourths work r z (early-not-14 n floor a b m us vs betas factors r e) e }
 
-    pub sampling-refused-lists : (r : ℕ) → 0 ≡ Early → r ≡ ListsOfSampling → (r ≡ 0 → ⊥)
+    pub sampling-refused-lists : (q : ℕ) → q ≡ Early → q ≡ 0 → (r : ℕ) → r ≡ ListsOfSampling → (r ≡ 0 → ⊥)
         → Sampled n floor a b m us vs betas factors manner seed from to samples (Refused r) squares squares fourths fourths work work
-    sampling-refused-lists r o e z =
+    sampling-refused-lists q u v r e z =
         record {
           call = refused-lists Early ListsOfSampling _ _ badSampling sampling-whole _ _ _ squares fourths work r z
-              (sampling-not-14 n floor a b m us vs betas factors from to samples misfit (length work) r e) o e;
+              (sampling-not-14 n floor a b m us vs betas factors from to samples misfit (length work) r e) q u v e;
         }
 
-    module _ (o : 0 ≡ Early) (e : 0 ≡ ListsOfSampling) (squares′ fourths′ work′ : List Float) where
-      pub sampling-added : Finished badSampling (samplingSums (square ieee)) (samplingSums (fourth ieee)) sums end true squares′ fourths′ work work′
-          → (k : ℕ) → k ≡ sampledCount from to samples
-          → Sampled n floor a b m us vs betas factors manner seed from to samples (Number k) squares squares′ fourths fourths′ work work′
-      sampling-added g k c =
-          record { call = all-added Early ListsOfSampling _ _ badSampling sampling-whole _ _ _ squares fourths work o e sums squares′ fourths′ work′ g k c }
+    module _ (q : ℕ) (u : q ≡ Early) (v : q ≡ 0) (d : ℕ) (e : d ≡ ListsOfSampling) (z : d ≡ 0) (s : Bool) (squares′ fourths′ work′ : List Float)
+        (g : Finished badSampling (samplingSums (square ieee)) (samplingSums (fourth ieee)) sums end s squares′ fourths′ work work′) where
+      pub sampling-added : s ≡ true → (k : ℕ) → k ≡ sampledCount from to samples → Sampled n floor a b m us vs betas factors manner seed from to samples (Number k) squares squares′ fourths fourths′ work work′
+      sampling-added y k c =
+          record {
+            call = all-added Early ListsOfSampling _ _ badSampling sampling-whole _ _ _ squares fourths work q u v d e z sums s squares′ fourths′ work′ g y k c;
+          }
 
-      pub sampling-refused-14 : length squares ≡ sums → length fourths ≡ sums
-          → Finished badSampling (samplingSums (square ieee)) (samplingSums (fourth ieee)) sums end false squares′ fourths′ work work′
-          → Sampled n floor a b m us vs betas factors manner seed from to samples (Refused 14) squares squares′ fourths fourths′ work work′
-      sampling-refused-14 p q g =
-          record { call = refused-14 Early ListsOfSampling _ _ badSampling sampling-whole _ _ _ squares fourths work o e sums squares′ fourths′ work′ p q g }
+      pub sampling-refused-14 : s ≡ false → length squares ≡ sums → length fourths ≡ sums → Sampled n floor a b m us vs betas factors manner seed from to samples (Refused 14) squares squares′ fourths fourths′ work work′
+      sampling-refused-14 y p t =
+          record {
+            call = refused-14 Early ListsOfSampling _ _ badSampling sampling-whole _ _ _ squares fourths work q u v d e z sums s squares′ fourths′ work′ g y p t;
+          }
 
 -- ---- of `exhaustive_c`
 
@@ -189,23 +192,25 @@ module _ (n floor : ℕ) (a b : List ℕ) (m : List Float) (us vs : List ℕ) (b
             (early-not-14 n floor a b m us vs betas factors r e) e);
       }
 
-  pub storing-refused-lists : (r : ℕ) → 0 ≡ First → r ≡ ListsOfStoring → (r ≡ 0 → ⊥)
+  pub storing-refused-lists : (q : ℕ) → q ≡ First → q ≡ 0 → (r : ℕ) → r ≡ ListsOfStoring → (r ≡ 0 → ⊥)
       → EnumeratedEach n floor a b m us vs betas factors manner (Refused r) stored stored work work
-  storing-refused-lists r o e z =
+  storing-refused-lists q u v r e z =
       record {
         call = once (refused-lists First ListsOfStoring _ _ badStoring storing-whole _ _ _ stored stored work r z
-            (enumeration-not-14 n floor a b m us vs betas factors (freeCount keptEarly keptLate) mostStored (not (eqb (length stored) wanted)) (length work) r e) o e);
+            (enumeration-not-14 n floor a b m us vs betas factors (freeCount keptEarly keptLate) mostStored (not (eqb (length stored) wanted)) (length work) r e) q u v e);
       }
 
-  module _ (o : 0 ≡ First) (e : 0 ≡ ListsOfStoring) (sums : ℕ) (stored′ work′ : List Float) where
-    pub all-stored : Finished badStoring correlations correlations sums (room n (windowFrom floor a b m) (length (kept a b m)) us vs) true stored′ stored′ work work′
-        → (k : ℕ) → k ≡ enumeratedCount (freeCount keptEarly keptLate)
+  module _ (q : ℕ) (u : q ≡ First) (v : q ≡ 0) (d : ℕ) (e : d ≡ ListsOfStoring) (z : d ≡ 0) (sums : ℕ) (s : Bool) (stored′ work′ : List Float)
+      (g : Finished badStoring correlations correlations sums (room n (windowFrom floor a b m) (length (kept a b m)) us vs) s stored′ stored′ work work′) where
+    pub all-stored : s ≡ true → (k : ℕ) → k ≡ enumeratedCount (freeCount keptEarly keptLate)
         → EnumeratedEach n floor a b m us vs betas factors manner (Number k) stored stored′ work work′
-    all-stored g k c =
-        record { call = once (all-added First ListsOfStoring _ _ badStoring storing-whole _ _ _ stored stored work o e sums stored′ stored′ work′ g k c) }
+    all-stored y k c =
+        record {
+          call = once (all-added First ListsOfStoring _ _ badStoring storing-whole _ _ _ stored stored work q u v d e z sums s stored′ stored′ work′ g y k c);
+        }
 
-    pub storing-refused-14 : length stored ≡ sums
-        → Finished badStoring correlations correlations sums (room n (windowFrom floor a b m) (length (kept a b m)) us vs) false stored′ stored′ work work′
-        → EnumeratedEach n floor a b m us vs betas factors manner (Refused 14) stored stored′ work work′
-    storing-refused-14 p g =
-        record { call = once (refused-14 First ListsOfStoring _ _ badStoring storing-whole _ _ _ stored stored work o e sums stored′ stored′ work′ p p g) }
+    pub storing-refused-14 : s ≡ false → length stored ≡ sums → EnumeratedEach n floor a b m us vs betas factors manner (Refused 14) stored stored′ work work′
+    storing-refused-14 y p =
+        record {
+          call = once (refused-14 First ListsOfStoring _ _ badStoring storing-whole _ _ _ stored stored work q u v d e z sums s stored′ stored′ work′ g y p p);
+        }

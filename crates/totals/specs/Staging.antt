@@ -12,13 +12,11 @@ use lib.Seq.{length-take-le}
 use Rattle.vector.specs.Search.{some}
 use Rattle.vector.specs.Tabulate.{tabulate}
 use Rattle.forest.specs.Labels.{isTree}
-use Rattle.forest.specs.Paths as Paths
 use Rattle.transfer.specs.Room.{room}
 use Rattle.transfer.specs.Job.{Job}
 use Rattle.transfer.specs.Rounded.{ieee}
 use Rattle.transfer.specs.Totals.{enumerated}
 use Rattle.lattice.specs.Graphs.{freeCount}
-use Rattle.plan.specs.Edges.{Edges}
 use Rattle.plan.specs.Layout.{Holds}
 use Rattle.places.specs.Order.{Ordered}
 use Rattle.places.specs.Work.{Planned}
@@ -31,14 +29,6 @@ use Rattle.glass.specs.Correlations.{zeros}
 use Rattle.totals.specs.Finished.{Passed, Finished, Told}
 use Rattle.totals.specs.Entering.{few-products}
 use Rattle.totals.specs.Signing.{marks-long, marks-free}
-
--- the edges that a plan is of are edges that a forest spans
-pub joins : {early late : List ℕ} {n w : ℕ} → Edges early late n w → Paths.Edges n early late
-joins g = record {
-  paired = sym (g .matched);
-  early-below = λ e l. omega (arith, g .ordered e l, g .inside e l);
-  late-below = λ e l. g .inside e l;
-}
 
 module _ {n w : ℕ} {early late us vs : List ℕ} {lent betas work : ℕ} (p : Passed n w early late us vs lent betas work) where
   pub lent-of : (m : ℕ) → m ≡ length early → Lent lent m betas

@@ -1,13 +1,15 @@
-use mathlib.Core.Path.{_≡_, sym, ap, _∙_}
+use mathlib.Core.Path.{ap, _∙_}
+use mathlib.Core.Bool.{cond}
 use Prim.Native.Nat.{ℕ, _*_, _^_}
 use native.Mathlib.Omega.{arith}
 use lib.ListN.{length}
-use Rattle.checks.specs.Request.{jobRequest}
-use Rattle.checks.specs.Refusal.{refusal, ofRoom}
+use Rattle.transfer.specs.Job.{block, perElement}
+use Rattle.checks.specs.Edges.{kept, earlyEnds, lateEnds}
 use Rattle.checks.specs.AcceptedTotals.{misfits}
-use Rattle.lattice.specs.Fronts.{front-early, front-late, early-part, late-part, early-fits, late-fits}
-use Rattle.totals.specs.Entering.{few-products, fits-both, enumeration-lists, enumeration-passed, free-is, free-fronts, enumeration-done}
-use Rattle.totals.specs.Staging.{joins}
+use Rattle.lattice.specs.Fronts.{early-part, late-part, early-fits, late-fits}
+use Rattle.lattice.specs.Graphs.{freeCount}
+use Rattle.glass.specs.Correlations.{mannerOf}
+use Rattle.totals.specs.Entering.{few-products, fits-both, joined, enumeration-lists, enumeration-passed, free-is, free-kept, enumeration-done}
 use Rattle.totals.specs.Refusing.{enumeration-refused-early, enumeration-refused-lists, enumeration-added, enumeration-refused-14}
 use borrow.Author.Needs.{needs}
 use Rattle.exhaustive.proofs.entry.exhaustive.Statement.{statement}
@@ -39,7 +41,10 @@ check-with-betas-requires c κs = search needs
 
 -- src/entry.rt:54:9
 returns : tie.Need-returns
-returns c = enumeration-refused-early _ _ _ _ _ _ _ _ _ _ _ _ _ _ (c .before .before .before .before .check-with-betas .ensures .refusal) (λ z. omega arith)
+returns c =
+    let a = c .before .before .before .before .before .before .before .before .before .before .before .before .before .before .before .before .before .before .args in
+    let k = c .before .before .before .before .check-with-betas in
+    enumeration-refused-early (a .n) (a .floor) (a .a .now) (a .b .now) (a .m .now) (a .us .now) (a .vs .now) (a .betas .now) (a .factors .now) (a .manner) (a .squares .now) (a .fourths .now) (a .work .now) (k .result .refusal) (k .ensures .refusal) (c .if1 .taken)
 
 -- src/entry.rt:58:30
 array-share-prefix-early : tie.Need-array-share-prefix-early
@@ -59,7 +64,7 @@ slice-aggregate-cyclomatic-2 c = late-part (c .before .before .before .before .b
 
 -- src/entry.rt:58:9
 cyclomatic-requires : tie.Need-cyclomatic-requires
-cyclomatic-requires c κs = let g = c .before .before .before .before .before .before .check-with-betas .ensures .ready (c .before .before .if1 .left) in (rw (front-early (g .written), front-late (g .written)) (joins (g .edges)), g .edges .few)
+cyclomatic-requires c κs = let g = c .before .before .before .before .before .before .check-with-betas .ensures .ready (c .before .before .if1 .left) in (joined g, g .edges .few)
 
 -- src/entry.rt:69:9
 mul-check-enumeration : tie.Need-mul-check-enumeration
@@ -78,11 +83,13 @@ check-enumeration-requires c κs =
 returns-2 : tie.Need-returns-2
 returns-2 c =
     let a = c .before .before .before .before .before .before .before .before .before .before .before .before .before .before .before .before .before .before .before .before .before .before .before .args in
-    let j = c .before .before .before .before .before .before .before .before .before .check-with-betas .ensures in
-    let g = j .ready (c .before .before .before .before .before .if1 .left) in
-    let free = free-is g _ (c .before .before .cyclomatic .ensures .1) ∙ free-fronts g in
-    enumeration-refused-lists _ _ _ _ _ _ _ (a .betas .now) (a .factors .now) _ (a .squares .now) (a .fourths .now) (a .work .now) _ (omega (arith, j .refusal))
-    (c .before .check-enumeration .ensures ∙ enumeration-lists g (length (a .betas .now)) (a .factors .now) (c .before .before .cyclomatic .result) _ 34 (misfits (length (a .betas .now) * length (a .us .now)) (length (a .squares .now)) (length (a .fourths .now))) (length (a .work .now)) free) (λ z. omega arith)
+    let k = c .before .before .before .before .before .before .before .before .before .check-with-betas in
+    let v = c .before .before .before .before .before .if1 .left in
+    let g = k .ensures .ready v in
+    let f = c .before .before .cyclomatic in
+    let h = c .before .check-enumeration in
+    let free = free-kept g (f .result) (f .ensures .1) in
+    enumeration-refused-lists (a .n) (a .floor) (a .a .now) (a .b .now) (a .m .now) (a .us .now) (a .vs .now) (a .betas .now) (a .factors .now) (a .manner) (a .squares .now) (a .fourths .now) (a .work .now) (k .result .refusal) (k .ensures .refusal) v (h .result) (enumeration-lists g (length (a .betas .now)) (a .factors .now) (f .result) (freeCount (earlyEnds (kept (a .a .now) (a .b .now) (a .m .now))) (lateEnds (kept (a .a .now) (a .b .now) (a .m .now)))) 34 (misfits (length (a .betas .now) * length (a .us .now)) (length (a .squares .now)) (length (a .fourths .now))) (length (a .work .now)) (h .result) free (h .ensures)) (c .if2 .taken)
 
 -- src/entry.rt:77:9
 is-each-requires : tie.Need-is-each-requires
@@ -108,88 +115,86 @@ slice-aggregate-enumerate-job-2 c = late-part (c .before .before .before .before
 enumerate-job-requires : tie.Need-enumerate-job-requires
 enumerate-job-requires c κs =
     let a = c .before .before .before .before .before .before .before .before .before .before .before .before .before .before .before .before .before .before .before .before .before .before .before .before .before .before .before .before .before .args in
-    let j = c .before .before .before .before .before .before .before .before .before .before .before .before .before .before .before .check-with-betas .ensures in
-    let g = j .ready (c .before .before .before .before .before .before .before .before .before .before .before .if1 .left) in
-    let few = j .betas-pass (c .before .before .before .before .before .before .before .before .before .before .before .if1 .left) .few in
-    let h = c .before .before .before .before .before .before .before .before .cyclomatic .ensures .1 in
-    let none : c .before .before .before .before .before .before .before .check-enumeration .result ≡ 0 = c .before .before .before .before .before .before .if2 .left in
-    let z = sym (c .before .before .before .before .before .before .before .check-enumeration .ensures) ∙ none in
-    let p = enumeration-passed g (length (a .betas .now)) (a .factors .now) (c .before .before .before .before .before .before .before .before .cyclomatic .result) 34 (misfits (length (a .betas .now) * length (a .us .now)) (length (a .squares .now)) (length (a .fourths .now))) (length (a .work .now)) few z in
-    let f = fits-both (length (a .betas .now) * length (a .us .now)) (length (a .squares .now)) (length (a .fourths .now)) (p .1) in
-    (p .0, free-is g _ h, p .2, f .0, f .1)
+    let k = c .before .before .before .before .before .before .before .before .before .before .before .before .before .before .before .check-with-betas in
+    let v = c .before .before .before .before .before .before .before .before .before .before .before .if1 .left in
+    let g = k .ensures .ready v in
+    let f = c .before .before .before .before .before .before .before .before .cyclomatic in
+    let h = c .before .before .before .before .before .before .before .check-enumeration in
+    let z = c .before .before .before .before .before .before .if2 .left in
+    let p = enumeration-passed g (length (a .betas .now)) (a .factors .now) (f .result) 34 (misfits (length (a .betas .now) * length (a .us .now)) (length (a .squares .now)) (length (a .fourths .now))) (length (a .work .now)) (h .result) (k .ensures .betas-pass v .few) (h .ensures) z in
+    let q = fits-both (length (a .betas .now) * length (a .us .now)) (length (a .squares .now)) (length (a .fourths .now)) (p .1) in
+    (p .0, free-is g (f .result) (f .ensures .1), p .2, q .0, q .1)
 
 -- src/entry.rt:93:31
 pow2-requires : tie.Need-pow2-requires
 pow2-requires c κs =
     let a = c .before .before .before .before .before .before .before .before .before .before .before .before .before .before .before .before .before .before .before .before .before .before .before .before .before .before .before .before .before .before .before .before .before .before .before .before .before .args in
-    let j = c .before .before .before .before .before .before .before .before .before .before .before .before .before .before .before .before .before .before .before .before .before .before .before .check-with-betas .ensures in
-    let g = j .ready (c .before .before .before .before .before .before .before .before .before .before .before .before .before .before .before .before .before .before .before .if1 .left) in
-    let few = j .betas-pass (c .before .before .before .before .before .before .before .before .before .before .before .before .before .before .before .before .before .before .before .if1 .left) .few in
-    let h = c .before .before .before .before .before .before .before .before .before .before .before .before .before .before .before .before .cyclomatic .ensures .1 in
-    let none : c .before .before .before .before .before .before .before .before .before .before .before .before .before .before .before .check-enumeration .result ≡ 0 = c .before .before .before .before .before .before .before .before .before .before .before .before .before .before .if2 .left in
-    let z = sym (c .before .before .before .before .before .before .before .before .before .before .before .before .before .before .before .check-enumeration .ensures) ∙ none in
-    let p = enumeration-passed g (length (a .betas .now)) (a .factors .now) (c .before .before .before .before .before .before .before .before .before .before .before .before .before .before .before .before .cyclomatic .result) 34 (misfits (length (a .betas .now) * length (a .us .now)) (length (a .squares .now)) (length (a .fourths .now))) (length (a .work .now)) few z in
+    let k = c .before .before .before .before .before .before .before .before .before .before .before .before .before .before .before .before .before .before .before .before .before .before .before .check-with-betas in
+    let v = c .before .before .before .before .before .before .before .before .before .before .before .before .before .before .before .before .before .before .before .if1 .left in
+    let g = k .ensures .ready v in
+    let f = c .before .before .before .before .before .before .before .before .before .before .before .before .before .before .before .before .cyclomatic in
+    let h = c .before .before .before .before .before .before .before .before .before .before .before .before .before .before .before .check-enumeration in
+    let z = c .before .before .before .before .before .before .before .before .before .before .before .before .before .before .if2 .left in
+    let p = enumeration-passed g (length (a .betas .now)) (a .factors .now) (f .result) 34 (misfits (length (a .betas .now) * length (a .us .now)) (length (a .squares .now)) (length (a .fourths .now))) (length (a .work .now)) (h .result) (k .ensures .betas-pass v .few) (h .ensures) z in
     omega (arith, p .2)
 
 -- src/entry.rt:93:9
 same-length : tie.Need-same-length
-same-length c = search needs
+same-length c = c .before .before .before .before .before .before .before .before .enumerate-job .kept .1 .1 .1 .1 .1 .1 .1 .1 .1 .1 .0
 
 -- src/entry.rt:93:9
 same-length-2 : tie.Need-same-length-2
-same-length-2 c = search needs
+same-length-2 c = c .before .before .before .before .before .before .before .before .enumerate-job .kept .1 .1 .1 .1 .1 .1 .1 .1 .1 .1 .1 .0
 
 -- src/entry.rt:93:9
 same-length-3 : tie.Need-same-length-3
-same-length-3 c = search needs
+same-length-3 c = c .before .before .before .before .before .before .before .before .enumerate-job .kept .1 .1 .1 .1 .1 .1 .1 .1 .1 .1 .1 .1 .0
 
 -- src/entry.rt:93:9
 returns-3 : tie.Need-returns-3
 returns-3 c =
     let a = c .before .before .before .before .before .before .before .before .before .before .before .before .before .before .before .before .before .before .before .before .before .before .before .before .before .before .before .before .before .before .before .before .before .before .before .before .before .before .args in
-    let j = c .before .before .before .before .before .before .before .before .before .before .before .before .before .before .before .before .before .before .before .before .before .before .before .before .check-with-betas .ensures in
-    let g = j .ready (c .before .before .before .before .before .before .before .before .before .before .before .before .before .before .before .before .before .before .before .before .if1 .left) in
-    let few = j .betas-pass (c .before .before .before .before .before .before .before .before .before .before .before .before .before .before .before .before .before .before .before .before .if1 .left) .few in
-    let h = c .before .before .before .before .before .before .before .before .before .before .before .before .before .before .before .before .before .cyclomatic .ensures .1 in
-    let none : c .before .before .before .before .before .before .before .before .before .before .before .before .before .before .before .before .check-enumeration .result ≡ 0 = c .before .before .before .before .before .before .before .before .before .before .before .before .before .before .before .if2 .left in
-    let z = sym (c .before .before .before .before .before .before .before .before .before .before .before .before .before .before .before .before .check-enumeration .ensures) ∙ none in
-    let p = enumeration-passed g (length (a .betas .now)) (a .factors .now) (c .before .before .before .before .before .before .before .before .before .before .before .before .before .before .before .before .before .cyclomatic .result) 34 (misfits (length (a .betas .now) * length (a .us .now)) (length (a .squares .now)) (length (a .fourths .now))) (length (a .work .now)) few z in
-    let f = fits-both (length (a .betas .now) * length (a .us .now)) (length (a .squares .now)) (length (a .fourths .now)) (p .1) in
-    let free = free-is g _ h ∙ free-fronts g in
-    let l = sym z ∙ enumeration-lists g (length (a .betas .now)) (a .factors .now) (c .before .before .before .before .before .before .before .before .before .before .before .before .before .before .before .before .before .cyclomatic .result) _ 34 (misfits (length (a .betas .now) * length (a .us .now)) (length (a .squares .now)) (length (a .fourths .now))) (length (a .work .now)) free in
-    let o : 0 ≡ refusal ofRoom (jobRequest (a .n) (a .floor) (a .a .now) (a .b .now) (a .m .now) (a .us .now) (a .vs .now) (a .betas .now)) = omega (arith, j .refusal, c .before .before .before .before .before .before .before .before .before .before .before .before .before .before .before .before .before .before .before .before .if1 .left) in
-    let d = enumeration-done g _ (a .factors .now) _ _ _ _ _ _ _ (c .before .before .before .before .before .before .before .before .before .before .before .before .before .before .is-each .ensures) (c .before .before .before .before .before .before .before .before .enumerate-job .ensures) in
-    enumeration-added _ _ _ _ _ _ _ (a .betas .now) (a .factors .now) (a .manner) (a .squares .now) (a .fourths .now) (a .work .now) o l _ _ _ (rw (c .before .if3 .taken) at d) _ (c .pow2 .ensures ∙ ap (λ (k : ℕ). 2 ^ k) free)
+    let k = c .before .before .before .before .before .before .before .before .before .before .before .before .before .before .before .before .before .before .before .before .before .before .before .before .check-with-betas in
+    let v = c .before .before .before .before .before .before .before .before .before .before .before .before .before .before .before .before .before .before .before .before .if1 .left in
+    let g = k .ensures .ready v in
+    let f = c .before .before .before .before .before .before .before .before .before .before .before .before .before .before .before .before .before .cyclomatic in
+    let h = c .before .before .before .before .before .before .before .before .before .before .before .before .before .before .before .before .check-enumeration in
+    let free = free-kept g (f .result) (f .ensures .1) in
+    let z = c .before .before .before .before .before .before .before .before .before .before .before .before .before .before .before .if2 .left in
+    let t = c .before .before .before .before .before .before .before .before .enumerate-job in
+    let m = c .before .before .before .before .before .before .before .before .before .before .before .before .before .before .is-each in
+    let d = enumeration-done g (length (a .betas .now)) (a .factors .now) (t .result) (t .last .1 .1 .1 .1 .1 .1 .1 .1 .1 .1 .0) (t .last .1 .1 .1 .1 .1 .1 .1 .1 .1 .1 .1 .0) (a .work .now) (t .last .1 .1 .1 .1 .1 .1 .1 .1 .1 .1 .1 .1 .0) (cond (m .result) perElement block) (mannerOf (a .manner)) (m .ensures) (t .ensures) in
+    enumeration-added (a .n) (a .floor) (a .a .now) (a .b .now) (a .m .now) (a .us .now) (a .vs .now) (a .betas .now) (a .factors .now) (a .manner) (a .squares .now) (a .fourths .now) (a .work .now) (k .result .refusal) (k .ensures .refusal) v (h .result) (enumeration-lists g (length (a .betas .now)) (a .factors .now) (f .result) (freeCount (earlyEnds (kept (a .a .now) (a .b .now) (a .m .now))) (lateEnds (kept (a .a .now) (a .b .now) (a .m .now)))) 34 (misfits (length (a .betas .now) * length (a .us .now)) (length (a .squares .now)) (length (a .fourths .now))) (length (a .work .now)) (h .result) free (h .ensures)) z (t .result) (t .last .1 .1 .1 .1 .1 .1 .1 .1 .1 .1 .0) (t .last .1 .1 .1 .1 .1 .1 .1 .1 .1 .1 .1 .0) (t .last .1 .1 .1 .1 .1 .1 .1 .1 .1 .1 .1 .1 .0) d (c .before .if3 .taken) (c .pow2 .result) (c .pow2 .ensures ∙ ap (λ (i : ℕ). 2 ^ i) free)
 
 -- src/entry.rt:17:1
 same-length-4 : tie.Need-same-length-4
-same-length-4 c = search needs
+same-length-4 c = c .before .before .before .before .before .before .before .enumerate-job .kept .1 .1 .1 .1 .1 .1 .1 .1 .1 .1 .0
 
 -- src/entry.rt:17:1
 same-length-5 : tie.Need-same-length-5
-same-length-5 c = search needs
+same-length-5 c = c .before .before .before .before .before .before .before .enumerate-job .kept .1 .1 .1 .1 .1 .1 .1 .1 .1 .1 .1 .0
 
 -- src/entry.rt:17:1
 same-length-6 : tie.Need-same-length-6
-same-length-6 c = search needs
+same-length-6 c = c .before .before .before .before .before .before .before .enumerate-job .kept .1 .1 .1 .1 .1 .1 .1 .1 .1 .1 .1 .1 .0
 
 -- src/entry.rt:17:1
 returns-4 : tie.Need-returns-4
 returns-4 c =
     let a = c .before .before .before .before .before .before .before .before .before .before .before .before .before .before .before .before .before .before .before .before .before .before .before .before .before .before .before .before .before .before .before .before .before .before .before .before .before .args in
-    let j = c .before .before .before .before .before .before .before .before .before .before .before .before .before .before .before .before .before .before .before .before .before .before .before .check-with-betas .ensures in
-    let g = j .ready (c .before .before .before .before .before .before .before .before .before .before .before .before .before .before .before .before .before .before .before .if1 .left) in
-    let few = j .betas-pass (c .before .before .before .before .before .before .before .before .before .before .before .before .before .before .before .before .before .before .before .if1 .left) .few in
-    let h = c .before .before .before .before .before .before .before .before .before .before .before .before .before .before .before .before .cyclomatic .ensures .1 in
-    let none : c .before .before .before .before .before .before .before .before .before .before .before .before .before .before .before .check-enumeration .result ≡ 0 = c .before .before .before .before .before .before .before .before .before .before .before .before .before .before .if2 .left in
-    let z = sym (c .before .before .before .before .before .before .before .before .before .before .before .before .before .before .before .check-enumeration .ensures) ∙ none in
-    let p = enumeration-passed g (length (a .betas .now)) (a .factors .now) (c .before .before .before .before .before .before .before .before .before .before .before .before .before .before .before .before .cyclomatic .result) 34 (misfits (length (a .betas .now) * length (a .us .now)) (length (a .squares .now)) (length (a .fourths .now))) (length (a .work .now)) few z in
-    let f = fits-both (length (a .betas .now) * length (a .us .now)) (length (a .squares .now)) (length (a .fourths .now)) (p .1) in
-    let free = free-is g _ h ∙ free-fronts g in
-    let l = sym z ∙ enumeration-lists g (length (a .betas .now)) (a .factors .now) (c .before .before .before .before .before .before .before .before .before .before .before .before .before .before .before .before .cyclomatic .result) _ 34 (misfits (length (a .betas .now) * length (a .us .now)) (length (a .squares .now)) (length (a .fourths .now))) (length (a .work .now)) free in
-    let o : 0 ≡ refusal ofRoom (jobRequest (a .n) (a .floor) (a .a .now) (a .b .now) (a .m .now) (a .us .now) (a .vs .now) (a .betas .now)) = omega (arith, j .refusal, c .before .before .before .before .before .before .before .before .before .before .before .before .before .before .before .before .before .before .before .if1 .left) in
-    let d = enumeration-done g _ (a .factors .now) _ _ _ _ _ _ _ (c .before .before .before .before .before .before .before .before .before .before .before .before .before .is-each .ensures) (c .before .before .before .before .before .before .before .enumerate-job .ensures) in
-    enumeration-refused-14 _ _ _ _ _ _ _ (a .betas .now) (a .factors .now) (a .manner) (a .squares .now) (a .fourths .now) (a .work .now) o l _ _ _ (f .0) (f .1) (rw (c .if3 .left) at d)
+    let k = c .before .before .before .before .before .before .before .before .before .before .before .before .before .before .before .before .before .before .before .before .before .before .before .check-with-betas in
+    let v = c .before .before .before .before .before .before .before .before .before .before .before .before .before .before .before .before .before .before .before .if1 .left in
+    let g = k .ensures .ready v in
+    let f = c .before .before .before .before .before .before .before .before .before .before .before .before .before .before .before .before .cyclomatic in
+    let h = c .before .before .before .before .before .before .before .before .before .before .before .before .before .before .before .check-enumeration in
+    let free = free-kept g (f .result) (f .ensures .1) in
+    let z = c .before .before .before .before .before .before .before .before .before .before .before .before .before .before .if2 .left in
+    let p = enumeration-passed g (length (a .betas .now)) (a .factors .now) (f .result) 34 (misfits (length (a .betas .now) * length (a .us .now)) (length (a .squares .now)) (length (a .fourths .now))) (length (a .work .now)) (h .result) (k .ensures .betas-pass v .few) (h .ensures) z in
+    let q = fits-both (length (a .betas .now) * length (a .us .now)) (length (a .squares .now)) (length (a .fourths .now)) (p .1) in
+    let t = c .before .before .before .before .before .before .before .enumerate-job in
+    let m = c .before .before .before .before .before .before .before .before .before .before .before .before .before .is-each in
+    let d = enumeration-done g (length (a .betas .now)) (a .factors .now) (t .result) (t .last .1 .1 .1 .1 .1 .1 .1 .1 .1 .1 .0) (t .last .1 .1 .1 .1 .1 .1 .1 .1 .1 .1 .1 .0) (a .work .now) (t .last .1 .1 .1 .1 .1 .1 .1 .1 .1 .1 .1 .1 .0) (cond (m .result) perElement block) (mannerOf (a .manner)) (m .ensures) (t .ensures) in
+    enumeration-refused-14 (a .n) (a .floor) (a .a .now) (a .b .now) (a .m .now) (a .us .now) (a .vs .now) (a .betas .now) (a .factors .now) (a .manner) (a .squares .now) (a .fourths .now) (a .work .now) (k .result .refusal) (k .ensures .refusal) v (h .result) (enumeration-lists g (length (a .betas .now)) (a .factors .now) (f .result) (freeCount (earlyEnds (kept (a .a .now) (a .b .now) (a .m .now))) (lateEnds (kept (a .a .now) (a .b .now) (a .m .now)))) 34 (misfits (length (a .betas .now) * length (a .us .now)) (length (a .squares .now)) (length (a .fourths .now))) (length (a .work .now)) (h .result) free (h .ensures)) z (t .result) (t .last .1 .1 .1 .1 .1 .1 .1 .1 .1 .1 .0) (t .last .1 .1 .1 .1 .1 .1 .1 .1 .1 .1 .1 .0) (t .last .1 .1 .1 .1 .1 .1 .1 .1 .1 .1 .1 .1 .0) d (c .if3 .left) (q .0) (q .1)
 
 pub exhaustive-spec : {M : Type 1} → statement M
 exhaustive-spec =

@@ -13,7 +13,8 @@ use Rattle.lattice.specs.Graphs.{freeCount}
 use Rattle.glass.specs.Correlations.{zeros}
 use Rattle.totals.specs.Jobs.{jobEnumerated, unsoundEnumeration, enumeratedTotals}
 use Rattle.totals.specs.Signing.{marks-long, enumerated-plan}
-use Rattle.totals.specs.Staging.{joins, lent-of, staged, finished, enumerates, told-sums}
+use Rattle.totals.specs.Entering.{joins}
+use Rattle.totals.specs.Staging.{lent-of, staged, finished, enumerates, told-sums}
 use borrow.Author.Needs.{needs}
 use Rattle.exhaustive.proofs.job.plan_and_enumerate.Statement.{statement}
 use Rattle.exhaustive.proofs.job.plan_and_enumerate.Tie as tie
@@ -28,7 +29,7 @@ use Rattle.totals.proofs.clear_unsound.Reads as clear-unsound-reads
 
 -- src/job.rt:60:9
 make-plan-requires : tie.Need-make-plan-requires
-make-plan-requires c κs = search needs
+make-plan-requires c κs = let p = c .before .before .before .before .before .before .before .before .before .before .before .before .before .before .before .before .pre in (p .0 .job .edges, p .0 .job .few-edges, p .0 .job .pairs, p .3, p .0 .job .few-near)
 
 -- src/job.rt:61:5
 order-pairs-requires : tie.Need-order-pairs-requires
@@ -96,27 +97,27 @@ same-length-3 c = c .before .before .before .before .before .before .before .bef
 
 -- src/job.rt:27:1
 same-length-4 : tie.Need-same-length-4
-same-length-4 c = search needs
+same-length-4 c = c .before .before .before .before .before .before .before .before .before .before .before .before .before .before .before .before .before .before .before .before .before .before .before .before .before .enumerated-totals .kept .1 .1 .1 .1 .1 .1 .1 .1 .1 .1 .1 .1 .0
 
 -- src/job.rt:27:1
 same-length-5 : tie.Need-same-length-5
-same-length-5 c = search needs
+same-length-5 c = c .before .before .before .before .before .before .before .before .before .before .before .before .before .before .before .before .before .before .before .before .before .before .before .before .before .enumerated-totals .kept .1 .1 .1 .1 .1 .1 .1 .1 .1 .1 .1 .1 .1 .1 .0
 
 -- src/job.rt:27:1
 same-length-6 : tie.Need-same-length-6
-same-length-6 c = search needs
+same-length-6 c = c .before .before .before .before .before .before .before .before .before .before .before .before .before .before .before .before .before .before .before .before .before .before .before .before .before .enumerated-totals .kept .1 .1 .1 .1 .1 .1 .1 .1 .1 .1 .1 .1 .1 .1 .1 .0
 
 -- src/job.rt:27:1
 same-length-7 : tie.Need-same-length-7
-same-length-7 c = search needs
+same-length-7 c = c .before .before .before .before .before .before .before .before .before .before .before .before .before .before .before .before .before .before .before .before .before .before .before .before .before .enumerated-totals .kept .1 .1 .1 .1 .1 .1 .1 .1 .1 .1 .1 .1 .1 .1 .1 .1 .0
 
 -- src/job.rt:27:1
 same-length-8 : tie.Need-same-length-8
-same-length-8 c = search needs
+same-length-8 c = c .before .before .before .before .before .before .clear-unsound .kept .1 .0 ∙ c .before .before .before .before .before .before .before .before .before .before .before .before .before .before .before .before .before .before .before .before .before .before .before .before .before .enumerated-totals .kept .1 .1 .1 .1 .1 .1 .1 .1 .1 .1 .1 .1 .1 .1 .1 .1 .1 .0
 
 -- src/job.rt:27:1
 same-length-9 : tie.Need-same-length-9
-same-length-9 c = search needs
+same-length-9 c = c .before .before .clear-unsound2 .kept .1 .0 ∙ c .before .before .before .before .before .before .before .before .before .before .before .before .before .before .before .before .before .before .before .before .before .before .before .before .before .enumerated-totals .kept .1 .1 .1 .1 .1 .1 .1 .1 .1 .1 .1 .1 .1 .1 .1 .1 .1 .1 .0
 
 -- src/job.rt:27:1
 same-length-10 : tie.Need-same-length-10

@@ -1,11 +1,11 @@
-use mathlib.Core.Path.{_≡_, sym, _∙_}
+use mathlib.Core.Bool.{cond}
 use Prim.Native.Nat.{_*_}
 use native.Mathlib.Omega.{arith}
 use lib.ListN.{length}
-use Rattle.checks.specs.Request.{jobRequest}
-use Rattle.checks.specs.Refusal.{refusal, ofRoom}
+use Rattle.transfer.specs.Job.{block, perElement}
 use Rattle.checks.specs.AcceptedTotals.{misfits}
 use Rattle.lattice.specs.Fronts.{early-part, late-part, early-fits, late-fits}
+use Rattle.glass.specs.Correlations.{mannerOf}
 use Rattle.totals.specs.Entering.{few-products, fits-both, sampling-lists, sampling-passed, sampling-done}
 use Rattle.totals.specs.Refusing.{sampling-refused-early, sampling-refused-lists, sampling-added, sampling-refused-14}
 use borrow.Author.Needs.{needs}
@@ -37,7 +37,10 @@ check-with-betas-requires c κs = search needs
 
 -- src/entry.rt:68:9
 returns : tie.Need-returns
-returns c = sampling-refused-early _ _ _ _ _ _ _ _ _ _ _ _ _ _ _ _ _ _ (c .before .before .before .before .check-with-betas .ensures .refusal) (λ z. omega arith)
+returns c =
+    let a = c .before .before .before .before .before .before .before .before .before .before .before .before .before .before .before .before .before .before .args in
+    let k = c .before .before .before .before .check-with-betas in
+    sampling-refused-early (a .n) (a .floor) (a .a .now) (a .b .now) (a .m .now) (a .us .now) (a .vs .now) (a .betas .now) (a .factors .now) (a .manner) (a .squares .now) (a .fourths .now) (a .work .now) (a .seed) (a .from) (a .to) (a .samples) (k .result .refusal) (k .ensures .refusal) (c .if1 .taken)
 
 -- src/entry.rt:83:9
 mul-check-sampling : tie.Need-mul-check-sampling
@@ -56,10 +59,11 @@ check-sampling-requires c κs =
 returns-2 : tie.Need-returns-2
 returns-2 c =
     let a = c .before .before .before .before .before .before .before .before .before .before .before .before .before .before .before .before .before .before .before .before .args in
-    let j = c .before .before .before .before .before .before .check-with-betas .ensures in
-    let g = j .ready (c .before .before .if1 .left) in
-    sampling-refused-lists _ _ _ _ _ _ _ (a .betas .now) (a .factors .now) _ (a .squares .now) (a .fourths .now) (a .work .now) _ _ _ _ _ (omega (arith, j .refusal))
-    (c .before .check-sampling .ensures ∙ sampling-lists g (length (a .betas .now)) (a .factors .now) (a .from) (a .to) (a .samples) (misfits (length (a .betas .now) * length (a .us .now)) (length (a .squares .now)) (length (a .fourths .now))) (length (a .work .now))) (λ z. omega arith)
+    let k = c .before .before .before .before .before .before .check-with-betas in
+    let v = c .before .before .if1 .left in
+    let g = k .ensures .ready v in
+    let h = c .before .check-sampling in
+    sampling-refused-lists (a .n) (a .floor) (a .a .now) (a .b .now) (a .m .now) (a .us .now) (a .vs .now) (a .betas .now) (a .factors .now) (a .manner) (a .squares .now) (a .fourths .now) (a .work .now) (a .seed) (a .from) (a .to) (a .samples) (k .result .refusal) (k .ensures .refusal) v (h .result) (sampling-lists g (length (a .betas .now)) (a .factors .now) (a .from) (a .to) (a .samples) (misfits (length (a .betas .now) * length (a .us .now)) (length (a .squares .now)) (length (a .fourths .now))) (length (a .work .now)) (h .result) (h .ensures)) (c .if2 .taken)
 
 -- src/entry.rt:91:9
 is-each-requires : tie.Need-is-each-requires
@@ -85,82 +89,80 @@ slice-aggregate-sample-job-2 c = late-part (c .before .before .before .before .b
 sample-job-requires : tie.Need-sample-job-requires
 sample-job-requires c κs =
     let a = c .before .before .before .before .before .before .before .before .before .before .before .before .before .before .before .before .before .before .before .before .before .before .before .before .before .before .args in
-    let j = c .before .before .before .before .before .before .before .before .before .before .before .before .check-with-betas .ensures in
-    let g = j .ready (c .before .before .before .before .before .before .before .before .if1 .left) in
-    let few = j .betas-pass (c .before .before .before .before .before .before .before .before .if1 .left) .few in
-    let none : c .before .before .before .before .before .before .before .check-sampling .result ≡ 0 = c .before .before .before .before .before .before .if2 .left in
-    let z = sym (c .before .before .before .before .before .before .before .check-sampling .ensures) ∙ none in
-    let p = sampling-passed g (length (a .betas .now)) (a .factors .now) (a .from) (a .to) (a .samples) (misfits (length (a .betas .now) * length (a .us .now)) (length (a .squares .now)) (length (a .fourths .now))) (length (a .work .now)) few z in
-    let f = fits-both (length (a .betas .now) * length (a .us .now)) (length (a .squares .now)) (length (a .fourths .now)) (p .1) in
-    (p .0, f .0, f .1)
+    let k = c .before .before .before .before .before .before .before .before .before .before .before .before .check-with-betas in
+    let v = c .before .before .before .before .before .before .before .before .if1 .left in
+    let g = k .ensures .ready v in
+    let h = c .before .before .before .before .before .before .before .check-sampling in
+    let z = c .before .before .before .before .before .before .if2 .left in
+    let p = sampling-passed g (length (a .betas .now)) (a .factors .now) (a .from) (a .to) (a .samples) (misfits (length (a .betas .now) * length (a .us .now)) (length (a .squares .now)) (length (a .fourths .now))) (length (a .work .now)) (h .result) (k .ensures .betas-pass v .few) (h .ensures) z in
+    let q = fits-both (length (a .betas .now) * length (a .us .now)) (length (a .squares .now)) (length (a .fourths .now)) (p .1) in
+    (p .0, q .0, q .1)
 
 -- src/entry.rt:110:31
 sampled-count-requires : tie.Need-sampled-count-requires
 sampled-count-requires c κs =
     let a = c .before .before .before .before .before .before .before .before .before .before .before .before .before .before .before .before .before .before .before .before .before .before .before .before .before .before .before .before .before .before .before .before .before .before .args in
-    let j = c .before .before .before .before .before .before .before .before .before .before .before .before .before .before .before .before .before .before .before .before .check-with-betas .ensures in
-    let g = j .ready (c .before .before .before .before .before .before .before .before .before .before .before .before .before .before .before .before .if1 .left) in
-    let few = j .betas-pass (c .before .before .before .before .before .before .before .before .before .before .before .before .before .before .before .before .if1 .left) .few in
-    let none : c .before .before .before .before .before .before .before .before .before .before .before .before .before .before .before .check-sampling .result ≡ 0 = c .before .before .before .before .before .before .before .before .before .before .before .before .before .before .if2 .left in
-    let z = sym (c .before .before .before .before .before .before .before .before .before .before .before .before .before .before .before .check-sampling .ensures) ∙ none in
-    let p = sampling-passed g (length (a .betas .now)) (a .factors .now) (a .from) (a .to) (a .samples) (misfits (length (a .betas .now) * length (a .us .now)) (length (a .squares .now)) (length (a .fourths .now))) (length (a .work .now)) few z in
+    let k = c .before .before .before .before .before .before .before .before .before .before .before .before .before .before .before .before .before .before .before .before .check-with-betas in
+    let v = c .before .before .before .before .before .before .before .before .before .before .before .before .before .before .before .before .if1 .left in
+    let g = k .ensures .ready v in
+    let h = c .before .before .before .before .before .before .before .before .before .before .before .before .before .before .before .check-sampling in
+    let z = c .before .before .before .before .before .before .before .before .before .before .before .before .before .before .if2 .left in
+    let p = sampling-passed g (length (a .betas .now)) (a .factors .now) (a .from) (a .to) (a .samples) (misfits (length (a .betas .now) * length (a .us .now)) (length (a .squares .now)) (length (a .fourths .now))) (length (a .work .now)) (h .result) (k .ensures .betas-pass v .few) (h .ensures) z in
     p .2
 
 -- src/entry.rt:110:9
 same-length : tie.Need-same-length
-same-length c = search needs
+same-length c = c .before .before .before .before .before .before .before .before .sample-job .kept .1 .1 .1 .1 .1 .1 .1 .1 .1 .1 .1 .1 .1 .0
 
 -- src/entry.rt:110:9
 same-length-2 : tie.Need-same-length-2
-same-length-2 c = search needs
+same-length-2 c = c .before .before .before .before .before .before .before .before .sample-job .kept .1 .1 .1 .1 .1 .1 .1 .1 .1 .1 .1 .1 .1 .1 .0
 
 -- src/entry.rt:110:9
 same-length-3 : tie.Need-same-length-3
-same-length-3 c = search needs
+same-length-3 c = c .before .before .before .before .before .before .before .before .sample-job .kept .1 .1 .1 .1 .1 .1 .1 .1 .1 .1 .1 .1 .1 .1 .1 .0
 
 -- src/entry.rt:110:9
 returns-3 : tie.Need-returns-3
 returns-3 c =
     let a = c .before .before .before .before .before .before .before .before .before .before .before .before .before .before .before .before .before .before .before .before .before .before .before .before .before .before .before .before .before .before .before .before .before .before .before .args in
-    let j = c .before .before .before .before .before .before .before .before .before .before .before .before .before .before .before .before .before .before .before .before .before .check-with-betas .ensures in
-    let g = j .ready (c .before .before .before .before .before .before .before .before .before .before .before .before .before .before .before .before .before .if1 .left) in
-    let few = j .betas-pass (c .before .before .before .before .before .before .before .before .before .before .before .before .before .before .before .before .before .if1 .left) .few in
-    let none : c .before .before .before .before .before .before .before .before .before .before .before .before .before .before .before .before .check-sampling .result ≡ 0 = c .before .before .before .before .before .before .before .before .before .before .before .before .before .before .before .if2 .left in
-    let z = sym (c .before .before .before .before .before .before .before .before .before .before .before .before .before .before .before .before .check-sampling .ensures) ∙ none in
-    let p = sampling-passed g (length (a .betas .now)) (a .factors .now) (a .from) (a .to) (a .samples) (misfits (length (a .betas .now) * length (a .us .now)) (length (a .squares .now)) (length (a .fourths .now))) (length (a .work .now)) few z in
-    let f = fits-both (length (a .betas .now) * length (a .us .now)) (length (a .squares .now)) (length (a .fourths .now)) (p .1) in
-    let l = sym z ∙ sampling-lists g (length (a .betas .now)) (a .factors .now) (a .from) (a .to) (a .samples) (misfits (length (a .betas .now) * length (a .us .now)) (length (a .squares .now)) (length (a .fourths .now))) (length (a .work .now)) in
-    let o : 0 ≡ refusal ofRoom (jobRequest (a .n) (a .floor) (a .a .now) (a .b .now) (a .m .now) (a .us .now) (a .vs .now) (a .betas .now)) = omega (arith, j .refusal, c .before .before .before .before .before .before .before .before .before .before .before .before .before .before .before .before .before .if1 .left) in
-    let d = sampling-done g _ (a .factors .now) _ _ _ _ _ _ _ _ _ _ _ (c .before .before .before .before .before .before .before .before .before .before .before .before .before .before .is-each .ensures) (c .before .before .before .before .before .before .before .before .sample-job .ensures) in
-    sampling-added _ _ _ _ _ _ _ (a .betas .now) (a .factors .now) (a .manner) (a .squares .now) (a .fourths .now) (a .work .now) _ _ _ _ o l _ _ _ (rw (c .before .if3 .taken) at d) _ (c .sampled-count .ensures)
+    let k = c .before .before .before .before .before .before .before .before .before .before .before .before .before .before .before .before .before .before .before .before .before .check-with-betas in
+    let v = c .before .before .before .before .before .before .before .before .before .before .before .before .before .before .before .before .before .if1 .left in
+    let g = k .ensures .ready v in
+    let h = c .before .before .before .before .before .before .before .before .before .before .before .before .before .before .before .before .check-sampling in
+    let z = c .before .before .before .before .before .before .before .before .before .before .before .before .before .before .before .if2 .left in
+    let t = c .before .before .before .before .before .before .before .before .sample-job in
+    let m = c .before .before .before .before .before .before .before .before .before .before .before .before .before .before .is-each in
+    let d = sampling-done g (length (a .betas .now)) (a .factors .now) (a .seed) (a .from) (a .to) (a .samples) (t .result) (t .last .1 .1 .1 .1 .1 .1 .1 .1 .1 .1 .1 .1 .1 .0) (t .last .1 .1 .1 .1 .1 .1 .1 .1 .1 .1 .1 .1 .1 .1 .0) (a .work .now) (t .last .1 .1 .1 .1 .1 .1 .1 .1 .1 .1 .1 .1 .1 .1 .1 .0) (cond (m .result) perElement block) (mannerOf (a .manner)) (m .ensures) (t .ensures) in
+    sampling-added (a .n) (a .floor) (a .a .now) (a .b .now) (a .m .now) (a .us .now) (a .vs .now) (a .betas .now) (a .factors .now) (a .manner) (a .squares .now) (a .fourths .now) (a .work .now) (a .seed) (a .from) (a .to) (a .samples) (k .result .refusal) (k .ensures .refusal) v (h .result) (sampling-lists g (length (a .betas .now)) (a .factors .now) (a .from) (a .to) (a .samples) (misfits (length (a .betas .now) * length (a .us .now)) (length (a .squares .now)) (length (a .fourths .now))) (length (a .work .now)) (h .result) (h .ensures)) z (t .result) (t .last .1 .1 .1 .1 .1 .1 .1 .1 .1 .1 .1 .1 .1 .0) (t .last .1 .1 .1 .1 .1 .1 .1 .1 .1 .1 .1 .1 .1 .1 .0) (t .last .1 .1 .1 .1 .1 .1 .1 .1 .1 .1 .1 .1 .1 .1 .1 .0) d (c .before .if3 .taken) (c .sampled-count .result) (c .sampled-count .ensures)
 
 -- src/entry.rt:27:1
 same-length-4 : tie.Need-same-length-4
-same-length-4 c = search needs
+same-length-4 c = c .before .before .before .before .before .before .before .sample-job .kept .1 .1 .1 .1 .1 .1 .1 .1 .1 .1 .1 .1 .1 .0
 
 -- src/entry.rt:27:1
 same-length-5 : tie.Need-same-length-5
-same-length-5 c = search needs
+same-length-5 c = c .before .before .before .before .before .before .before .sample-job .kept .1 .1 .1 .1 .1 .1 .1 .1 .1 .1 .1 .1 .1 .1 .0
 
 -- src/entry.rt:27:1
 same-length-6 : tie.Need-same-length-6
-same-length-6 c = search needs
+same-length-6 c = c .before .before .before .before .before .before .before .sample-job .kept .1 .1 .1 .1 .1 .1 .1 .1 .1 .1 .1 .1 .1 .1 .1 .0
 
 -- src/entry.rt:27:1
 returns-4 : tie.Need-returns-4
 returns-4 c =
     let a = c .before .before .before .before .before .before .before .before .before .before .before .before .before .before .before .before .before .before .before .before .before .before .before .before .before .before .before .before .before .before .before .before .before .before .args in
-    let j = c .before .before .before .before .before .before .before .before .before .before .before .before .before .before .before .before .before .before .before .before .check-with-betas .ensures in
-    let g = j .ready (c .before .before .before .before .before .before .before .before .before .before .before .before .before .before .before .before .if1 .left) in
-    let few = j .betas-pass (c .before .before .before .before .before .before .before .before .before .before .before .before .before .before .before .before .if1 .left) .few in
-    let none : c .before .before .before .before .before .before .before .before .before .before .before .before .before .before .before .check-sampling .result ≡ 0 = c .before .before .before .before .before .before .before .before .before .before .before .before .before .before .if2 .left in
-    let z = sym (c .before .before .before .before .before .before .before .before .before .before .before .before .before .before .before .check-sampling .ensures) ∙ none in
-    let p = sampling-passed g (length (a .betas .now)) (a .factors .now) (a .from) (a .to) (a .samples) (misfits (length (a .betas .now) * length (a .us .now)) (length (a .squares .now)) (length (a .fourths .now))) (length (a .work .now)) few z in
-    let f = fits-both (length (a .betas .now) * length (a .us .now)) (length (a .squares .now)) (length (a .fourths .now)) (p .1) in
-    let l = sym z ∙ sampling-lists g (length (a .betas .now)) (a .factors .now) (a .from) (a .to) (a .samples) (misfits (length (a .betas .now) * length (a .us .now)) (length (a .squares .now)) (length (a .fourths .now))) (length (a .work .now)) in
-    let o : 0 ≡ refusal ofRoom (jobRequest (a .n) (a .floor) (a .a .now) (a .b .now) (a .m .now) (a .us .now) (a .vs .now) (a .betas .now)) = omega (arith, j .refusal, c .before .before .before .before .before .before .before .before .before .before .before .before .before .before .before .before .if1 .left) in
-    let d = sampling-done g _ (a .factors .now) _ _ _ _ _ _ _ _ _ _ _ (c .before .before .before .before .before .before .before .before .before .before .before .before .before .is-each .ensures) (c .before .before .before .before .before .before .before .sample-job .ensures) in
-    sampling-refused-14 _ _ _ _ _ _ _ (a .betas .now) (a .factors .now) (a .manner) (a .squares .now) (a .fourths .now) (a .work .now) _ _ _ _ o l _ _ _ (f .0) (f .1) (rw (c .if3 .left) at d)
+    let k = c .before .before .before .before .before .before .before .before .before .before .before .before .before .before .before .before .before .before .before .before .check-with-betas in
+    let v = c .before .before .before .before .before .before .before .before .before .before .before .before .before .before .before .before .if1 .left in
+    let g = k .ensures .ready v in
+    let h = c .before .before .before .before .before .before .before .before .before .before .before .before .before .before .before .check-sampling in
+    let z = c .before .before .before .before .before .before .before .before .before .before .before .before .before .before .if2 .left in
+    let p = sampling-passed g (length (a .betas .now)) (a .factors .now) (a .from) (a .to) (a .samples) (misfits (length (a .betas .now) * length (a .us .now)) (length (a .squares .now)) (length (a .fourths .now))) (length (a .work .now)) (h .result) (k .ensures .betas-pass v .few) (h .ensures) z in
+    let q = fits-both (length (a .betas .now) * length (a .us .now)) (length (a .squares .now)) (length (a .fourths .now)) (p .1) in
+    let t = c .before .before .before .before .before .before .before .sample-job in
+    let m = c .before .before .before .before .before .before .before .before .before .before .before .before .before .is-each in
+    let d = sampling-done g (length (a .betas .now)) (a .factors .now) (a .seed) (a .from) (a .to) (a .samples) (t .result) (t .last .1 .1 .1 .1 .1 .1 .1 .1 .1 .1 .1 .1 .1 .0) (t .last .1 .1 .1 .1 .1 .1 .1 .1 .1 .1 .1 .1 .1 .1 .0) (a .work .now) (t .last .1 .1 .1 .1 .1 .1 .1 .1 .1 .1 .1 .1 .1 .1 .1 .0) (cond (m .result) perElement block) (mannerOf (a .manner)) (m .ensures) (t .ensures) in
+    sampling-refused-14 (a .n) (a .floor) (a .a .now) (a .b .now) (a .m .now) (a .us .now) (a .vs .now) (a .betas .now) (a .factors .now) (a .manner) (a .squares .now) (a .fourths .now) (a .work .now) (a .seed) (a .from) (a .to) (a .samples) (k .result .refusal) (k .ensures .refusal) v (h .result) (sampling-lists g (length (a .betas .now)) (a .factors .now) (a .from) (a .to) (a .samples) (misfits (length (a .betas .now) * length (a .us .now)) (length (a .squares .now)) (length (a .fourths .now))) (length (a .work .now)) (h .result) (h .ensures)) z (t .result) (t .last .1 .1 .1 .1 .1 .1 .1 .1 .1 .1 .1 .1 .1 .0) (t .last .1 .1 .1 .1 .1 .1 .1 .1 .1 .1 .1 .1 .1 .1 .0) (t .last .1 .1 .1 .1 .1 .1 .1 .1 .1 .1 .1 .1 .1 .1 .1 .0) d (c .if3 .left) (q .0) (q .1)
 
 pub sample-spec : {M : Type 1} → statement M
 sample-spec =

@@ -1,15 +1,15 @@
-use mathlib.Core.Path.{_≡_, sym, ap, _∙_}
+use mathlib.Core.Path.{_≡_, ap, _∙_}
+use mathlib.Core.Bool.{cond}
 use Prim.Native.Nat.{ℕ, _*_, _^_, _≤_}
 use native.Mathlib.Omega.{arith}
 use lib.ListN.{length}
+use Rattle.transfer.specs.Job.{block, perElement}
 use Rattle.checks.specs.Edges.{kept, earlyEnds, lateEnds}
-use Rattle.checks.specs.Request.{jobRequest}
-use Rattle.checks.specs.Refusal.{refusal, ofRoom}
 use Rattle.checks.specs.AcceptedTotals.{misfits}
-use Rattle.lattice.specs.Fronts.{front-early, front-late, early-part, late-part, early-fits, late-fits}
+use Rattle.lattice.specs.Fronts.{early-part, late-part, early-fits, late-fits}
 use Rattle.lattice.specs.Graphs.{freeCount}
-use Rattle.totals.specs.Entering.{few-products, fits-both, enumeration-passed, storing-lists, free-is, free-fronts, storing-done}
-use Rattle.totals.specs.Staging.{joins}
+use Rattle.glass.specs.Correlations.{mannerOf}
+use Rattle.totals.specs.Entering.{few-products, fits-both, joined, enumeration-passed, storing-lists, free-is, free-kept, storing-done}
 use Rattle.totals.specs.Refusing.{storing-refused-early, storing-refused-lists, all-stored, storing-refused-14}
 use borrow.Author.Needs.{needs}
 use Rattle.storing.proofs.entry.exhaustive_c.Statement.{statement}
@@ -42,7 +42,10 @@ check-with-betas-requires c κs = search needs
 
 -- src/entry.rt:65:9
 returns : tie.Need-returns
-returns c = storing-refused-early _ _ _ _ _ _ _ _ _ _ _ _ _ (c .before .before .before .before .check-with-betas .ensures .refusal) (λ z. omega arith)
+returns c =
+    let a = c .before .before .before .before .before .before .before .before .before .before .before .before .before .before .before .before .before .args in
+    let k = c .before .before .before .before .check-with-betas in
+    storing-refused-early (a .n) (a .floor) (a .a .now) (a .b .now) (a .m .now) (a .us .now) (a .vs .now) (a .betas .now) (a .factors .now) (a .manner) (a .stored .now) (a .work .now) (k .result .refusal) (k .ensures .refusal) (c .if1 .taken)
 
 -- src/entry.rt:69:30
 array-share-prefix-early : tie.Need-array-share-prefix-early
@@ -62,7 +65,7 @@ slice-aggregate-cyclomatic-2 c = late-part (c .before .before .before .before .b
 
 -- src/entry.rt:69:9
 cyclomatic-requires : tie.Need-cyclomatic-requires
-cyclomatic-requires c κs = let g = c .before .before .before .before .before .before .check-with-betas .ensures .ready (c .before .before .if1 .left) in (rw (front-early (g .written), front-late (g .written)) (joins (g .edges)), g .edges .few)
+cyclomatic-requires c κs = let g = c .before .before .before .before .before .before .check-with-betas .ensures .ready (c .before .before .if1 .left) in (joined g, g .edges .few)
 
 -- src/entry.rt:80:22
 mul-stored-count : tie.Need-mul-stored-count
@@ -85,16 +88,15 @@ check-enumeration-requires c κs =
 returns-2 : tie.Need-returns-2
 returns-2 c =
     let a = c .before .before .before .before .before .before .before .before .before .before .before .before .before .before .before .before .before .before .before .before .before .before .before .args in
-    let j = c .before .before .before .before .before .before .before .before .before .before .check-with-betas .ensures in
-    let g = j .ready (c .before .before .before .before .before .before .if1 .left) in
-    let h = c .before .before .before .cyclomatic .ensures .1 in
+    let k = c .before .before .before .before .before .before .before .before .before .before .check-with-betas in
+    let v = c .before .before .before .before .before .before .if1 .left in
+    let g = k .ensures .ready v in
+    let f = c .before .before .before .cyclomatic in
     let w = c .before .before .stored-count in
-    let size = length (a .stored .now) in
-    let free = free-is g _ h ∙ free-fronts g in
-    let same : c .before .before .before .cyclomatic .result ≤ 24 → w .result ≡ length (a .betas .now) * length (a .us .now) * 2 ^ freeCount (earlyEnds (kept (a .a .now) (a .b .now) (a .m .now))) (lateEnds (kept (a .a .now) (a .b .now) (a .m .now))) =
-    λ l. w .ensures l ∙ ap (λ (k : ℕ). length (a .betas .now) * length (a .us .now) * 2 ^ k) free in
-    let m = storing-lists g (length (a .betas .now)) (a .factors .now) (c .before .before .before .cyclomatic .result) _ (w .result) _ size (length (a .work .now)) free same in
-    storing-refused-lists _ _ _ _ _ _ _ (a .betas .now) (a .factors .now) _ (a .stored .now) (a .work .now) _ (omega (arith, j .refusal)) (c .before .check-enumeration .ensures ∙ m) (λ z. omega arith)
+    let h = c .before .check-enumeration in
+    let free = free-kept g (f .result) (f .ensures .1) in
+    let same : f .result ≤ 24 → w .result ≡ length (a .betas .now) * length (a .us .now) * 2 ^ freeCount (earlyEnds (kept (a .a .now) (a .b .now) (a .m .now))) (lateEnds (kept (a .a .now) (a .b .now) (a .m .now))) = λ l. w .ensures l ∙ ap (λ (i : ℕ). length (a .betas .now) * length (a .us .now) * 2 ^ i) free in
+    storing-refused-lists (a .n) (a .floor) (a .a .now) (a .b .now) (a .m .now) (a .us .now) (a .vs .now) (a .betas .now) (a .factors .now) (a .manner) (a .stored .now) (a .work .now) (k .result .refusal) (k .ensures .refusal) v (h .result) (storing-lists g (length (a .betas .now)) (a .factors .now) (f .result) (freeCount (earlyEnds (kept (a .a .now) (a .b .now) (a .m .now))) (lateEnds (kept (a .a .now) (a .b .now) (a .m .now)))) (w .result) (length (a .betas .now) * length (a .us .now) * 2 ^ freeCount (earlyEnds (kept (a .a .now) (a .b .now) (a .m .now))) (lateEnds (kept (a .a .now) (a .b .now) (a .m .now)))) (length (a .stored .now)) (length (a .work .now)) (h .result) free same (h .ensures)) (c .if2 .taken)
 
 -- src/entry.rt:88:9
 is-each-requires : tie.Need-is-each-requires
@@ -120,95 +122,84 @@ slice-aggregate-store-job-2 c = late-part (c .before .before .before .before .be
 store-job-requires : tie.Need-store-job-requires
 store-job-requires c κs =
     let a = c .before .before .before .before .before .before .before .before .before .before .before .before .before .before .before .before .before .before .before .before .before .before .before .before .before .before .before .before .args in
-    let j = c .before .before .before .before .before .before .before .before .before .before .before .before .before .before .before .check-with-betas .ensures in
-    let g = j .ready (c .before .before .before .before .before .before .before .before .before .before .before .if1 .left) in
-    let few = j .betas-pass (c .before .before .before .before .before .before .before .before .before .before .before .if1 .left) .few in
-    let h = c .before .before .before .before .before .before .before .before .cyclomatic .ensures .1 in
+    let k = c .before .before .before .before .before .before .before .before .before .before .before .before .before .before .before .check-with-betas in
+    let v = c .before .before .before .before .before .before .before .before .before .before .before .if1 .left in
+    let g = k .ensures .ready v in
+    let f = c .before .before .before .before .before .before .before .before .cyclomatic in
     let w = c .before .before .before .before .before .before .before .stored-count in
-    let size = length (a .stored .now) in
-    let none : c .before .before .before .before .before .before .check-enumeration .result ≡ 0 = c .before .before .before .before .before .if2 .left in
-    let z = sym (c .before .before .before .before .before .before .check-enumeration .ensures) ∙ none in
-    let p = enumeration-passed g (length (a .betas .now)) (a .factors .now) (c .before .before .before .before .before .before .before .before .cyclomatic .result) 24 (misfits (w .result) size size) (length (a .work .now)) few z in
-    let f = fits-both (w .result) size size (p .1) .0 ∙ w .ensures (p .2) in
-    (p .0, free-is g _ h, omega (arith, p .2), f)
+    let h = c .before .before .before .before .before .before .check-enumeration in
+    let z = c .before .before .before .before .before .if2 .left in
+    let p = enumeration-passed g (length (a .betas .now)) (a .factors .now) (f .result) 24 (misfits (w .result) (length (a .stored .now)) (length (a .stored .now))) (length (a .work .now)) (h .result) (k .ensures .betas-pass v .few) (h .ensures) z in
+    let q = fits-both (w .result) (length (a .stored .now)) (length (a .stored .now)) (p .1) .0 ∙ w .ensures (p .2) in
+    (p .0, free-is g (f .result) (f .ensures .1), omega (arith, p .2), q)
 
 -- src/entry.rt:103:31
 pow2-requires : tie.Need-pow2-requires
 pow2-requires c κs =
     let a = c .before .before .before .before .before .before .before .before .before .before .before .before .before .before .before .before .before .before .before .before .before .before .before .before .before .before .before .before .before .before .before .before .before .before .args in
-    let j = c .before .before .before .before .before .before .before .before .before .before .before .before .before .before .before .before .before .before .before .before .before .check-with-betas .ensures in
-    let g = j .ready (c .before .before .before .before .before .before .before .before .before .before .before .before .before .before .before .before .before .if1 .left) in
-    let few = j .betas-pass (c .before .before .before .before .before .before .before .before .before .before .before .before .before .before .before .before .before .if1 .left) .few in
-    let h = c .before .before .before .before .before .before .before .before .before .before .before .before .before .before .cyclomatic .ensures .1 in
+    let k = c .before .before .before .before .before .before .before .before .before .before .before .before .before .before .before .before .before .before .before .before .before .check-with-betas in
+    let v = c .before .before .before .before .before .before .before .before .before .before .before .before .before .before .before .before .before .if1 .left in
+    let g = k .ensures .ready v in
+    let f = c .before .before .before .before .before .before .before .before .before .before .before .before .before .before .cyclomatic in
     let w = c .before .before .before .before .before .before .before .before .before .before .before .before .before .stored-count in
-    let size = length (a .stored .now) in
-    let none : c .before .before .before .before .before .before .before .before .before .before .before .before .check-enumeration .result ≡ 0 = c .before .before .before .before .before .before .before .before .before .before .before .if2 .left in
-    let z = sym (c .before .before .before .before .before .before .before .before .before .before .before .before .check-enumeration .ensures) ∙ none in
-    let p = enumeration-passed g (length (a .betas .now)) (a .factors .now) (c .before .before .before .before .before .before .before .before .before .before .before .before .before .before .cyclomatic .result) 24 (misfits (w .result) size size) (length (a .work .now)) few z in
-    let f = fits-both (w .result) size size (p .1) .0 ∙ w .ensures (p .2) in
+    let h = c .before .before .before .before .before .before .before .before .before .before .before .before .check-enumeration in
+    let z = c .before .before .before .before .before .before .before .before .before .before .before .if2 .left in
+    let p = enumeration-passed g (length (a .betas .now)) (a .factors .now) (f .result) 24 (misfits (w .result) (length (a .stored .now)) (length (a .stored .now))) (length (a .work .now)) (h .result) (k .ensures .betas-pass v .few) (h .ensures) z in
     omega (arith, p .2)
 
 -- src/entry.rt:103:9
 same-length : tie.Need-same-length
-same-length c = search needs
+same-length c = c .before .before .before .before .before .before .store-job .kept .1 .1 .1 .1 .1 .1 .1 .1 .1 .1 .0
 
 -- src/entry.rt:103:9
 same-length-2 : tie.Need-same-length-2
-same-length-2 c = search needs
+same-length-2 c = c .before .before .before .before .before .before .store-job .kept .1 .1 .1 .1 .1 .1 .1 .1 .1 .1 .1 .0
 
 -- src/entry.rt:103:9
 returns-3 : tie.Need-returns-3
 returns-3 c =
     let a = c .before .before .before .before .before .before .before .before .before .before .before .before .before .before .before .before .before .before .before .before .before .before .before .before .before .before .before .before .before .before .before .before .before .before .before .args in
-    let j = c .before .before .before .before .before .before .before .before .before .before .before .before .before .before .before .before .before .before .before .before .before .before .check-with-betas .ensures in
-    let g = j .ready (c .before .before .before .before .before .before .before .before .before .before .before .before .before .before .before .before .before .before .if1 .left) in
-    let few = j .betas-pass (c .before .before .before .before .before .before .before .before .before .before .before .before .before .before .before .before .before .before .if1 .left) .few in
-    let h = c .before .before .before .before .before .before .before .before .before .before .before .before .before .before .before .cyclomatic .ensures .1 in
+    let k = c .before .before .before .before .before .before .before .before .before .before .before .before .before .before .before .before .before .before .before .before .before .before .check-with-betas in
+    let v = c .before .before .before .before .before .before .before .before .before .before .before .before .before .before .before .before .before .before .if1 .left in
+    let g = k .ensures .ready v in
+    let f = c .before .before .before .before .before .before .before .before .before .before .before .before .before .before .before .cyclomatic in
     let w = c .before .before .before .before .before .before .before .before .before .before .before .before .before .before .stored-count in
-    let size = length (a .stored .now) in
-    let none : c .before .before .before .before .before .before .before .before .before .before .before .before .before .check-enumeration .result ≡ 0 = c .before .before .before .before .before .before .before .before .before .before .before .before .if2 .left in
-    let z = sym (c .before .before .before .before .before .before .before .before .before .before .before .before .before .check-enumeration .ensures) ∙ none in
-    let p = enumeration-passed g (length (a .betas .now)) (a .factors .now) (c .before .before .before .before .before .before .before .before .before .before .before .before .before .before .before .cyclomatic .result) 24 (misfits (w .result) size size) (length (a .work .now)) few z in
-    let f = fits-both (w .result) size size (p .1) .0 ∙ w .ensures (p .2) in
-    let free = free-is g _ h ∙ free-fronts g in
-    let same : c .before .before .before .before .before .before .before .before .before .before .before .before .before .before .before .cyclomatic .result ≤ 24 → w .result ≡ length (a .betas .now) * length (a .us .now) * 2 ^ freeCount (earlyEnds (kept (a .a .now) (a .b .now) (a .m .now))) (lateEnds (kept (a .a .now) (a .b .now) (a .m .now))) =
-    λ l. w .ensures l ∙ ap (λ (k : ℕ). length (a .betas .now) * length (a .us .now) * 2 ^ k) free in
-    let m = storing-lists g (length (a .betas .now)) (a .factors .now) (c .before .before .before .before .before .before .before .before .before .before .before .before .before .before .before .cyclomatic .result) _ (w .result) _ size (length (a .work .now)) free same in
-    let l = sym z ∙ m in
-    let o : 0 ≡ refusal ofRoom (jobRequest (a .n) (a .floor) (a .a .now) (a .b .now) (a .m .now) (a .us .now) (a .vs .now) (a .betas .now)) = omega (arith, j .refusal, c .before .before .before .before .before .before .before .before .before .before .before .before .before .before .before .before .before .before .if1 .left) in
-    let d = storing-done g _ (a .factors .now) _ _ _ _ _ _ _ (c .before .before .before .before .before .before .before .before .before .before .before .is-each .ensures) (c .before .before .before .before .before .before .store-job .ensures) in
-    all-stored _ _ _ _ _ _ _ (a .betas .now) (a .factors .now) (a .manner) (a .stored .now) (a .work .now) o l _ _ _ (rw (c .before .if3 .taken) at d) _ (c .pow2 .ensures ∙ ap (λ (k : ℕ). 2 ^ k) free)
+    let h = c .before .before .before .before .before .before .before .before .before .before .before .before .before .check-enumeration in
+    let free = free-kept g (f .result) (f .ensures .1) in
+    let same : f .result ≤ 24 → w .result ≡ length (a .betas .now) * length (a .us .now) * 2 ^ freeCount (earlyEnds (kept (a .a .now) (a .b .now) (a .m .now))) (lateEnds (kept (a .a .now) (a .b .now) (a .m .now))) = λ l. w .ensures l ∙ ap (λ (i : ℕ). length (a .betas .now) * length (a .us .now) * 2 ^ i) free in
+    let z = c .before .before .before .before .before .before .before .before .before .before .before .before .if2 .left in
+    let t = c .before .before .before .before .before .before .store-job in
+    let m = c .before .before .before .before .before .before .before .before .before .before .before .is-each in
+    let d = storing-done g (length (a .betas .now)) (a .factors .now) (length (a .betas .now) * length (a .us .now) * 2 ^ f .result) (t .result) (t .last .1 .1 .1 .1 .1 .1 .1 .1 .1 .1 .0) (a .work .now) (t .last .1 .1 .1 .1 .1 .1 .1 .1 .1 .1 .1 .0) (cond (m .result) perElement block) (mannerOf (a .manner)) (m .ensures) (t .ensures) in
+    all-stored (a .n) (a .floor) (a .a .now) (a .b .now) (a .m .now) (a .us .now) (a .vs .now) (a .betas .now) (a .factors .now) (a .manner) (a .stored .now) (a .work .now) (k .result .refusal) (k .ensures .refusal) v (h .result) (storing-lists g (length (a .betas .now)) (a .factors .now) (f .result) (freeCount (earlyEnds (kept (a .a .now) (a .b .now) (a .m .now))) (lateEnds (kept (a .a .now) (a .b .now) (a .m .now)))) (w .result) (length (a .betas .now) * length (a .us .now) * 2 ^ freeCount (earlyEnds (kept (a .a .now) (a .b .now) (a .m .now))) (lateEnds (kept (a .a .now) (a .b .now) (a .m .now)))) (length (a .stored .now)) (length (a .work .now)) (h .result) free same (h .ensures)) z (length (a .betas .now) * length (a .us .now) * 2 ^ f .result) (t .result) (t .last .1 .1 .1 .1 .1 .1 .1 .1 .1 .1 .0) (t .last .1 .1 .1 .1 .1 .1 .1 .1 .1 .1 .1 .0) d (c .before .if3 .taken) (c .pow2 .result) (c .pow2 .ensures ∙ ap (λ (i : ℕ). 2 ^ i) free)
 
 -- src/entry.rt:30:1
 same-length-3 : tie.Need-same-length-3
-same-length-3 c = search needs
+same-length-3 c = c .before .before .before .before .before .store-job .kept .1 .1 .1 .1 .1 .1 .1 .1 .1 .1 .0
 
 -- src/entry.rt:30:1
 same-length-4 : tie.Need-same-length-4
-same-length-4 c = search needs
+same-length-4 c = c .before .before .before .before .before .store-job .kept .1 .1 .1 .1 .1 .1 .1 .1 .1 .1 .1 .0
 
 -- src/entry.rt:30:1
 returns-4 : tie.Need-returns-4
 returns-4 c =
     let a = c .before .before .before .before .before .before .before .before .before .before .before .before .before .before .before .before .before .before .before .before .before .before .before .before .before .before .before .before .before .before .before .before .before .before .args in
-    let j = c .before .before .before .before .before .before .before .before .before .before .before .before .before .before .before .before .before .before .before .before .before .check-with-betas .ensures in
-    let g = j .ready (c .before .before .before .before .before .before .before .before .before .before .before .before .before .before .before .before .before .if1 .left) in
-    let few = j .betas-pass (c .before .before .before .before .before .before .before .before .before .before .before .before .before .before .before .before .before .if1 .left) .few in
-    let h = c .before .before .before .before .before .before .before .before .before .before .before .before .before .before .cyclomatic .ensures .1 in
+    let k = c .before .before .before .before .before .before .before .before .before .before .before .before .before .before .before .before .before .before .before .before .before .check-with-betas in
+    let v = c .before .before .before .before .before .before .before .before .before .before .before .before .before .before .before .before .before .if1 .left in
+    let g = k .ensures .ready v in
+    let f = c .before .before .before .before .before .before .before .before .before .before .before .before .before .before .cyclomatic in
     let w = c .before .before .before .before .before .before .before .before .before .before .before .before .before .stored-count in
-    let size = length (a .stored .now) in
-    let none : c .before .before .before .before .before .before .before .before .before .before .before .before .check-enumeration .result ≡ 0 = c .before .before .before .before .before .before .before .before .before .before .before .if2 .left in
-    let z = sym (c .before .before .before .before .before .before .before .before .before .before .before .before .check-enumeration .ensures) ∙ none in
-    let p = enumeration-passed g (length (a .betas .now)) (a .factors .now) (c .before .before .before .before .before .before .before .before .before .before .before .before .before .before .cyclomatic .result) 24 (misfits (w .result) size size) (length (a .work .now)) few z in
-    let f = fits-both (w .result) size size (p .1) .0 ∙ w .ensures (p .2) in
-    let free = free-is g _ h ∙ free-fronts g in
-    let same : c .before .before .before .before .before .before .before .before .before .before .before .before .before .before .cyclomatic .result ≤ 24 → w .result ≡ length (a .betas .now) * length (a .us .now) * 2 ^ freeCount (earlyEnds (kept (a .a .now) (a .b .now) (a .m .now))) (lateEnds (kept (a .a .now) (a .b .now) (a .m .now))) =
-    λ l. w .ensures l ∙ ap (λ (k : ℕ). length (a .betas .now) * length (a .us .now) * 2 ^ k) free in
-    let m = storing-lists g (length (a .betas .now)) (a .factors .now) (c .before .before .before .before .before .before .before .before .before .before .before .before .before .before .cyclomatic .result) _ (w .result) _ size (length (a .work .now)) free same in
-    let l = sym z ∙ m in
-    let o : 0 ≡ refusal ofRoom (jobRequest (a .n) (a .floor) (a .a .now) (a .b .now) (a .m .now) (a .us .now) (a .vs .now) (a .betas .now)) = omega (arith, j .refusal, c .before .before .before .before .before .before .before .before .before .before .before .before .before .before .before .before .before .if1 .left) in
-    let d = storing-done g _ (a .factors .now) _ _ _ _ _ _ _ (c .before .before .before .before .before .before .before .before .before .before .is-each .ensures) (c .before .before .before .before .before .store-job .ensures) in
-    storing-refused-14 _ _ _ _ _ _ _ (a .betas .now) (a .factors .now) (a .manner) (a .stored .now) (a .work .now) o l _ _ _ f (rw (c .if3 .left) at d)
+    let h = c .before .before .before .before .before .before .before .before .before .before .before .before .check-enumeration in
+    let free = free-kept g (f .result) (f .ensures .1) in
+    let same : f .result ≤ 24 → w .result ≡ length (a .betas .now) * length (a .us .now) * 2 ^ freeCount (earlyEnds (kept (a .a .now) (a .b .now) (a .m .now))) (lateEnds (kept (a .a .now) (a .b .now) (a .m .now))) = λ l. w .ensures l ∙ ap (λ (i : ℕ). length (a .betas .now) * length (a .us .now) * 2 ^ i) free in
+    let z = c .before .before .before .before .before .before .before .before .before .before .before .if2 .left in
+    let p = enumeration-passed g (length (a .betas .now)) (a .factors .now) (f .result) 24 (misfits (w .result) (length (a .stored .now)) (length (a .stored .now))) (length (a .work .now)) (h .result) (k .ensures .betas-pass v .few) (h .ensures) z in
+    let q = fits-both (w .result) (length (a .stored .now)) (length (a .stored .now)) (p .1) .0 ∙ w .ensures (p .2) in
+    let t = c .before .before .before .before .before .store-job in
+    let m = c .before .before .before .before .before .before .before .before .before .before .is-each in
+    let d = storing-done g (length (a .betas .now)) (a .factors .now) (length (a .betas .now) * length (a .us .now) * 2 ^ f .result) (t .result) (t .last .1 .1 .1 .1 .1 .1 .1 .1 .1 .1 .0) (a .work .now) (t .last .1 .1 .1 .1 .1 .1 .1 .1 .1 .1 .1 .0) (cond (m .result) perElement block) (mannerOf (a .manner)) (m .ensures) (t .ensures) in
+    storing-refused-14 (a .n) (a .floor) (a .a .now) (a .b .now) (a .m .now) (a .us .now) (a .vs .now) (a .betas .now) (a .factors .now) (a .manner) (a .stored .now) (a .work .now) (k .result .refusal) (k .ensures .refusal) v (h .result) (storing-lists g (length (a .betas .now)) (a .factors .now) (f .result) (freeCount (earlyEnds (kept (a .a .now) (a .b .now) (a .m .now))) (lateEnds (kept (a .a .now) (a .b .now) (a .m .now)))) (w .result) (length (a .betas .now) * length (a .us .now) * 2 ^ freeCount (earlyEnds (kept (a .a .now) (a .b .now) (a .m .now))) (lateEnds (kept (a .a .now) (a .b .now) (a .m .now)))) (length (a .stored .now)) (length (a .work .now)) (h .result) free same (h .ensures)) z (length (a .betas .now) * length (a .us .now) * 2 ^ f .result) (t .result) (t .last .1 .1 .1 .1 .1 .1 .1 .1 .1 .1 .0) (t .last .1 .1 .1 .1 .1 .1 .1 .1 .1 .1 .1 .0) d (c .if3 .left) q
 
 pub exhaustive-c-spec : {M : Type 1} → statement M
 exhaustive-c-spec =

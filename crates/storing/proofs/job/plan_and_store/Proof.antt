@@ -11,7 +11,8 @@ use Rattle.lattice.specs.Graphs.{freeCount}
 use Rattle.glass.specs.Correlations.{zeros}
 use Rattle.totals.specs.Jobs.{jobEnumerated, unsoundEnumeration, storedCorrelations}
 use Rattle.totals.specs.Signing.{marks-long, enumerated-plan}
-use Rattle.totals.specs.Staging.{joins, lent-of, staged, finished, enumerates, told-each}
+use Rattle.totals.specs.Entering.{joins}
+use Rattle.totals.specs.Staging.{lent-of, staged, finished, enumerates, told-each}
 use borrow.Author.Needs.{needs}
 use Rattle.storing.proofs.job.plan_and_store.Statement.{statement}
 use Rattle.storing.proofs.job.plan_and_store.Tie as tie
@@ -25,7 +26,7 @@ use Rattle.glass.proofs.clear.Reads as clear-reads
 use Rattle.totals.proofs.clear_unsound.Reads as clear-unsound-reads
 
 make-plan-requires : tie.Need-make-plan-requires
-make-plan-requires c κs = search needs
+make-plan-requires c κs = let p = c .before .before .before .before .before .before .before .before .before .before .before .before .before .pre in (p .0 .job .edges, p .0 .job .few-edges, p .0 .job .pairs, p .3, p .0 .job .few-near)
 
 order-pairs-requires : tie.Need-order-pairs-requires
 order-pairs-requires c κs = let p = c .before .before .before .before .before .before .before .before .before .before .before .before .before .before .before .before .before .pre in (p .0 .job .pairs, p .0 .job .edges .few, p .4)
@@ -78,13 +79,13 @@ same-length-3 : tie.Need-same-length-3
 same-length-3 c = c .before .before .before .before .before .before .before .before .before .before .before .before .before .before .before .before .before .before .before .before .before .before .before .before .before .before .spanning-forest .kept .1 .1 .1 .0
 
 same-length-4 : tie.Need-same-length-4
-same-length-4 c = search needs
+same-length-4 c = c .before .before .before .before .before .before .before .before .before .before .before .before .before .before .before .stored-correlations .kept .1 .1 .1 .1 .1 .1 .1 .1 .1 .1 .1 .1 .0
 
 same-length-5 : tie.Need-same-length-5
-same-length-5 c = search needs
+same-length-5 c = c .before .before .before .before .before .before .before .before .before .before .before .before .before .before .before .stored-correlations .kept .1 .1 .1 .1 .1 .1 .1 .1 .1 .1 .1 .1 .1 .1 .0
 
 same-length-6 : tie.Need-same-length-6
-same-length-6 c = search needs
+same-length-6 c = c .before .before .clear-unsound .kept .1 .0 ∙ c .before .before .before .before .before .before .before .before .before .before .before .before .before .before .before .stored-correlations .kept .1 .1 .1 .1 .1 .1 .1 .1 .1 .1 .1 .1 .1 .1 .1 .0
 
 same-length-7 : tie.Need-same-length-7
 same-length-7 c = search needs
