@@ -5,7 +5,7 @@ use checks::Answer;
 use forest::cyclomatic;
 use glass::Manner;
 use glass::is_each;
-use refuse::check_enumeration;
+use lent::check_enumeration;
 use refuse::check_with_betas;
 use sweep::pow2;
 

@@ -7,7 +7,7 @@ use crate::job::sample_job;
 use checks::Answer;
 use glass::Manner;
 use glass::is_each;
-use refuse::check_sampling;
+use lent::check_sampling;
 use refuse::check_with_betas;
 
 // How many configurations there are: chunks times samples per chunk, 0 where there is no chunk.

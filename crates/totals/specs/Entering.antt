@@ -24,7 +24,7 @@ use Rattle.checks.specs.First.{unless}
 use Rattle.checks.specs.AcceptedJob.{accepted-factors, accepted-buffers, buffersRefusal}
 use Rattle.checks.specs.AcceptedTotals.{misfits, misfits-alone, enumerationLists, samplingLists, few-samples}
 use Rattle.plan.specs.Edges.{Edges}
-use Rattle.lattice.specs.Fronts.{front-early, front-late, early-part}
+use Rattle.kept.specs.Fronts.{front-early, front-late, early-part}
 use Rattle.lattice.specs.Graphs.{freeCount}
 use Rattle.refuse.specs.Checked.{ReadyJob}
 use Rattle.refuse.specs.Plannable.{edge-count, plannable}

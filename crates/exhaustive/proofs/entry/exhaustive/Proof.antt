@@ -6,7 +6,7 @@ use lib.ListN.{length}
 use Rattle.transfer.specs.Job.{block, perElement}
 use Rattle.checks.specs.Edges.{kept, earlyEnds, lateEnds}
 use Rattle.checks.specs.AcceptedTotals.{misfits}
-use Rattle.lattice.specs.Fronts.{early-part, late-part, early-fits, late-fits}
+use Rattle.kept.specs.Fronts.{early-part, late-part, early-fits, late-fits}
 use Rattle.lattice.specs.Graphs.{freeCount}
 use Rattle.glass.specs.Correlations.{mannerOf}
 use Rattle.totals.specs.Entering.{few-products, fits-both, joined, enumeration-lists, enumeration-passed, free-is, free-kept, enumeration-done}
@@ -19,7 +19,7 @@ use Rattle.exhaustive.proofs.entry.exhaustive.Lts as lts
 use Rattle.forest.proofs.cyclomatic.Reads as cyclomatic-reads
 use Rattle.glass.proofs.is_each.Reads as is-each-reads
 use Rattle.refuse.proofs.check_with_betas.Reads as check-with-betas-reads
-use Rattle.refuse.proofs.check_enumeration.Reads as check-enumeration-reads
+use Rattle.lent.proofs.check_enumeration.Reads as check-enumeration-reads
 use Rattle.sweep.proofs.pow2.Reads as pow2-reads
 use Rattle.exhaustive.proofs.job.enumerate_job.Reads as enumerate-job-reads
 

@@ -4,7 +4,7 @@ use native.Mathlib.Omega.{arith}
 use lib.ListN.{length}
 use Rattle.transfer.specs.Job.{block, perElement}
 use Rattle.checks.specs.AcceptedTotals.{misfits}
-use Rattle.lattice.specs.Fronts.{early-part, late-part, early-fits, late-fits}
+use Rattle.kept.specs.Fronts.{early-part, late-part, early-fits, late-fits}
 use Rattle.glass.specs.Correlations.{mannerOf}
 use Rattle.totals.specs.Entering.{few-products, fits-both, sampling-lists, sampling-passed, sampling-done}
 use Rattle.totals.specs.Refusing.{sampling-refused-early, sampling-refused-lists, sampling-added, sampling-refused-14}
@@ -15,7 +15,7 @@ use Rattle.sampling.proofs.entry.sample.Reads as reads
 use Rattle.sampling.proofs.entry.sample.Lts as lts
 use Rattle.glass.proofs.is_each.Reads as is-each-reads
 use Rattle.refuse.proofs.check_with_betas.Reads as check-with-betas-reads
-use Rattle.refuse.proofs.check_sampling.Reads as check-sampling-reads
+use Rattle.lent.proofs.check_sampling.Reads as check-sampling-reads
 use Rattle.sampling.proofs.entry.sampled_count.Reads as sampled-count-reads
 use Rattle.sampling.proofs.job.sample_job.Reads as sample-job-reads
 

@@ -6,7 +6,7 @@ use lib.ListN.{length}
 use Rattle.transfer.specs.Job.{block, perElement}
 use Rattle.checks.specs.Edges.{kept, earlyEnds, lateEnds}
 use Rattle.checks.specs.AcceptedTotals.{misfits}
-use Rattle.lattice.specs.Fronts.{early-part, late-part, early-fits, late-fits}
+use Rattle.kept.specs.Fronts.{early-part, late-part, early-fits, late-fits}
 use Rattle.lattice.specs.Graphs.{freeCount}
 use Rattle.glass.specs.Correlations.{mannerOf}
 use Rattle.totals.specs.Entering.{few-products, fits-both, joined, enumeration-passed, storing-lists, free-is, free-kept, storing-done}
@@ -19,7 +19,7 @@ use Rattle.storing.proofs.entry.exhaustive_c.Lts as lts
 use Rattle.forest.proofs.cyclomatic.Reads as cyclomatic-reads
 use Rattle.glass.proofs.is_each.Reads as is-each-reads
 use Rattle.refuse.proofs.check_with_betas.Reads as check-with-betas-reads
-use Rattle.refuse.proofs.check_enumeration.Reads as check-enumeration-reads
+use Rattle.lent.proofs.check_enumeration.Reads as check-enumeration-reads
 use Rattle.sweep.proofs.pow2.Reads as pow2-reads
 use Rattle.storing.proofs.entry.stored_count.Reads as stored-count-reads
 use Rattle.storing.proofs.job.store_job.Reads as store-job-reads
