@@ -6,7 +6,7 @@ ghost use Rattle.copperhook.specs.Manners.{mannerNumbered};
 use crate::correlations::manner_numbered;
 use checks::Answer;
 
-// As `totals::exhaustive`, how many configurations there are in `count`; where the call is refused, that keeps what it held.
+// As `exhaustive::exhaustive`, how many configurations there are in `count`; where the call is refused, that keeps what it held.
 #[no_mangle]
 pub extern "C" fn copperhook_exhaustive(
     n: usize,
@@ -29,7 +29,7 @@ pub extern "C" fn copperhook_exhaustive(
         (answered r (now (count .exit))) (now (squares .entry)) (now (squares .exit)) (now (fourths .entry)) (now (fourths .exit)) (now (work .entry)) (now (work .exit)) ⌝ }
     ensures { λ r. ⌜ ((r ≡ 0 → ⊥) → now (count .exit) ≡ now (count .entry)) ⌝ }
 {
-    let answer = totals::exhaustive(
+    let answer = exhaustive::exhaustive(
         n,
         floor,
         a,
@@ -53,7 +53,7 @@ pub extern "C" fn copperhook_exhaustive(
     }
 }
 
-// As `totals::exhaustive_c`, likewise.
+// As `storing::exhaustive_c`, likewise.
 #[no_mangle]
 pub extern "C" fn copperhook_exhaustive_c(
     n: usize,
@@ -75,7 +75,7 @@ pub extern "C" fn copperhook_exhaustive_c(
         (answered r (now (count .exit))) (now (stored .entry)) (now (stored .exit)) (now (work .entry)) (now (work .exit)) ⌝ }
     ensures { λ r. ⌜ ((r ≡ 0 → ⊥) → now (count .exit) ≡ now (count .entry)) ⌝ }
 {
-    let answer = totals::exhaustive_c(
+    let answer = storing::exhaustive_c(
         n,
         floor,
         a,
@@ -98,7 +98,7 @@ pub extern "C" fn copperhook_exhaustive_c(
     }
 }
 
-// As `totals::sample`, likewise.
+// As `sampling::sample`, likewise.
 #[no_mangle]
 pub extern "C" fn copperhook_sample(
     n: usize,
@@ -125,7 +125,7 @@ pub extern "C" fn copperhook_sample(
         (answered r (now (count .exit))) (now (squares .entry)) (now (squares .exit)) (now (fourths .entry)) (now (fourths .exit)) (now (work .entry)) (now (work .exit)) ⌝ }
     ensures { λ r. ⌜ ((r ≡ 0 → ⊥) → now (count .exit) ≡ now (count .entry)) ⌝ }
 {
-    let answer = totals::sample(
+    let answer = sampling::sample(
         n,
         floor,
         a,

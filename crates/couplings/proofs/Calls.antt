@@ -14,8 +14,8 @@ use Rattle.checks.specs.Answers.{left, left-alone}
 use Rattle.checks.specs.Accepted.{Accepted}
 use Rattle.checks.specs.AcceptedJob.{AcceptedBetas}
 use Rattle.checks.specs.AcceptedTotals.{accepted-couplings}
-use Rattle.lattice.specs.Fronts.{front-is, few}
-use Rattle.lattice.specs.Keep.{Written}
+use Rattle.kept.specs.Fronts.{front-is, few}
+use Rattle.kept.specs.Keep.{Written}
 use Rattle.refuse.specs.Checked.{CheckedCouplings}
 use Rattle.couplings.specs.Couplings.{allCouplings, Coupled}
 

@@ -1,19 +1,19 @@
 -- What the demands say of accepted calls of `exhaustive`, `exhaustive_c` and `sample`, of the stored doubles and with no tolerance.
-use mathlib.Core.Path.{_≡_, refl, sym, ap, _∙_, subst}
-use mathlib.Core.Bool.{Bool, true, false, not}
+use mathlib.Core.Path.{_≡_, refl, ap, _∙_, subst}
+use mathlib.Core.Bool.{Bool, false, not}
 use mathlib.Core.List.{List}
 use mathlib.Core.Logic.{inl}
-use Prim.Native.Nat.{ℕ, zero, suc, _+_, _-_, _*_, _/_, _%_, _^_, _≤_, _<_, min, max}
+use Prim.Native.Nat.{ℕ, zero, suc, _+_, _-_, _*_, _/_, _%_, _^_, _≤_, _<_}
 use native.Mathlib.Nat.{mod-lt, div-lt-iff-lt-mul}
 use native.Mathlib.Omega.{arith}
 use lib.Dec.{T, eqb}
 use lib.Ieee.{Float, nan, binary64, neg, le}
 use lib.Ieee.Positive.{positive}
 use lib.ListN.{length, getD}
-use lib.Pow.{pow-mono, pow-pos}
+use lib.Pow.{pow-pos}
 use borrow.Author.Tests.{not-false}
 use Rattle.vector.specs.Search.{some, none-at}
-use Rattle.vector.specs.Tabulate.{tabulate, tabulate-at}
+use Rattle.vector.specs.Tabulate.{tabulate-at}
 use Rattle.rounding.specs.Sign.{abs}
 use Rattle.rounding.specs.Powers.{Ordered}
 use Rattle.rounding.specs.Under.{unit}
@@ -39,7 +39,7 @@ use Rattle.bounds.specs.Bounds.{Answerable, correlation-bounded, propagated-bou
 use Rattle.chunks.specs.Powers.{correlationAt}
 use Rattle.glass.specs.Correlations.{mannerOf, settled}
 use Rattle.glass.specs.declared.Manner.{Manner}
-use Rattle.totals.specs.Jobs.{jobSigned, jobEnumerated, jobSampled, unsoundEnumeration, unsoundSampling, enumeratedTotals, sampledTotals, storedCount, storedCorrelations}
+use Rattle.totals.specs.Jobs.{jobEnumerated, jobSampled, unsoundEnumeration, unsoundSampling, enumeratedTotals, sampledTotals, storedCount, storedCorrelations}
 use Rattle.totals.specs.Calls.{Enumerated, EnumeratedEach, Sampled, refusedEnumeration, refusedStoring, refusedSampling}
 use Rattle.demands.specs.Given.{checked-signed}
 

@@ -20,7 +20,7 @@ use Rattle.checks.specs.Request.{roomRequest, correlationRequest}
 use Rattle.checks.specs.Refusal.{checks, among, refusal, ofRoom, ofLists, ofCorrelations}
 use Rattle.checks.specs.Later.{orElse, is-among}
 use Rattle.checks.specs.AcceptedJob.{listsRefusal, correlations-in-parts, accepted-lists}
-use Rattle.lattice.specs.Fronts.{front-early, front-late}
+use Rattle.kept.specs.Fronts.{front-early, front-late}
 use Rattle.refuse.specs.Checked.{ReadyJob}
 use Rattle.refuse.specs.Plannable.{edge-count, plannable}
 use Rattle.answers.specs.Sound.{unsound}

@@ -3,8 +3,8 @@ ghost use Rattle.glass.specs.Correlations.{Correlated};
 use crate::Manner;
 use crate::job::answer_job;
 use crate::rescaling::is_each;
+use lent::check_lists;
 use refuse::check_job;
-use refuse::check_lists;
 
 // Writes the correlation of each pair to `results`. The edges come in three lists of ends and magnitudes, the pairs in two lists of ends;
 // one factor is lent for each kept edge. Answers the refusal's number, 0 for accepted.

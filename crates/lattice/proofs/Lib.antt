@@ -1,5 +1,3 @@
-mod Keeping
-mod Chaining
 mod Building
 mod Setting
 mod Turning

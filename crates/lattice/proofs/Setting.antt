@@ -12,7 +12,7 @@ use Rattle.vector.specs.Search.{or-false}
 use Rattle.transfer.specs.Job.{windowOf}
 use Rattle.checks.specs.Edges.{Kept, kept, earlyEnds, lateEnds}
 use Rattle.checks.specs.Request.{outside}
-use Rattle.lattice.specs.Keep.{Written, Holds}
+use Rattle.kept.specs.Keep.{Written, Holds}
 use Rattle.distance.specs.Walks.{Distance}
 use Rattle.distance.specs.declared.Reach.the-variants as Reach
 use Rattle.lattice.specs.Graphs.{Set, tooShort, Distanced}

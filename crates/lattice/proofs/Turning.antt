@@ -15,7 +15,7 @@ use Rattle.checks.specs.Accepted.{kept-inside}
 use Rattle.vector.specs.Tabulate.{tabulate, tabulate-suc, tabulate-length, tabulated}
 use Rattle.vector.specs.Front.{over, over-more, over-behind, over-front, over-over}
 use Rattle.checks.specs.Edges.{Kept, kept, earlyEnds, lateEnds}
-use Rattle.lattice.specs.Keep.{Written}
+use Rattle.kept.specs.Keep.{Written}
 use Rattle.lattice.specs.Graphs.{Set, Turned, turned, rotate}
 use Rattle.lattice.specs.declared.graph.Graph.{Graph}
 use Rattle.lattice.specs.declared.graph.Made.{Made}

@@ -1,4 +1,1 @@
-pub mod Keep
-pub mod Fronts
-pub mod Chains
 pub mod Graphs

@@ -12,12 +12,12 @@ ghost use Rattle.checks.specs.Answers.{answered, left};
 ghost use Rattle.forest.specs.Paths.{Spans};
 ghost use Rattle.forest.specs.Components.{componentCount};
 ghost use Rattle.lattice.specs.Graphs.{tooShort, freeCount, treeMarks, componentNames, Set, Distanced, rotate, Turned};
-use crate::build::build;
-use crate::keep::keep;
-use crate::reach::window_of;
-use crate::refuse::is_outside;
 use checks::Answer;
 use distance::Reach;
+use kept::build::build;
+use kept::is_outside;
+use kept::keep::keep;
+use kept::window_of;
 
 // A graph whose kept edges stand in lists beside it.
 pub struct Graph {

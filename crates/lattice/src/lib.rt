@@ -1,9 +1,5 @@
-// The graph of a job: which jobs are refused, which edges are kept, and what follows from them.
-pub mod build;
+// The graph of a job, and what follows from its kept edges.
 mod graph;
-mod keep;
-mod reach;
-mod refuse;
 
 pub use graph::Graph;
 pub use graph::Made;
@@ -14,9 +10,3 @@ pub use graph::distance;
 pub use graph::n_components;
 pub use graph::spanning_forest;
 pub use graph::window;
-pub use reach::window_of;
-pub use refuse::bad_edges;
-pub use refuse::bad_lists;
-pub use refuse::bad_magnitudes;
-pub use refuse::bad_vertices;
-pub use refuse::is_outside;

@@ -1,6 +1,6 @@
 -- The checks of a job one after the other, and what has passed where none refuses.
 use mathlib.Core.Path.{_≡_, refl, sym, ap, ap₂, _∙_, subst, subst₂}
-use mathlib.Core.Bool.{Bool, true, false, cond, not}
+use mathlib.Core.Bool.{Bool, true, false, not}
 use mathlib.Core.List.{List, []}
 use Prim.Native.Nat.{ℕ, zero, suc, _-_, _*_, _≤_, _<_}
 use native.Mathlib.Nat.{mul-le-mul}
@@ -23,8 +23,8 @@ use Rattle.checks.specs.Later.{orElse, Then, refused-before, refused-here, refu
 use Rattle.checks.specs.Accepted.{Accepted, kept-inside}
 use Rattle.checks.specs.AcceptedJob.{window-wide, accepted-graph, accepted-with, withBetas, job-lists, graph-alone, job-in-parts}
 use Rattle.checks.specs.AcceptedTotals.{couplings-in-parts}
-use Rattle.lattice.specs.Keep.{Built}
-use Rattle.lattice.specs.Fronts.{front-early, front-late, early-part, few, of-kept, is-accepted}
+use Rattle.kept.specs.Keep.{Built}
+use Rattle.kept.specs.Fronts.{front-early, front-late, early-part, few, of-kept, is-accepted}
 use Rattle.plan.specs.Edges.{Edges}
 use Rattle.refuse.specs.Checked.{KeptEdges, keptRefusal, CheckedGraph, CheckedCouplings, CheckedKept, CheckedJob, CheckedWithBetas}
 
@@ -175,16 +175,6 @@ room-answered {n} {us = us} {vs} checked z r e =
     let job = checked .ready z in
     number-is _ _ _ _ (checked .refusal) z (e ∙ ap₂ (λ (x y : ℕ). room n x y us vs) (job .window) (job .written .edges))
 
--- ---- the factors
-
--- of 64 betas and 4,096 edges
-pub few-factors : (betas edges : ℕ) → betas ≤ 64 → edges ≤ 4096 → betas * edges ≤ 262144
-few-factors betas edges p q = mul-le-mul p q
-
--- where t was answered of the test, so it is of the test itself
-pub retold : (t test : Bool) (k r rest : ℕ) → t ≡ test → r ≡ cond t k rest → r ≡ cond test k rest
-retold t test k r rest e h = h ∙ ap (λ (x : Bool). cond x k rest) e
-
 -- ---- couplings
 
 -- the graph with its betas was checked; there are so many results
@@ -199,7 +189,7 @@ module _ (n : ℕ) (a b : List ℕ) (m betas : List Float) (results : ℕ) {r k 
   pub couplings-few : r ≡ 0 → length betas * k ≤ 262144
   couplings-few z =
       let ok = accepted-graph n 0 a b m [] [] betas (sym (G .refusal) ∙ z) in
-      few-factors (length betas) k (ok .1 .few) (few (G .built z .written z) (ok .0 .lists))
+      mul-le-mul (ok .1 .few) (few (G .built z .written z) (ok .0 .lists))
 
   -- the graph was refused
   pub couplings-refused : {q e : ℕ} → q ≡ r → (r ≡ 0 → ⊥) → CheckedCouplings n a b m betas results q e early early′ late late′ mag mag′

@@ -14,7 +14,7 @@ use Rattle.checks.specs.Request.{couplingRequest, jobRequest, roomRequest, badP
 use Rattle.checks.specs.Refusal as Refusal
 use Rattle.checks.specs.Refusal.{ofGraph, ofCouplings, ofRoom}
 use Rattle.checks.specs.AcceptedJob.{AcceptedJob, AcceptedBetas}
-use Rattle.lattice.specs.Keep.{Written, Ordered, Built}
+use Rattle.kept.specs.Keep.{Written, Ordered, Built}
 use Rattle.plan.specs.Edges.{Edges}
 use Rattle.places.specs.Places.{Pairs}
 

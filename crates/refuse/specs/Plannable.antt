@@ -7,7 +7,7 @@ use lib.Ieee.{Float}
 use lib.ListN.{length, take, length-map}
 use Rattle.transfer.specs.Room.{room}
 use Rattle.checks.specs.Edges.{kept, earlyEnds}
-use Rattle.lattice.specs.Fronts.{front-early, front-late}
+use Rattle.kept.specs.Fronts.{front-early, front-late}
 use Rattle.places.specs.Plannable.{Plannable}
 use Rattle.refuse.specs.Checked.{ReadyJob}
 

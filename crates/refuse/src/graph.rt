@@ -4,11 +4,11 @@ ghost use Prim.Native.Nat.{_≤_};
 ghost use lib.ListN.{length};
 ghost use Rattle.checks.specs.Request.{badBetas};
 ghost use Rattle.refuse.specs.Checked.{CheckedGraph, CheckedCouplings};
-use lattice::bad_lists;
-use lattice::bad_magnitudes;
-use lattice::bad_vertices;
-use lattice::build::Checked;
-use lattice::build::build;
+use kept::bad_lists;
+use kept::bad_magnitudes;
+use kept::bad_vertices;
+use kept::build::Checked;
+use kept::build::build;
 
 fn refused(number: usize) -> Checked
     ensures { λ r. ⌜ r .refusal ≡ number ⌝ }

@@ -7,8 +7,8 @@ ghost use Rattle.vector.specs.Search.{some};
 ghost use Rattle.checks.specs.Request.{badPair};
 ghost use Rattle.refuse.specs.Checked.{KeptEdges, CheckedKept, CheckedWithBetas, CheckedJob};
 use crate::graph::check_graph;
-use lattice::bad_edges;
-use lattice::window_of;
+use kept::bad_edges;
+use kept::window_of;
 use plan::too_many_near;
 
 // The refusal's number, 0 for accepted; how many edges are kept, and the window.

@@ -82,7 +82,7 @@ fn answer(
     let to = word(list, at(start, TO));
     let samples = number_at(list, at(start, SAMPLES));
     if entry == 0 {
-        return totals::exhaustive(
+        return exhaustive::exhaustive(
             n,
             floor,
             a,
@@ -99,7 +99,7 @@ fn answer(
         );
     }
     if entry == 1 {
-        return totals::exhaustive_c(
+        return storing::exhaustive_c(
             n,
             floor,
             a,
@@ -114,7 +114,7 @@ fn answer(
             memory,
         );
     }
-    totals::sample(
+    sampling::sample(
         n,
         floor,
         a,

@@ -1,12 +1,9 @@
-// The totals of a strip's configurations, enumerated or sampled, and the correlations of each.
-mod drawn;
-mod each;
-mod enumeration;
-mod every;
+// What the entries of a call for totals share: its jobs, what it answers, how long its lists are, and how they are cleared.
 mod limits;
-mod sampling;
-mod storing;
+mod settle;
 
-pub use drawn::sample;
-pub use each::exhaustive_c;
-pub use every::exhaustive;
+pub use limits::EDGES;
+pub use limits::PAIRS;
+pub use limits::PLAN;
+pub use limits::SUMS;
+pub use settle::clear_unsound;

@@ -6,7 +6,7 @@ use Rattle.copperhook.proofs.total.copperhook_exhaustive.Tie as tie
 use Rattle.copperhook.proofs.total.copperhook_exhaustive.Reads as reads
 use Rattle.copperhook.proofs.total.copperhook_exhaustive.Lts as lts
 use Rattle.copperhook.proofs.correlations.manner_numbered.Reads as manner-numbered-reads
-use Rattle.totals.proofs.exhaustive.Reads as exhaustive-reads
+use Rattle.exhaustive.proofs.exhaustive.Reads as exhaustive-reads
 
 -- src/total.rt:42:9
 manner-numbered-requires : tie.Need-manner-numbered-requires

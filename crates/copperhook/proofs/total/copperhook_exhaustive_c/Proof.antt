@@ -6,7 +6,7 @@ use Rattle.copperhook.proofs.total.copperhook_exhaustive_c.Tie as tie
 use Rattle.copperhook.proofs.total.copperhook_exhaustive_c.Reads as reads
 use Rattle.copperhook.proofs.total.copperhook_exhaustive_c.Lts as lts
 use Rattle.copperhook.proofs.correlations.manner_numbered.Reads as manner-numbered-reads
-use Rattle.totals.proofs.exhaustive_c.Reads as exhaustive-c-reads
+use Rattle.storing.proofs.exhaustive_c.Reads as exhaustive-c-reads
 
 -- src/total.rt:88:9
 manner-numbered-requires : tie.Need-manner-numbered-requires

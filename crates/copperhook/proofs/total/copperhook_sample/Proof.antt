@@ -6,7 +6,7 @@ use Rattle.copperhook.proofs.total.copperhook_sample.Tie as tie
 use Rattle.copperhook.proofs.total.copperhook_sample.Reads as reads
 use Rattle.copperhook.proofs.total.copperhook_sample.Lts as lts
 use Rattle.copperhook.proofs.correlations.manner_numbered.Reads as manner-numbered-reads
-use Rattle.totals.proofs.sample.Reads as sample-reads
+use Rattle.sampling.proofs.sample.Reads as sample-reads
 
 -- src/total.rt:138:9
 manner-numbered-requires : tie.Need-manner-numbered-requires

@@ -1,7 +1,7 @@
 use mathlib.Core.Path.{_≡_, refl, sym, ap, _∙_, subst}
 use native.Mathlib.Omega.{arith}
 use lib.ListN.{length}
-use Rattle.lattice.specs.Fronts.{early-part, late-part, early-fits, late-fits}
+use Rattle.kept.specs.Fronts.{early-part, late-part, early-fits, late-fits}
 use Rattle.glass.proofs.Calling.{refused-early, refused-lists, accepted, refused-14, lists-of, passed-of, finished-of}
 use borrow.Author.Needs.{needs}
 use Rattle.glass.proofs.entry.correlations.Statement.{statement}
@@ -11,7 +11,7 @@ use Rattle.glass.proofs.entry.correlations.Lts as lts
 use Rattle.glass.proofs.job.answer_job.Reads as answer-job-reads
 use Rattle.glass.proofs.rescaling.is_each.Reads as is-each-reads
 use Rattle.refuse.proofs.check_job.Reads as check-job-reads
-use Rattle.refuse.proofs.check_lists.Reads as check-lists-reads
+use Rattle.lent.proofs.check_lists.Reads as check-lists-reads
 
 -- src/entry.rt:30:52
 slice-aggregate-check-job : tie.Need-slice-aggregate-check-job

@@ -1,6 +1,6 @@
 -- The checks of the graph and the betas, and of its kept edges at the fronts of the lists.
 use Rattle.refuse.proofs.Checking.{fronts-kept, job-refused, graph-accepted}
-use Rattle.lattice.specs.Fronts.{early-fits, late-fits, early-part, late-part}
+use Rattle.kept.specs.Fronts.{early-fits, late-fits, early-part, late-part}
 use borrow.Author.Needs.{needs}
 use Rattle.refuse.proofs.job.check_with_betas.Statement.{statement}
 use Rattle.refuse.proofs.job.check_with_betas.Tie as tie

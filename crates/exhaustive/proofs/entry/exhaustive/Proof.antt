@@ -1,0 +1,230 @@
+use mathlib.Core.Path.{ap, _∙_}
+use mathlib.Core.Bool.{cond}
+use Prim.Native.Nat.{ℕ, _*_, _^_}
+use native.Mathlib.Omega.{arith}
+use lib.ListN.{length}
+use Rattle.transfer.specs.Job.{block, perElement}
+use Rattle.checks.specs.Edges.{kept, earlyEnds, lateEnds}
+use Rattle.checks.specs.AcceptedTotals.{misfits}
+use Rattle.kept.specs.Fronts.{early-part, late-part, early-fits, late-fits}
+use Rattle.lattice.specs.Graphs.{freeCount}
+use Rattle.glass.specs.Correlations.{mannerOf}
+use Rattle.totals.specs.Entering.{few-products, fits-both, joined, enumeration-lists, enumeration-passed, free-is, free-kept, enumeration-done}
+use Rattle.totals.specs.Refusing.{enumeration-refused-early, enumeration-refused-lists, enumeration-added, enumeration-refused-14}
+use borrow.Author.Needs.{needs}
+use Rattle.exhaustive.proofs.entry.exhaustive.Statement.{statement}
+use Rattle.exhaustive.proofs.entry.exhaustive.Tie as tie
+use Rattle.exhaustive.proofs.entry.exhaustive.Reads as reads
+use Rattle.exhaustive.proofs.entry.exhaustive.Lts as lts
+use Rattle.forest.proofs.cyclomatic.Reads as cyclomatic-reads
+use Rattle.glass.proofs.is_each.Reads as is-each-reads
+use Rattle.refuse.proofs.check_with_betas.Reads as check-with-betas-reads
+use Rattle.lent.proofs.check_enumeration.Reads as check-enumeration-reads
+use Rattle.sweep.proofs.pow2.Reads as pow2-reads
+use Rattle.exhaustive.proofs.job.enumerate_job.Reads as enumerate-job-reads
+
+-- src/entry.rt:48:9
+slice-aggregate-check-with-betas : tie.Need-slice-aggregate-check-with-betas
+slice-aggregate-check-with-betas c = search needs
+
+-- src/entry.rt:49:9
+slice-aggregate-check-with-betas-2 : tie.Need-slice-aggregate-check-with-betas-2
+slice-aggregate-check-with-betas-2 c = search needs
+
+-- src/entry.rt:50:9
+slice-aggregate-check-with-betas-3 : tie.Need-slice-aggregate-check-with-betas-3
+slice-aggregate-check-with-betas-3 c = search needs
+
+-- src/entry.rt:39:9
+check-with-betas-requires : tie.Need-check-with-betas-requires
+check-with-betas-requires c κs = search needs
+
+-- src/entry.rt:54:9
+returns : tie.Need-returns
+returns c =
+    let a = c .before .before .before .before .before .before .before .before .before .before .before .before .before .before .before .before .before .before .args in
+    let k = c .before .before .before .before .check-with-betas in
+    enumeration-refused-early (a .n) (a .floor) (a .a .now) (a .b .now) (a .m .now) (a .us .now) (a .vs .now) (a .betas .now) (a .factors .now) (a .manner) (a .squares .now) (a .fourths .now) (a .work .now) (k .result .refusal) (k .ensures .refusal) (c .if1 .taken)
+
+-- src/entry.rt:58:30
+array-share-prefix-early : tie.Need-array-share-prefix-early
+array-share-prefix-early c = early-fits (c .before .before .before .before .check-with-betas .ensures .ready (c .if1 .left) .written)
+
+-- src/entry.rt:58:30
+slice-aggregate-cyclomatic : tie.Need-slice-aggregate-cyclomatic
+slice-aggregate-cyclomatic c = early-part (c .before .before .before .before .before .check-with-betas .ensures .ready (c .before .if1 .left) .written)
+
+-- src/entry.rt:58:47
+array-share-prefix-late : tie.Need-array-share-prefix-late
+array-share-prefix-late c = late-fits (c .before .before .before .before .before .check-with-betas .ensures .ready (c .before .if1 .left) .written)
+
+-- src/entry.rt:58:47
+slice-aggregate-cyclomatic-2 : tie.Need-slice-aggregate-cyclomatic-2
+slice-aggregate-cyclomatic-2 c = late-part (c .before .before .before .before .before .before .check-with-betas .ensures .ready (c .before .before .if1 .left) .written)
+
+-- src/entry.rt:58:9
+cyclomatic-requires : tie.Need-cyclomatic-requires
+cyclomatic-requires c κs = let g = c .before .before .before .before .before .before .check-with-betas .ensures .ready (c .before .before .if1 .left) in (joined g, g .edges .few)
+
+-- src/entry.rt:69:9
+mul-check-enumeration : tie.Need-mul-check-enumeration
+mul-check-enumeration c =
+    let j = c .before .before .before .before .before .before .before .check-with-betas .ensures in
+    omega (arith, few-products _ _ (j .betas-pass (c .before .before .before .if1 .left) .few) (j .ready (c .before .before .before .if1 .left) .passed .few-pairs))
+
+-- src/entry.rt:59:9
+check-enumeration-requires : tie.Need-check-enumeration-requires
+check-enumeration-requires c κs =
+    let j = c .before .before .before .before .before .before .before .check-with-betas .ensures in
+    let g = j .ready (c .before .before .before .if1 .left) in
+    (g .pairs, g .edges .few, g .edges .narrow, g .few-edges, j .betas-pass (c .before .before .before .if1 .left) .few)
+
+-- src/entry.rt:75:9
+returns-2 : tie.Need-returns-2
+returns-2 c =
+    let a = c .before .before .before .before .before .before .before .before .before .before .before .before .before .before .before .before .before .before .before .before .before .before .before .args in
+    let k = c .before .before .before .before .before .before .before .before .before .check-with-betas in
+    let v = c .before .before .before .before .before .if1 .left in
+    let g = k .ensures .ready v in
+    let f = c .before .before .cyclomatic in
+    let h = c .before .check-enumeration in
+    let free = free-kept g (f .result) (f .ensures .1) in
+    enumeration-refused-lists (a .n) (a .floor) (a .a .now) (a .b .now) (a .m .now) (a .us .now) (a .vs .now) (a .betas .now) (a .factors .now) (a .manner) (a .squares .now) (a .fourths .now) (a .work .now) (k .result .refusal) (k .ensures .refusal) v (h .result) (enumeration-lists g (length (a .betas .now)) (a .factors .now) (f .result) (freeCount (earlyEnds (kept (a .a .now) (a .b .now) (a .m .now))) (lateEnds (kept (a .a .now) (a .b .now) (a .m .now)))) 34 (misfits (length (a .betas .now) * length (a .us .now)) (length (a .squares .now)) (length (a .fourths .now))) (length (a .work .now)) (h .result) free (h .ensures)) (c .if2 .taken)
+
+-- src/entry.rt:77:9
+is-each-requires : tie.Need-is-each-requires
+is-each-requires c κs = search needs
+
+-- src/entry.rt:81:9
+array-share-prefix-early-2 : tie.Need-array-share-prefix-early-2
+array-share-prefix-early-2 c = early-fits (c .before .before .before .before .before .before .before .before .before .before .check-with-betas .ensures .ready (c .before .before .before .before .before .before .if1 .left) .written)
+
+-- src/entry.rt:81:9
+slice-aggregate-enumerate-job : tie.Need-slice-aggregate-enumerate-job
+slice-aggregate-enumerate-job c = early-part (c .before .before .before .before .before .before .before .before .before .before .before .check-with-betas .ensures .ready (c .before .before .before .before .before .before .before .if1 .left) .written)
+
+-- src/entry.rt:82:9
+array-share-prefix-late-2 : tie.Need-array-share-prefix-late-2
+array-share-prefix-late-2 c = late-fits (c .before .before .before .before .before .before .before .before .before .before .before .check-with-betas .ensures .ready (c .before .before .before .before .before .before .before .if1 .left) .written)
+
+-- src/entry.rt:82:9
+slice-aggregate-enumerate-job-2 : tie.Need-slice-aggregate-enumerate-job-2
+slice-aggregate-enumerate-job-2 c = late-part (c .before .before .before .before .before .before .before .before .before .before .before .before .check-with-betas .ensures .ready (c .before .before .before .before .before .before .before .before .if1 .left) .written)
+
+-- src/entry.rt:78:8
+enumerate-job-requires : tie.Need-enumerate-job-requires
+enumerate-job-requires c κs =
+    let a = c .before .before .before .before .before .before .before .before .before .before .before .before .before .before .before .before .before .before .before .before .before .before .before .before .before .before .before .before .before .args in
+    let k = c .before .before .before .before .before .before .before .before .before .before .before .before .before .before .before .check-with-betas in
+    let v = c .before .before .before .before .before .before .before .before .before .before .before .if1 .left in
+    let g = k .ensures .ready v in
+    let f = c .before .before .before .before .before .before .before .before .cyclomatic in
+    let h = c .before .before .before .before .before .before .before .check-enumeration in
+    let z = c .before .before .before .before .before .before .if2 .left in
+    let p = enumeration-passed g (length (a .betas .now)) (a .factors .now) (f .result) 34 (misfits (length (a .betas .now) * length (a .us .now)) (length (a .squares .now)) (length (a .fourths .now))) (length (a .work .now)) (h .result) (k .ensures .betas-pass v .few) (h .ensures) z in
+    let q = fits-both (length (a .betas .now) * length (a .us .now)) (length (a .squares .now)) (length (a .fourths .now)) (p .1) in
+    (p .0, free-is g (f .result) (f .ensures .1), p .2, q .0, q .1)
+
+-- src/entry.rt:93:31
+pow2-requires : tie.Need-pow2-requires
+pow2-requires c κs =
+    let a = c .before .before .before .before .before .before .before .before .before .before .before .before .before .before .before .before .before .before .before .before .before .before .before .before .before .before .before .before .before .before .before .before .before .before .before .before .before .args in
+    let k = c .before .before .before .before .before .before .before .before .before .before .before .before .before .before .before .before .before .before .before .before .before .before .before .check-with-betas in
+    let v = c .before .before .before .before .before .before .before .before .before .before .before .before .before .before .before .before .before .before .before .if1 .left in
+    let g = k .ensures .ready v in
+    let f = c .before .before .before .before .before .before .before .before .before .before .before .before .before .before .before .before .cyclomatic in
+    let h = c .before .before .before .before .before .before .before .before .before .before .before .before .before .before .before .check-enumeration in
+    let z = c .before .before .before .before .before .before .before .before .before .before .before .before .before .before .if2 .left in
+    let p = enumeration-passed g (length (a .betas .now)) (a .factors .now) (f .result) 34 (misfits (length (a .betas .now) * length (a .us .now)) (length (a .squares .now)) (length (a .fourths .now))) (length (a .work .now)) (h .result) (k .ensures .betas-pass v .few) (h .ensures) z in
+    omega (arith, p .2)
+
+-- src/entry.rt:93:9
+same-length : tie.Need-same-length
+same-length c = c .before .before .before .before .before .before .before .before .enumerate-job .kept .1 .1 .1 .1 .1 .1 .1 .1 .1 .1 .0
+
+-- src/entry.rt:93:9
+same-length-2 : tie.Need-same-length-2
+same-length-2 c = c .before .before .before .before .before .before .before .before .enumerate-job .kept .1 .1 .1 .1 .1 .1 .1 .1 .1 .1 .1 .0
+
+-- src/entry.rt:93:9
+same-length-3 : tie.Need-same-length-3
+same-length-3 c = c .before .before .before .before .before .before .before .before .enumerate-job .kept .1 .1 .1 .1 .1 .1 .1 .1 .1 .1 .1 .1 .0
+
+-- src/entry.rt:93:9
+returns-3 : tie.Need-returns-3
+returns-3 c =
+    let a = c .before .before .before .before .before .before .before .before .before .before .before .before .before .before .before .before .before .before .before .before .before .before .before .before .before .before .before .before .before .before .before .before .before .before .before .before .before .before .args in
+    let k = c .before .before .before .before .before .before .before .before .before .before .before .before .before .before .before .before .before .before .before .before .before .before .before .before .check-with-betas in
+    let v = c .before .before .before .before .before .before .before .before .before .before .before .before .before .before .before .before .before .before .before .before .if1 .left in
+    let g = k .ensures .ready v in
+    let f = c .before .before .before .before .before .before .before .before .before .before .before .before .before .before .before .before .before .cyclomatic in
+    let h = c .before .before .before .before .before .before .before .before .before .before .before .before .before .before .before .before .check-enumeration in
+    let free = free-kept g (f .result) (f .ensures .1) in
+    let z = c .before .before .before .before .before .before .before .before .before .before .before .before .before .before .before .if2 .left in
+    let t = c .before .before .before .before .before .before .before .before .enumerate-job in
+    let m = c .before .before .before .before .before .before .before .before .before .before .before .before .before .before .is-each in
+    let d = enumeration-done g (length (a .betas .now)) (a .factors .now) (t .result) (t .last .1 .1 .1 .1 .1 .1 .1 .1 .1 .1 .0) (t .last .1 .1 .1 .1 .1 .1 .1 .1 .1 .1 .1 .0) (a .work .now) (t .last .1 .1 .1 .1 .1 .1 .1 .1 .1 .1 .1 .1 .0) (cond (m .result) perElement block) (mannerOf (a .manner)) (m .ensures) (t .ensures) in
+    enumeration-added (a .n) (a .floor) (a .a .now) (a .b .now) (a .m .now) (a .us .now) (a .vs .now) (a .betas .now) (a .factors .now) (a .manner) (a .squares .now) (a .fourths .now) (a .work .now) (k .result .refusal) (k .ensures .refusal) v (h .result) (enumeration-lists g (length (a .betas .now)) (a .factors .now) (f .result) (freeCount (earlyEnds (kept (a .a .now) (a .b .now) (a .m .now))) (lateEnds (kept (a .a .now) (a .b .now) (a .m .now)))) 34 (misfits (length (a .betas .now) * length (a .us .now)) (length (a .squares .now)) (length (a .fourths .now))) (length (a .work .now)) (h .result) free (h .ensures)) z (t .result) (t .last .1 .1 .1 .1 .1 .1 .1 .1 .1 .1 .0) (t .last .1 .1 .1 .1 .1 .1 .1 .1 .1 .1 .1 .0) (t .last .1 .1 .1 .1 .1 .1 .1 .1 .1 .1 .1 .1 .0) d (c .before .if3 .taken) (c .pow2 .result) (c .pow2 .ensures ∙ ap (λ (i : ℕ). 2 ^ i) free)
+
+-- src/entry.rt:17:1
+same-length-4 : tie.Need-same-length-4
+same-length-4 c = c .before .before .before .before .before .before .before .enumerate-job .kept .1 .1 .1 .1 .1 .1 .1 .1 .1 .1 .0
+
+-- src/entry.rt:17:1
+same-length-5 : tie.Need-same-length-5
+same-length-5 c = c .before .before .before .before .before .before .before .enumerate-job .kept .1 .1 .1 .1 .1 .1 .1 .1 .1 .1 .1 .0
+
+-- src/entry.rt:17:1
+same-length-6 : tie.Need-same-length-6
+same-length-6 c = c .before .before .before .before .before .before .before .enumerate-job .kept .1 .1 .1 .1 .1 .1 .1 .1 .1 .1 .1 .1 .0
+
+-- src/entry.rt:17:1
+returns-4 : tie.Need-returns-4
+returns-4 c =
+    let a = c .before .before .before .before .before .before .before .before .before .before .before .before .before .before .before .before .before .before .before .before .before .before .before .before .before .before .before .before .before .before .before .before .before .before .before .before .before .args in
+    let k = c .before .before .before .before .before .before .before .before .before .before .before .before .before .before .before .before .before .before .before .before .before .before .before .check-with-betas in
+    let v = c .before .before .before .before .before .before .before .before .before .before .before .before .before .before .before .before .before .before .before .if1 .left in
+    let g = k .ensures .ready v in
+    let f = c .before .before .before .before .before .before .before .before .before .before .before .before .before .before .before .before .cyclomatic in
+    let h = c .before .before .before .before .before .before .before .before .before .before .before .before .before .before .before .check-enumeration in
+    let free = free-kept g (f .result) (f .ensures .1) in
+    let z = c .before .before .before .before .before .before .before .before .before .before .before .before .before .before .if2 .left in
+    let p = enumeration-passed g (length (a .betas .now)) (a .factors .now) (f .result) 34 (misfits (length (a .betas .now) * length (a .us .now)) (length (a .squares .now)) (length (a .fourths .now))) (length (a .work .now)) (h .result) (k .ensures .betas-pass v .few) (h .ensures) z in
+    let q = fits-both (length (a .betas .now) * length (a .us .now)) (length (a .squares .now)) (length (a .fourths .now)) (p .1) in
+    let t = c .before .before .before .before .before .before .before .enumerate-job in
+    let m = c .before .before .before .before .before .before .before .before .before .before .before .before .before .is-each in
+    let d = enumeration-done g (length (a .betas .now)) (a .factors .now) (t .result) (t .last .1 .1 .1 .1 .1 .1 .1 .1 .1 .1 .0) (t .last .1 .1 .1 .1 .1 .1 .1 .1 .1 .1 .1 .0) (a .work .now) (t .last .1 .1 .1 .1 .1 .1 .1 .1 .1 .1 .1 .1 .0) (cond (m .result) perElement block) (mannerOf (a .manner)) (m .ensures) (t .ensures) in
+    enumeration-refused-14 (a .n) (a .floor) (a .a .now) (a .b .now) (a .m .now) (a .us .now) (a .vs .now) (a .betas .now) (a .factors .now) (a .manner) (a .squares .now) (a .fourths .now) (a .work .now) (k .result .refusal) (k .ensures .refusal) v (h .result) (enumeration-lists g (length (a .betas .now)) (a .factors .now) (f .result) (freeCount (earlyEnds (kept (a .a .now) (a .b .now) (a .m .now))) (lateEnds (kept (a .a .now) (a .b .now) (a .m .now)))) 34 (misfits (length (a .betas .now) * length (a .us .now)) (length (a .squares .now)) (length (a .fourths .now))) (length (a .work .now)) (h .result) free (h .ensures)) z (t .result) (t .last .1 .1 .1 .1 .1 .1 .1 .1 .1 .1 .0) (t .last .1 .1 .1 .1 .1 .1 .1 .1 .1 .1 .1 .0) (t .last .1 .1 .1 .1 .1 .1 .1 .1 .1 .1 .1 .1 .0) d (c .if3 .left) (q .0) (q .1)
+
+pub exhaustive-spec : {M : Type 1} → statement M
+exhaustive-spec =
+    tie.close
+    (tie.spec
+    slice-aggregate-check-with-betas
+    slice-aggregate-check-with-betas-2
+    slice-aggregate-check-with-betas-3
+    check-with-betas-requires
+    returns
+    array-share-prefix-early
+    slice-aggregate-cyclomatic
+    array-share-prefix-late
+    slice-aggregate-cyclomatic-2
+    cyclomatic-requires
+    mul-check-enumeration
+    check-enumeration-requires
+    returns-2
+    is-each-requires
+    array-share-prefix-early-2
+    slice-aggregate-enumerate-job
+    array-share-prefix-late-2
+    slice-aggregate-enumerate-job-2
+    enumerate-job-requires
+    pow2-requires
+    same-length
+    same-length-2
+    same-length-3
+    returns-3
+    same-length-4
+    same-length-5
+    same-length-6
+    returns-4)

@@ -1,0 +1,96 @@
+// The totals of all configurations, for callers.
+ghost use Rattle.totals.specs.Calls.{Enumerated};
+use crate::job::enumerate_job;
+use checks::Answer;
+use forest::cyclomatic;
+use glass::Manner;
+use glass::is_each;
+use lent::check_enumeration;
+use refuse::check_with_betas;
+use sweep::pow2;
+
+// At most so many free edges are enumerated.
+const FREE: usize = 34;
+
+// Writes the sums of the squares and of the fourth powers of every correlation, over all configurations, for each beta and pair. Two
+// factors are lent for each beta and kept edge. Answers the count of configurations, or the refusal.
+pub fn exhaustive(
+    n: usize,
+    floor: usize,
+    a: &[usize],
+    b: &[usize],
+    m: &[f64],
+    us: &[usize],
+    vs: &[usize],
+    betas: &[f64],
+    factors: &[f64],
+    manner: Manner,
+    squares: &mut [f64],
+    fourths: &mut [f64],
+    work: &mut [f64],
+) -> Answer
+    ensures { λ r. ⌜ Enumerated n floor (now (a .entry)) (now (b .entry)) (now (m .entry)) (now (us .entry)) (now (vs .entry))
+        (now (betas .entry)) (now (factors .entry)) manner r (now (squares .entry)) (now (squares .exit))
+        (now (fourths .entry)) (now (fourths .exit)) (now (work .entry)) (now (work .exit)) ⌝ }
+{
+    let mut early = [0usize; 4096];
+    let mut late = [0usize; 4096];
+    let mut mag = [0.0f64; 4096];
+    let job = check_with_betas(
+        n,
+        floor,
+        a,
+        b,
+        m,
+        us,
+        vs,
+        betas,
+        &mut early,
+        &mut late,
+        &mut mag,
+    );
+    let refused = job.refusal;
+    if refused != 0 {
+        return Answer::Refused(refused);
+    }
+    let w = job.window;
+    let edges = job.edges;
+    let free = cyclomatic(n, &early[..edges], &late[..edges]);
+    let unfit = check_enumeration(
+        n,
+        w,
+        edges,
+        us,
+        vs,
+        betas.len(),
+        factors,
+        free,
+        FREE,
+        betas.len() * us.len(),
+        squares.len(),
+        fourths.len(),
+        work.len(),
+    );
+    if unfit != 0 {
+        return Answer::Refused(unfit);
+    }
+    let each = is_each(manner);
+    if enumerate_job(
+        n,
+        w,
+        &early[..edges],
+        &late[..edges],
+        us,
+        vs,
+        factors,
+        betas.len(),
+        free,
+        each,
+        squares,
+        fourths,
+        work,
+    ) {
+        return Answer::Number(pow2(free));
+    }
+    Answer::Refused(14)
+}

@@ -1,0 +1,3 @@
+mod Keeping
+mod Chaining
+mod Building

@@ -1,0 +1,138 @@
+-- The kept edges of the first i raw ones stand at the fronts of the buffers.
+use mathlib.Core.Bool.{true, false}
+use Rattle.kept.proofs.Keeping.{Keeping, keep-none, keep-not, keep-it, keep-all, keep-room, ne-eq}
+use lib.ListN.{length}
+use Prim.Native.Nat.{_-_}
+use borrow.Author.Needs.{needs}
+use native.Mathlib.Omega.{arith}
+use Rattle.kept.proofs.keep.keep.Statement.{statement}
+use Rattle.kept.proofs.keep.keep.Tie as tie
+
+abbrev Inv-loop : tie.InvT-loop
+Inv-loop a b m early₀ late₀ mag₀ k₀ i₀ early late mag k i = Keeping a b m i k early₀ early late₀ late mag₀ mag
+
+abbrev μ-loop : tie.MeasureT-loop
+μ-loop a b m early₀ late₀ mag₀ k₀ i₀ early late mag k i = length a - i
+
+loop-holds : tie.Need-loop-holds Inv-loop μ-loop
+loop-holds c = keep-none _ _ _ _ _ _ (c .before .before .before .before .before .before .pre .2)
+
+mul-smaller : tie.Need-mul-smaller Inv-loop μ-loop
+mul-smaller c = omega arith
+
+shared-slice-read-smaller : tie.Need-shared-slice-read-smaller Inv-loop μ-loop
+shared-slice-read-smaller c = omega arith
+
+mul-smaller-2 : tie.Need-mul-smaller-2 Inv-loop μ-loop
+mul-smaller-2 c = omega arith
+
+shared-slice-read-smaller-2 : tie.Need-shared-slice-read-smaller-2 Inv-loop μ-loop
+shared-slice-read-smaller-2 c = omega arith
+
+smaller-requires : tie.Need-smaller-requires Inv-loop μ-loop
+smaller-requires c κs = search needs
+
+mul-larger : tie.Need-mul-larger Inv-loop μ-loop
+mul-larger c = omega arith
+
+shared-slice-read-larger : tie.Need-shared-slice-read-larger Inv-loop μ-loop
+shared-slice-read-larger c = omega arith
+
+mul-larger-2 : tie.Need-mul-larger-2 Inv-loop μ-loop
+mul-larger-2 c = omega arith
+
+shared-slice-read-larger-2 : tie.Need-shared-slice-read-larger-2 Inv-loop μ-loop
+shared-slice-read-larger-2 c = omega arith
+
+larger-requires : tie.Need-larger-requires Inv-loop μ-loop
+larger-requires c κs = search needs
+
+mul-w : tie.Need-mul-w Inv-loop μ-loop
+mul-w c = omega arith
+
+shared-slice-read-w : tie.Need-shared-slice-read-w Inv-loop μ-loop
+shared-slice-read-w c = omega arith
+
+add-i : tie.Need-add-i Inv-loop μ-loop
+add-i c = omega arith
+
+mul-early : tie.Need-mul-early Inv-loop μ-loop
+mul-early c = omega (arith, keep-room (c .before .before .before .before .before .before .before .before .before .loop .inv) (c .before .before .before .before .before .before .before .before .loop-test .taken) (ne-eq _ _ false (c .if1 .taken)), c .before .before .before .before .before .before .before .before .before .loop .inv .fits .earlies, c .before .before .before .before .before .before .before .before .before .loop .inv .fits .lates, c .before .before .before .before .before .before .before .before .before .loop .inv .fits .mags, c .before .before .before .before .before .before .before .before .before .loop .inv .earlies, c .before .before .before .before .before .before .before .before .before .loop .inv .lates, c .before .before .before .before .before .before .before .before .before .loop .inv .mags)
+
+slice-write-early : tie.Need-slice-write-early Inv-loop μ-loop
+slice-write-early c = omega (arith, keep-room (c .before .before .before .before .before .before .before .before .before .loop .inv) (c .before .before .before .before .before .before .before .before .loop-test .taken) (ne-eq _ _ false (c .if1 .taken)), c .before .before .before .before .before .before .before .before .before .loop .inv .fits .earlies, c .before .before .before .before .before .before .before .before .before .loop .inv .fits .lates, c .before .before .before .before .before .before .before .before .before .loop .inv .fits .mags, c .before .before .before .before .before .before .before .before .before .loop .inv .earlies, c .before .before .before .before .before .before .before .before .before .loop .inv .lates, c .before .before .before .before .before .before .before .before .before .loop .inv .mags)
+
+mul-late : tie.Need-mul-late Inv-loop μ-loop
+mul-late c = omega (arith, keep-room (c .before .before .before .before .before .before .before .before .before .loop .inv) (c .before .before .before .before .before .before .before .before .loop-test .taken) (ne-eq _ _ false (c .if1 .taken)), c .before .before .before .before .before .before .before .before .before .loop .inv .fits .earlies, c .before .before .before .before .before .before .before .before .before .loop .inv .fits .lates, c .before .before .before .before .before .before .before .before .before .loop .inv .fits .mags, c .before .before .before .before .before .before .before .before .before .loop .inv .earlies, c .before .before .before .before .before .before .before .before .before .loop .inv .lates, c .before .before .before .before .before .before .before .before .before .loop .inv .mags)
+
+slice-write-late : tie.Need-slice-write-late Inv-loop μ-loop
+slice-write-late c = omega (arith, keep-room (c .before .before .before .before .before .before .before .before .before .loop .inv) (c .before .before .before .before .before .before .before .before .loop-test .taken) (ne-eq _ _ false (c .if1 .taken)), c .before .before .before .before .before .before .before .before .before .loop .inv .fits .earlies, c .before .before .before .before .before .before .before .before .before .loop .inv .fits .lates, c .before .before .before .before .before .before .before .before .before .loop .inv .fits .mags, c .before .before .before .before .before .before .before .before .before .loop .inv .earlies, c .before .before .before .before .before .before .before .before .before .loop .inv .lates, c .before .before .before .before .before .before .before .before .before .loop .inv .mags)
+
+mul-mag : tie.Need-mul-mag Inv-loop μ-loop
+mul-mag c = omega (arith, keep-room (c .before .before .before .before .before .before .before .before .before .loop .inv) (c .before .before .before .before .before .before .before .before .loop-test .taken) (ne-eq _ _ false (c .if1 .taken)), c .before .before .before .before .before .before .before .before .before .loop .inv .fits .earlies, c .before .before .before .before .before .before .before .before .before .loop .inv .fits .lates, c .before .before .before .before .before .before .before .before .before .loop .inv .fits .mags, c .before .before .before .before .before .before .before .before .before .loop .inv .earlies, c .before .before .before .before .before .before .before .before .before .loop .inv .lates, c .before .before .before .before .before .before .before .before .before .loop .inv .mags)
+
+slice-write-mag : tie.Need-slice-write-mag Inv-loop μ-loop
+slice-write-mag c = omega (arith, keep-room (c .before .before .before .before .before .before .before .before .before .loop .inv) (c .before .before .before .before .before .before .before .before .loop-test .taken) (ne-eq _ _ false (c .if1 .taken)), c .before .before .before .before .before .before .before .before .before .loop .inv .fits .earlies, c .before .before .before .before .before .before .before .before .before .loop .inv .fits .lates, c .before .before .before .before .before .before .before .before .before .loop .inv .fits .mags, c .before .before .before .before .before .before .before .before .before .loop .inv .earlies, c .before .before .before .before .before .before .before .before .before .loop .inv .lates, c .before .before .before .before .before .before .before .before .before .loop .inv .mags)
+
+add-k : tie.Need-add-k Inv-loop μ-loop
+add-k c = omega (arith, keep-room (c .before .before .before .before .before .before .before .before .before .loop .inv) (c .before .before .before .before .before .before .before .before .loop-test .taken) (ne-eq _ _ false (c .if1 .taken)), c .before .before .before .before .before .before .before .before .before .loop .inv .fits .earlies, c .before .before .before .before .before .before .before .before .before .loop .inv .fits .lates, c .before .before .before .before .before .before .before .before .before .loop .inv .fits .mags, c .before .before .before .before .before .before .before .before .before .loop .inv .earlies, c .before .before .before .before .before .before .before .before .before .loop .inv .lates, c .before .before .before .before .before .before .before .before .before .loop .inv .mags)
+
+loop-less : tie.Need-loop-less Inv-loop μ-loop
+loop-less c = omega arith
+
+loop-again : tie.Need-loop-again Inv-loop μ-loop
+loop-again c = keep-it (c .before .before .before .before .before .before .before .before .before .loop .inv) (c .before .before .before .before .before .before .before .before .loop-test .taken) (ne-eq _ _ false (c .if1 .taken)) _ _ (c .before .before .before .before .before .smaller .ensures) (c .before .before .larger .ensures)
+
+loop-less-2 : tie.Need-loop-less-2 Inv-loop μ-loop
+loop-less-2 c = omega arith
+
+loop-again-2 : tie.Need-loop-again-2 Inv-loop μ-loop
+loop-again-2 c = keep-not (c .before .before .before .before .before .before .before .before .before .loop .inv) (c .before .before .before .before .before .before .before .before .loop-test .taken) (ne-eq _ _ true (c .if1 .left))
+
+same-length : tie.Need-same-length Inv-loop μ-loop
+same-length c = omega arith
+
+same-length-2 : tie.Need-same-length-2 Inv-loop μ-loop
+same-length-2 c = omega arith
+
+same-length-3 : tie.Need-same-length-3 Inv-loop μ-loop
+same-length-3 c = omega arith
+
+returns : tie.Need-returns Inv-loop μ-loop
+returns c = keep-all (c .before .loop .inv) (c .loop-test .left)
+
+pub keep-spec : {M : Type 1} → statement M
+keep-spec =
+    tie.close
+    (tie.spec
+    Inv-loop
+    μ-loop
+    loop-holds
+    mul-smaller
+    shared-slice-read-smaller
+    mul-smaller-2
+    shared-slice-read-smaller-2
+    smaller-requires
+    mul-larger
+    shared-slice-read-larger
+    mul-larger-2
+    shared-slice-read-larger-2
+    larger-requires
+    mul-w
+    shared-slice-read-w
+    add-i
+    mul-early
+    slice-write-early
+    mul-late
+    slice-write-late
+    mul-mag
+    slice-write-mag
+    add-k
+    loop-less
+    loop-again
+    loop-less-2
+    loop-again-2
+    same-length
+    same-length-2
+    same-length-3
+    returns)

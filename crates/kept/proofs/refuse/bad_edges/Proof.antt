@@ -1,0 +1,68 @@
+-- A search over the edges: none was bad so far.
+use borrow.Author.Needs.{needs}
+use Rattle.checks.specs.Request.{badEdge}
+use Rattle.vector.specs.Search.{some, start, hit, miss, none}
+use lib.ListN.{length}
+use native.Mathlib.Omega.{arith}
+use Prim.Native.Nat.{_-_, _≤_}
+use mathlib.Core.Bool.{false}
+use mathlib.Core.Path.{_≡_}
+use Rattle.kept.proofs.refuse.bad_edges.Statement.{statement}
+use Rattle.kept.proofs.refuse.bad_edges.Tie as tie
+
+abbrev Inv-loop : tie.InvT-loop
+Inv-loop n a b i₀ i = (some (badEdge n a b) i ≡ false) × (i ≤ length a)
+
+abbrev μ-loop : tie.MeasureT-loop
+μ-loop n a b i₀ i = length a - i
+
+loop-holds : tie.Need-loop-holds Inv-loop μ-loop
+loop-holds c = (start _, omega arith)
+
+mul-bad-edge : tie.Need-mul-bad-edge Inv-loop μ-loop
+mul-bad-edge c = omega arith
+
+shared-slice-read-bad-edge : tie.Need-shared-slice-read-bad-edge Inv-loop μ-loop
+shared-slice-read-bad-edge c = omega arith
+
+mul-bad-edge-2 : tie.Need-mul-bad-edge-2 Inv-loop μ-loop
+mul-bad-edge-2 c = omega arith
+
+shared-slice-read-bad-edge-2 : tie.Need-shared-slice-read-bad-edge-2 Inv-loop μ-loop
+shared-slice-read-bad-edge-2 c = omega arith
+
+bad-edge-requires : tie.Need-bad-edge-requires Inv-loop μ-loop
+bad-edge-requires c κs = search needs
+
+returns : tie.Need-returns Inv-loop μ-loop
+returns c = hit _ _ _ (c .before .before .before .before .loop-test .taken) _ (c .before .bad-edge .ensures) (c .if1 .taken)
+
+add-i : tie.Need-add-i Inv-loop μ-loop
+add-i c = omega arith
+
+loop-less : tie.Need-loop-less Inv-loop μ-loop
+loop-less c = omega arith
+
+loop-again : tie.Need-loop-again Inv-loop μ-loop
+loop-again c = (miss _ _ (c .before .before .before .before .before .loop .inv .0) _ (c .before .bad-edge .ensures) (c .if1 .left), omega arith)
+
+returns-2 : tie.Need-returns-2 Inv-loop μ-loop
+returns-2 c = none _ _ (c .before .loop .i) (c .before .loop .inv .0) (c .loop-test .left) (c .before .loop .inv .1)
+
+pub bad-edges-spec : {M : Type 1} → statement M
+bad-edges-spec =
+    tie.close
+    (tie.spec
+    Inv-loop
+    μ-loop
+    loop-holds
+    mul-bad-edge
+    shared-slice-read-bad-edge
+    mul-bad-edge-2
+    shared-slice-read-bad-edge-2
+    bad-edge-requires
+    returns
+    add-i
+    loop-less
+    loop-again
+    returns-2)

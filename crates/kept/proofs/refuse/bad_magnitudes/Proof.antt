@@ -1,0 +1,61 @@
+-- A search over the magnitudes: none was bad so far.
+use borrow.Author.Needs.{needs}
+use Rattle.checks.specs.Request.{oversized}
+use Rattle.vector.specs.Search.{some, start, hit, miss, none}
+use lib.Ieee.{nan}
+use lib.ListN.{length, getD}
+use native.Mathlib.Omega.{arith}
+use Prim.Native.Nat.{_-_, _≤_}
+use mathlib.Core.Bool.{false}
+use mathlib.Core.Path.{_≡_}
+use Rattle.kept.proofs.refuse.bad_magnitudes.Statement.{statement}
+use Rattle.kept.proofs.refuse.bad_magnitudes.Tie as tie
+
+abbrev Inv-loop : tie.InvT-loop
+Inv-loop m i₀ i = (some (λ e. oversized (getD m e nan)) i ≡ false) × (i ≤ length m)
+
+abbrev μ-loop : tie.MeasureT-loop
+μ-loop m i₀ i = length m - i
+
+loop-holds : tie.Need-loop-holds Inv-loop μ-loop
+loop-holds c = (start _, omega arith)
+
+mul-is-oversized : tie.Need-mul-is-oversized Inv-loop μ-loop
+mul-is-oversized c = omega arith
+
+shared-slice-read-is-oversized : tie.Need-shared-slice-read-is-oversized Inv-loop μ-loop
+shared-slice-read-is-oversized c = omega arith
+
+is-oversized-requires : tie.Need-is-oversized-requires Inv-loop μ-loop
+is-oversized-requires c κs = search needs
+
+returns : tie.Need-returns Inv-loop μ-loop
+returns c = hit _ _ _ (c .before .before .before .loop-test .taken) _ (c .before .is-oversized .ensures) (c .if1 .taken)
+
+add-i : tie.Need-add-i Inv-loop μ-loop
+add-i c = omega arith
+
+loop-less : tie.Need-loop-less Inv-loop μ-loop
+loop-less c = omega arith
+
+loop-again : tie.Need-loop-again Inv-loop μ-loop
+loop-again c = (miss _ _ (c .before .before .before .before .loop .inv .0) _ (c .before .is-oversized .ensures) (c .if1 .left), omega arith)
+
+returns-2 : tie.Need-returns-2 Inv-loop μ-loop
+returns-2 c = none _ _ (c .before .loop .i) (c .before .loop .inv .0) (c .loop-test .left) (c .before .loop .inv .1)
+
+pub bad-magnitudes-spec : {M : Type 1} → statement M
+bad-magnitudes-spec =
+    tie.close
+    (tie.spec
+    Inv-loop
+    μ-loop
+    loop-holds
+    mul-is-oversized
+    shared-slice-read-is-oversized
+    is-oversized-requires
+    returns
+    add-i
+    loop-less
+    loop-again
+    returns-2)

@@ -1,0 +1,66 @@
+-- The kept edges at the fronts of three lists, as parts of these lists.
+use mathlib.Core.Path.{_≡_, sym, _∙_, ap₂}
+use mathlib.Core.Bool.{false}
+use mathlib.Core.List.{List, map}
+use Prim.Native.Nat.{ℕ, _≤_, _<_}
+use native.Mathlib.Omega.{arith}
+use lib.Ieee.{Float}
+use lib.ListN.{length, take, drop, length-map, length-take}
+use lib.Seq.{take-at}
+use Rattle.vector.specs.Front.{over}
+use Rattle.checks.specs.Edges.{Kept, kept, earlyEnds, lateEnds}
+use Rattle.checks.specs.Accepted.{Lengths, Accepted, accepted, kept-inside, kept-most}
+use Rattle.kept.specs.Keep.{Written, Built, Ordered}
+
+-- the front of a buffer is what was written there
+pub front-is : {A : Type 0} (f : Kept → A) (es : List Kept) (l l₀ : List A) (k : ℕ) → k ≡ length es → l ≡ over (map f es) l₀ → take k l ≡ map f es
+front-is f es l l₀ k p q = rw q (take-at (map f es) (drop (length (map f es)) l₀) k (length-map es f ∙ sym p))
+
+module _ {a b : List ℕ} {m : List Float} {k : ℕ} {early early′ late late′ : List ℕ} {mag mag′ : List Float}
+    (W : Written a b m (length a) k early early′ late late′ mag mag′) where
+  pub front-early : take k early′ ≡ earlyEnds (kept a b m)
+  front-early = front-is (λ e. e .early) (kept a b m) early′ early k (W .edges) (W .earlies)
+
+  pub front-late : take k late′ ≡ lateEnds (kept a b m)
+  front-late = front-is (λ e. e .late) (kept a b m) late′ late k (W .edges) (W .lates)
+
+  -- the fronts as parts of the lists
+  pub early-part : k ≡ length (take k early′)
+  early-part = W .edges ∙ sym (rw front-early (length-map (kept a b m) (λ e. e .early)))
+
+  pub late-part : k ≡ length (take k late′)
+  late-part = W .edges ∙ sym (rw front-late (length-map (kept a b m) (λ e. e .late)))
+
+  pub early-fits : k ≤ length early′
+  early-fits = let l = early-part in omega (arith, length-take k early′)
+
+  pub late-fits : k ≤ length late′
+  late-fits = let l = late-part in omega (arith, length-take k late′)
+
+  pub few : Lengths a b m → k ≤ 4096
+  few l =
+      let h = kept-most a b m (length a) in
+      let f = l .few-edges in
+      omega (arith, W .edges)
+
+  -- what holds of the fronts holds of the kept edges
+  pub of-kept : {A : Type 0} (f : List ℕ → List ℕ → A) {x : A} → x ≡ f (take k early′) (take k late′)
+      → x ≡ f (earlyEnds (kept a b m)) (lateEnds (kept a b m))
+  of-kept f e = e ∙ ap₂ f front-early front-late
+
+-- ---- a graph that was accepted: what is at the fronts of the lists
+module _ {n : ℕ} {a b : List ℕ} {m : List Float} {r k : ℕ} {early early′ late late′ : List ℕ} {mag mag′ : List Float}
+    (B : Built n a b m r k early early′ late late′ mag mag′) (z : r ≡ 0) where
+  pub is-accepted : Accepted n a b m
+  is-accepted = accepted n a b m false (sym (B .refusal) ∙ z)
+
+  pub ordered-fronts : Ordered (take k early′) (take k late′)
+  ordered-fronts =
+      let W = B .written z in
+      let p = early-part W in
+      record {
+        lengths = sym (late-part W) ∙ early-part W;
+        ends = λ e h.
+            let h′ : e < length (kept a b m) = omega (arith, W .edges) in
+            rw (front-early W, front-late W) (kept-inside n a b m (is-accepted .edges) e h′ .0);
+      }

@@ -1,0 +1,155 @@
+// A sampling that passed its checks: from its kept edges to the totals.
+ghost use mathlib.Core.Path.{_≡_};
+ghost use mathlib.Core.Bool.{cond};
+ghost use Prim.Native.Nat.{_*_};
+ghost use lib.ListN.{length};
+ghost use Rattle.transfer.specs.Job.{block, perElement};
+ghost use Rattle.transfer.specs.Room.{room as roomOf};
+ghost use Rattle.transfer.specs.Rounded.{ieee};
+ghost use Rattle.transfer.specs.Totals.{square, fourth};
+ghost use Rattle.plan.specs.Layout.{Holds};
+ghost use Rattle.chunks.specs.Chunked.{Lists};
+ghost use Rattle.totals.specs.Jobs.{unsoundSampling, sampledTotals};
+ghost use Rattle.totals.specs.Finished.{Passed, Finished};
+use glass::clear;
+use places::make_plan;
+use places::order_pairs;
+use sample::sampled_totals;
+use totals::EDGES;
+use totals::PAIRS;
+use totals::PLAN;
+use totals::SUMS;
+use totals::clear_unsound;
+
+// Plans the job, orders its pairs, adds up and clears. The first six lists are made here.
+fn plan_and_sample(
+    plan: &mut [usize],
+    order: &mut [usize],
+    signs: &mut [bool],
+    c: &mut [f64],
+    subsquares: &mut [f64],
+    subfourths: &mut [f64],
+    n: usize,
+    w: usize,
+    early: &[usize],
+    late: &[usize],
+    us: &[usize],
+    vs: &[usize],
+    lent: &[f64],
+    betas: usize,
+    seed: u64,
+    from: u64,
+    to: u64,
+    samples: usize,
+    each: bool,
+    squares: &mut [f64],
+    fourths: &mut [f64],
+    work: &mut [f64],
+) -> bool
+    requires { ⌜ Passed n w (now early) (now late) (now us) (now vs) (length (now lent)) betas (length (now work))
+        × Holds (now plan) n × (length (now order) ≡ length (now us))
+        × (length (now signs) ≡ length (now early)) × (length (now c) ≡ length (now us))
+        × Lists (betas * length (now us)) (length (now subsquares)) (length (now subfourths)) (length (now squares)) (length (now fourths)) ⌝ }
+    ensures { λ r. ⌜ Finished
+        (unsoundSampling n w (now (early .entry)) (now (late .entry)) (now (lent .entry)) (cond each perElement block) (now (us .entry)) (now (vs .entry)) betas seed from to samples)
+        (sampledTotals n w (now (early .entry)) (now (late .entry)) (now (lent .entry)) (cond each perElement block) (now (us .entry)) (now (vs .entry)) betas seed from to samples (square ieee))
+        (sampledTotals n w (now (early .entry)) (now (late .entry)) (now (lent .entry)) (cond each perElement block) (now (us .entry)) (now (vs .entry)) betas seed from to samples (fourth ieee))
+        (betas * length (now (us .entry))) (roomOf n w (length (now (early .entry))) (now (us .entry)) (now (vs .entry)))
+        r (now (squares .exit)) (now (fourths .exit)) (now (work .entry)) (now (work .exit)) ⌝ }
+{
+    let layout = make_plan(plan, n, w, early, late, us, vs);
+    order_pairs(order, n, w, us, vs);
+    let end = layout.room;
+    let room = &mut work[..end];
+    let sound = sampled_totals(
+        room,
+        plan,
+        n,
+        w,
+        layout.scales,
+        each,
+        us,
+        vs,
+        order,
+        lent,
+        betas,
+        seed,
+        from,
+        to,
+        samples,
+        signs,
+        c,
+        subsquares,
+        subfourths,
+        squares,
+        fourths,
+    );
+    clear(room);
+    clear_unsound(sound, squares);
+    clear_unsound(sound, fourths);
+    sound
+}
+
+// The totals of all samples, with the room at +0.0 after. Answers whether every Z was finite and above zero; where one is not, all totals
+// are +0.0.
+pub(crate) fn sample_job(
+    n: usize,
+    w: usize,
+    early: &[usize],
+    late: &[usize],
+    us: &[usize],
+    vs: &[usize],
+    lent: &[f64],
+    betas: usize,
+    seed: u64,
+    from: u64,
+    to: u64,
+    samples: usize,
+    each: bool,
+    squares: &mut [f64],
+    fourths: &mut [f64],
+    work: &mut [f64],
+) -> bool
+    requires { ⌜ Passed n w (now early) (now late) (now us) (now vs) (length (now lent)) betas (length (now work))
+        × (length (now squares) ≡ betas * length (now us)) × (length (now fourths) ≡ betas * length (now us)) ⌝ }
+    ensures { λ r. ⌜ Finished
+        (unsoundSampling n w (now (early .entry)) (now (late .entry)) (now (lent .entry)) (cond each perElement block) (now (us .entry)) (now (vs .entry)) betas seed from to samples)
+        (sampledTotals n w (now (early .entry)) (now (late .entry)) (now (lent .entry)) (cond each perElement block) (now (us .entry)) (now (vs .entry)) betas seed from to samples (square ieee))
+        (sampledTotals n w (now (early .entry)) (now (late .entry)) (now (lent .entry)) (cond each perElement block) (now (us .entry)) (now (vs .entry)) betas seed from to samples (fourth ieee))
+        (betas * length (now (us .entry))) (roomOf n w (length (now (early .entry))) (now (us .entry)) (now (vs .entry)))
+        r (now (squares .exit)) (now (fourths .exit)) (now (work .entry)) (now (work .exit)) ⌝ }
+{
+    let mut plan = [0usize; PLAN];
+    let mut order = [0usize; PAIRS];
+    let mut signs = [false; EDGES];
+    let mut c = [0.0f64; PAIRS];
+    let mut subsquares = [0.0f64; SUMS];
+    let mut subfourths = [0.0f64; SUMS];
+    let pairs = us.len();
+    let edges = early.len();
+    let sums = squares.len();
+    plan_and_sample(
+        &mut plan,
+        &mut order[..pairs],
+        &mut signs[..edges],
+        &mut c[..pairs],
+        &mut subsquares[..sums],
+        &mut subfourths[..sums],
+        n,
+        w,
+        early,
+        late,
+        us,
+        vs,
+        lent,
+        betas,
+        seed,
+        from,
+        to,
+        samples,
+        each,
+        squares,
+        fourths,
+        work,
+    )
+}

@@ -1,0 +1,5 @@
+// The totals of drawn configurations of a strip.
+mod entry;
+mod job;
+
+pub use entry::sample;

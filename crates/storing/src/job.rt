@@ -1,0 +1,133 @@
+// An enumeration that passed its checks: from its kept edges to every correlation, stored.
+ghost use mathlib.Core.Path.{_≡_};
+ghost use mathlib.Core.Bool.{cond};
+ghost use Prim.Native.Nat.{_*_, _^_, _≤_};
+ghost use lib.ListN.{length};
+ghost use Rattle.transfer.specs.Job.{block, perElement};
+ghost use Rattle.transfer.specs.Room.{room as roomOf};
+ghost use Rattle.plan.specs.Layout.{Holds};
+ghost use Rattle.lattice.specs.Graphs.{freeCount};
+ghost use Rattle.totals.specs.Jobs.{unsoundEnumeration, storedCorrelations};
+ghost use Rattle.totals.specs.Finished.{Passed, Marks, Finished};
+use enumerate::stored_correlations;
+use forest::spanning_forest;
+use glass::clear;
+use places::make_plan;
+use places::order_pairs;
+use totals::EDGES;
+use totals::PAIRS;
+use totals::PLAN;
+use totals::clear_unsound;
+
+// Plans the job, orders its pairs, marks the tree edges, stores and clears. The first five lists are made here.
+fn plan_and_store(
+    plan: &mut [usize],
+    order: &mut [usize],
+    tree: &mut [bool],
+    signs: &mut [bool],
+    c: &mut [f64],
+    n: usize,
+    w: usize,
+    early: &[usize],
+    late: &[usize],
+    us: &[usize],
+    vs: &[usize],
+    lent: &[f64],
+    betas: usize,
+    free: usize,
+    each: bool,
+    stored: &mut [f64],
+    work: &mut [f64],
+) -> bool
+    requires { ⌜ Passed n w (now early) (now late) (now us) (now vs) (length (now lent)) betas (length (now work))
+        × (free ≡ freeCount (now early) (now late)) × (free ≤ 34) × Holds (now plan) n × (length (now order) ≡ length (now us))
+        × Marks (length (now early)) (length (now tree)) (length (now signs)) × (length (now c) ≡ length (now us))
+        × (length (now stored) ≡ betas * length (now us) * 2 ^ free) ⌝ }
+    ensures { λ r. ⌜ Finished
+        (unsoundEnumeration n w (now (early .entry)) (now (late .entry)) (now (lent .entry)) (cond each perElement block) (now (us .entry)) (now (vs .entry)) betas)
+        (storedCorrelations n w (now (early .entry)) (now (late .entry)) (now (lent .entry)) (cond each perElement block) (now (us .entry)) (now (vs .entry)) betas)
+        (storedCorrelations n w (now (early .entry)) (now (late .entry)) (now (lent .entry)) (cond each perElement block) (now (us .entry)) (now (vs .entry)) betas)
+        (betas * length (now (us .entry)) * 2 ^ free) (roomOf n w (length (now (early .entry))) (now (us .entry)) (now (vs .entry)))
+        r (now (stored .exit)) (now (stored .exit)) (now (work .entry)) (now (work .exit)) ⌝ }
+{
+    let layout = make_plan(plan, n, w, early, late, us, vs);
+    order_pairs(order, n, w, us, vs);
+    spanning_forest(n, early, late, tree);
+    let end = layout.room;
+    let room = &mut work[..end];
+    let sound = stored_correlations(
+        room,
+        plan,
+        n,
+        w,
+        layout.scales,
+        each,
+        us,
+        vs,
+        order,
+        lent,
+        betas,
+        tree,
+        signs,
+        free,
+        c,
+        stored,
+    );
+    clear(room);
+    clear_unsound(sound, stored);
+    sound
+}
+
+// The correlations of all configurations, with the room at +0.0 after. Answers whether every Z was finite and above zero; where one is
+// not, all are +0.0.
+pub(crate) fn store_job(
+    n: usize,
+    w: usize,
+    early: &[usize],
+    late: &[usize],
+    us: &[usize],
+    vs: &[usize],
+    lent: &[f64],
+    betas: usize,
+    free: usize,
+    each: bool,
+    stored: &mut [f64],
+    work: &mut [f64],
+) -> bool
+    requires { ⌜ Passed n w (now early) (now late) (now us) (now vs) (length (now lent)) betas (length (now work))
+        × (free ≡ freeCount (now early) (now late)) × (free ≤ 34)
+        × (length (now stored) ≡ betas * length (now us) * 2 ^ free) ⌝ }
+    ensures { λ r. ⌜ Finished
+        (unsoundEnumeration n w (now (early .entry)) (now (late .entry)) (now (lent .entry)) (cond each perElement block) (now (us .entry)) (now (vs .entry)) betas)
+        (storedCorrelations n w (now (early .entry)) (now (late .entry)) (now (lent .entry)) (cond each perElement block) (now (us .entry)) (now (vs .entry)) betas)
+        (storedCorrelations n w (now (early .entry)) (now (late .entry)) (now (lent .entry)) (cond each perElement block) (now (us .entry)) (now (vs .entry)) betas)
+        (betas * length (now (us .entry)) * 2 ^ free) (roomOf n w (length (now (early .entry))) (now (us .entry)) (now (vs .entry)))
+        r (now (stored .exit)) (now (stored .exit)) (now (work .entry)) (now (work .exit)) ⌝ }
+{
+    let mut plan = [0usize; PLAN];
+    let mut order = [0usize; PAIRS];
+    let mut tree = [false; EDGES];
+    let mut signs = [false; EDGES];
+    let mut c = [0.0f64; PAIRS];
+    let pairs = us.len();
+    let edges = early.len();
+    plan_and_store(
+        &mut plan,
+        &mut order[..pairs],
+        &mut tree[..edges],
+        &mut signs[..edges],
+        &mut c[..pairs],
+        n,
+        w,
+        early,
+        late,
+        us,
+        vs,
+        lent,
+        betas,
+        free,
+        each,
+        stored,
+        work,
+    )
+}

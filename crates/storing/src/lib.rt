@@ -1,0 +1,5 @@
+// The correlations of all configurations of a strip, stored.
+mod entry;
+mod job;
+
+pub use entry::exhaustive_c;

@@ -1,6 +1,0 @@
--- Laws that the proofs share.
-mod Signing
-mod Staging
-mod Calling
-mod Entering
-mod Refusing
