@@ -1,18 +1,16 @@
 -- What the loop over the lanes knows on its way, and that its result is the definition's largest entry.
 use mathlib.Core.Path.{_≡_, refl, sym, ap, _∙_}
-use mathlib.Core.Bool.{Bool, true, false, cond}
+use mathlib.Core.Bool.{cond}
 use mathlib.Core.List.{List, [], _∷_, _++_}
-use Prim.Native.Nat.{ℕ, zero, suc, _+_, _*_, _-_, _/_, _^_, _%_, _≤_}
+use Prim.Native.Nat.{ℕ, zero, suc, _+_, _*_, _-_, _/_, _^_, _≤_}
 use native.Mathlib.Numerals.{add-one}
 use native.Mathlib.Omega.{arith}
 use lib.ListN.{length, getD}
 use lib.Dec.{T}
 use lib.Pow.{pow-add}
 use lib.Ieee.{Float, nan, binary64, fits, lt}
-use borrow.Author.Tests.{eq-eqb, ne-eqb}
 use Rattle.vector.specs.Tabulate.{tabulate, tabulated}
 use Rattle.vector.specs.Part.{part, part-length, part-at}
-use Rattle.transfer.specs.Job.{block, perElement}
 use Rattle.transfer.specs.Rounded.{ieee}
 use Rattle.transfer.specs.Sweep as S
 use Rattle.sums.specs.Sums.{larger}
@@ -125,18 +123,3 @@ sixteenths w size h l =
     let e : 4 + (w - 4) ≡ w = omega arith in
     let b : 2 ^ w ≡ 16 * 2 ^ (w - 4) = ap (λ (k : ℕ). 2 ^ k) (sym e) ∙ pow-add 2 4 (w - 4) in
     omega arith
-
--- ---- when the largest entry is taken
-
-module _ (each : Bool) (m : Float) (r t : ℕ) (v : List Float) where
-  pub stored-each : each ≡ true → m ≡ S.largest ieee (ieee .𝟘) v → m ≡ S.stored ieee (cond each perElement block) r t v
-  unfolding S.stored
-  stored-each e w = rw e w
-
-  pub stored-due : each ≡ false → t % 4 ≡ r → m ≡ S.largest ieee (ieee .𝟘) v → m ≡ S.stored ieee (cond each perElement block) r t v
-  unfolding S.stored
-  stored-due e q w = rw (e, eq-eqb (t % 4) r q) w
-
-  pub stored-not : each ≡ false → (t % 4 ≡ r → ⊥) → m ≡ ieee .𝟙 → m ≡ S.stored ieee (cond each perElement block) r t v
-  unfolding S.stored
-  stored-not e q w = rw (e, ne-eqb (t % 4) r q) w

@@ -1,3 +1,2 @@
-mod SumTurn
 mod Order
 mod LargestTurn

@@ -30,7 +30,7 @@ unfoldable pub paired : (a p q : Float) → ℕ → Float
 paired a p q s = cond (eqb s 0) (sub binary64 (add binary64 a p) q) (add binary64 (sub binary64 a p) q)
 
 -- a vector's length is below 2 ^ w: bit w of an index is clear
-high-clear : (w j : ℕ) → j < 2 ^ w → differ w j ≡ bit 0 j
+pub high-clear : (w j : ℕ) → j < 2 ^ w → differ w j ≡ bit 0 j
 high-clear w j h = let z : j / 2 ^ w ≡ 0 = div-eq-of-lt h in rw z (flip (bit 0 j))
   where
     flip : (b : Bool) → not (Bool·beq b false) ≡ b

@@ -1,7 +1,7 @@
 // The largest entry of a vector, in sixteen lanes, and when it is taken.
 ghost use mathlib.Core.Path.{_≡_};
 ghost use mathlib.Core.Bool.{cond};
-ghost use Prim.Native.Nat.{_+_, _*_, _≤_};
+ghost use Prim.Native.Nat.{_+_, _*_, _^_, _≤_};
 ghost use lib.Ieee.{nan};
 ghost use lib.ListN.{length, getD};
 ghost use Rattle.vector.specs.Part.{part};
@@ -95,17 +95,24 @@ fn sixteen_lanes(v: &[f64], at: usize, n: usize) -> f64
     larger_of(larger_of(larger_of(l.a, l.b), l.c), l.d)
 }
 
-// The largest entry of the vector at place p. With a window below 4 it has fewer entries than there are lanes.
+// The largest of the 2 to the e entries at `at`. With e below 4 they are fewer than the lanes.
+pub fn largest_from(v: &[f64], at: usize, e: usize) -> f64
+    requires { ⌜ (e ≤ 24) × (at + 2 ^ e ≤ length (now v)) ⌝ }
+    ensures { λ r. ⌜ r ≡ S.largest ieee (ieee .𝟘) (part (now (v .entry)) at (2 ^ e)) ⌝ }
+{
+    let n = pow2(e);
+    if e < 4 {
+        return one_lane(v, at, n);
+    }
+    sixteen_lanes(v, at, n / 16)
+}
+
+// The largest entry of the vector at place p.
 pub fn largest_at(room: &[f64], p: usize, w: usize) -> f64
     requires { ⌜ Place (length (now room)) w p ⌝ }
     ensures { λ r. ⌜ r ≡ S.largest ieee (ieee .𝟘) (held (now (room .entry)) w p) ⌝ }
 {
-    let size = pow2(w);
-    let at = p * size;
-    if w < 4 {
-        return one_lane(room, at, size);
-    }
-    sixteen_lanes(room, at, size / 16)
+    largest_from(room, p * pow2(w), w)
 }
 
 // The stored largest entry after the step at t that gave the vector at place p. `each` is the per-element manner: after every step. In the

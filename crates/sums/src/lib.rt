@@ -13,6 +13,7 @@ use sweep::pow2;
 mod largest;
 
 pub use largest::largest_at;
+pub use largest::largest_from;
 pub use largest::stored;
 
 pub struct Two {
@@ -21,7 +22,7 @@ pub struct Two {
 }
 
 // a + p - q where s is 0, else a - p + q.
-fn paired_sum(a: f64, p: f64, q: f64, s: usize) -> f64
+pub fn paired_sum(a: f64, p: f64, q: f64, s: usize) -> f64
     ensures { λ r. ⌜ r ≡ paired a p q s ⌝ }
 {
     if s == 0 { a + p - q } else { a - p + q }
@@ -29,7 +30,7 @@ fn paired_sum(a: f64, p: f64, q: f64, s: usize) -> f64
 
 // Of the n entries at f, g and b: the products of f and b added, and those of g and b subtracted where bits 0 and d of the index differ.
 // n is even and d is not 0, so two entries that follow each other have one bit d: one test a turn.
-fn two_sums(v: &[f64], f: usize, g: usize, b: usize, n: usize, d: usize) -> Two
+pub fn two_sums(v: &[f64], f: usize, g: usize, b: usize, n: usize, d: usize) -> Two
     requires { ⌜ (f + n ≤ length (now v)) × (g + n ≤ length (now v)) × (b + n ≤ length (now v)) × (n % 2 ≡ 0) × (1 ≤ d) × (d < 64) ⌝ }
     ensures { λ r. ⌜ r .z ≡ sum ieee n (products (part (now (v .entry)) f n) (part (now (v .entry)) b n)) ⌝ }
     ensures { λ r. ⌜ r .n ≡ signedSum ieee n (differ d) (products (part (now (v .entry)) g n) (part (now (v .entry)) b n)) ⌝ }

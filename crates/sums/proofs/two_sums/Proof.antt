@@ -7,7 +7,7 @@ use Rattle.transfer.specs.Arithmetic.{sum, signedSum}
 use Rattle.transfer.specs.Rounded.{ieee}
 use Rattle.sweep.specs.Constants.{zero-is}
 use Rattle.sums.specs.Sums.{products, differ}
-use Rattle.sums.proofs.SumTurn.{product-at, sum-turn, signed-turn}
+use Rattle.sums.specs.Turn.{product-at, sum-turn, signed-turn, differ-even, differ-odd}
 use Rattle.sums.proofs.two_sums.Statement.{statement}
 use Rattle.sums.proofs.two_sums.Tie as tie
 
@@ -115,7 +115,7 @@ loop-again c =
       omega (arith, l),
       omega arith,
       sum-turn _ _ _ _ _ (i .2) (product-at (a .v .now) (a .f) _ _ _ (p .0) (p .2) l′) (product-at (a .v .now) (a .f) _ _ _ (p .0) (p .2) l),
-      signed-turn _ _ _ _ _ _ _ (p .4) (i .1) (i .3) (product-at (a .v .now) (a .g) _ _ _ (p .1) (p .2) l′)
+      signed-turn _ _ _ _ _ _ _ _ (differ-even (a .d) _ (i .1)) (differ-odd (a .d) _ (p .4) (i .1)) (i .3) (product-at (a .v .now) (a .g) _ _ _ (p .1) (p .2) l′)
           (product-at (a .v .now) (a .g) _ _ _ (p .1) (p .2) l) (c .paired-sum .ensures),
     )
 

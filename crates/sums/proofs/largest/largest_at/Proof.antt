@@ -1,32 +1,20 @@
--- A small vector goes through one lane; a larger one fills the sixteen evenly.
+-- The entries of the place.
 use native.Mathlib.Omega.{arith}
 use borrow.Author.Needs.{needs}
-use Rattle.sums.proofs.LargestTurn.{sixteenths}
 use Rattle.sums.proofs.largest.largest_at.Statement.{statement}
 use Rattle.sums.proofs.largest.largest_at.Tie as tie
 
 pow2-requires : tie.Need-pow2-requires
 pow2-requires c κs = search needs
 
-mul-at : tie.Need-mul-at
-mul-at c = rw (c .pow2 .ensures) (omega (arith, c .before .before .pre .inside))
+mul-largest-from : tie.Need-mul-largest-from
+mul-largest-from c = rw (c .pow2 .ensures) (omega (arith, c .before .before .pre .inside))
 
-one-lane-requires : tie.Need-one-lane-requires
-one-lane-requires c κs = rw (c .before .pow2 .ensures) (c .before .before .before .pre .inside)
+largest-from-requires : tie.Need-largest-from-requires
+largest-from-requires c κs = rw (c .pow2 .ensures) (c .before .before .pre .narrow, c .before .before .pre .inside)
 
 returns : tie.Need-returns
-returns c = rw (c .before .before .pow2 .ensures) at (c .one-lane .ensures)
-
-sixteen-lanes-requires : tie.Need-sixteen-lanes-requires
-sixteen-lanes-requires c κs =
-    let e = c .before .pow2 .ensures in
-    rw (sixteenths _ _ e (omega arith), e) (c .before .before .before .pre .inside)
-
-returns-2 : tie.Need-returns-2
-returns-2 c =
-    let e = c .before .before .pow2 .ensures in
-    rw (sixteenths _ _ e (omega arith), e) at (c .sixteen-lanes .ensures)
+returns c = rw (c .before .pow2 .ensures) at (c .largest-from .ensures)
 
 pub largest-at-spec : {M : Type 1} → statement M
-largest-at-spec =
-    tie.close (tie.spec pow2-requires mul-at one-lane-requires returns sixteen-lanes-requires returns-2)
+largest-at-spec = tie.close (tie.spec pow2-requires mul-largest-from largest-from-requires returns)

@@ -1,7 +1,7 @@
 -- By cases on the manner and on the step's number.
 use borrow.Author.Needs.{needs}
 use Rattle.sweep.specs.Constants.{one-is}
-use Rattle.sums.proofs.LargestTurn.{stored-each, stored-due, stored-not}
+use Rattle.sums.specs.Stored.{stored-each, stored-due, stored-not}
 use Rattle.sums.proofs.largest.stored.Statement.{statement}
 use Rattle.sums.proofs.largest.stored.Tie as tie
 

@@ -1,0 +1,41 @@
+-- The sums by halves are the definition's Z and N once the halves are those of the job's vectors.
+use mathlib.Core.Path.{_≡_, sym, _∙_}
+use Prim.Native.Nat.{ℕ, _-_, _^_, _≤_, _<_, min}
+use native.Mathlib.Nat.{min-le-left}
+use native.Mathlib.Omega.{arith}
+use lib.Ieee.{Float, binary64}
+use lib.Ieee.Fits.{mul-fits}
+use Rattle.vector.specs.Bits.{bit}
+use Rattle.transfer.specs.Arithmetic.{sum, signedSum}
+use Rattle.transfer.specs.Job.{Job}
+use Rattle.transfer.specs.Rounded.{ieee}
+use Rattle.transfer.specs.Sweep as S
+use Rattle.sums.specs.Sums.{high-clear}
+use Rattle.halves.specs.Alike.{same}
+use Rattle.halves.specs.Terms.{like, signed-same}
+use Rattle.halves.specs.Half.{thereAndBack}
+use Rattle.halves.specs.Even.{Even}
+use Rattle.halves.specs.Odd.{Odd}
+use Rattle.halves.specs.Sums.{Z-halves, direct-halves, propagated-halves}
+use Rattle.half_sums.specs.Terms.{terms, signs}
+
+-- a half's indexes are below 2 ^ w: bit w of them is clear, and the terms are signed by bit 0
+pub signs-window : (w : ℕ) (h k : ℕ → Float) → signedSum ieee (2 ^ w) (signs w w) (terms w h k) ≡ signedSum ieee (2 ^ w) (thereAndBack w (bit 0)) (terms w h k)
+signs-window w h k =
+    signed-same (2 ^ w) (signs w w) (thereAndBack w (bit 0)) (terms w h k) (terms w h k) (λ j _. mul-fits binary64 (h _) (k _))
+    (λ j b. let i = min j (2 ^ w - 1 - j) in rw (high-clear w i (omega (arith, min-le-left j (2 ^ w - 1 - j)))) (like same))
+
+module _ (J : Job Float) (h k : ℕ → Float) (u v : ℕ) (wide : 1 ≤ J .window) (even : Even (J .window) k (S.backward ieee J v)) where
+  pub Z-is : Even (J .window) h (S.forward ieee J v) → sum ieee (2 ^ J .window) (terms (J .window) h k) ≡ S.Z ieee J v
+  unfolding S.Z
+  Z-is e = sym (Z-halves (J .window) wide h k _ _ even e)
+
+  pub direct-is : v - u < J .window → Even (J .window) h (S.forward ieee J v)
+      → signedSum ieee (2 ^ J .window) (signs (J .window) (v - u)) (terms (J .window) h k) ≡ S.directN ieee J u v
+  unfolding S.directN
+  direct-is l e = sym (direct-halves (J .window) wide h k _ _ even e (v - u) l)
+
+  pub propagated-is : Odd (J .window) h (S.propagated ieee J u (v - u))
+      → signedSum ieee (2 ^ J .window) (signs (J .window) (J .window)) (terms (J .window) h k) ≡ S.propagatedN ieee J u v
+  unfolding S.propagatedN
+  propagated-is o = signs-window (J .window) h k ∙ sym (propagated-halves (J .window) wide h k _ _ even o)
