@@ -9,6 +9,7 @@ use native.Mathlib.Decide.{decLt}
 use native.Mathlib.Omega.{arith}
 use lib.ListN.{getD}
 use lib.Ieee.{Float, nan}
+use Rattle.vector.specs.Tabulate.{tabulate, tabulate-ext}
 use Rattle.transfer.specs.Job.{Step}
 use Rattle.sweep.specs.Step.{Tables, Tabled}
 use Rattle.sweep.specs.Rule.{entries, weights, blend}
@@ -91,10 +92,13 @@ module _ (s : Step Float) (sc : Float) (t : Tables) (a : Tabled s sc t) (s′ : 
       ∙ rw (across k (omega arith)) (sym (even-is s sc t a w turn (entries d src) (2 ^ (w - 1) - 1 - (2 * k + 1)) (quarter - 1 - k) (omega (arith, half)))))
 
   -- the second over it
-  pub forward-twice-is : (j : ℕ) → j < 2 * quarter → made j ≡ forwardHalf w s′ sc′ turn once j
-  forward-twice-is =
+  entry : (j : ℕ) → j < 2 * quarter → made j ≡ forwardHalf w s′ sc′ turn once j
+  entry =
       by-parity (λ j. j < 2 * quarter → made j ≡ forwardHalf w s′ sc′ turn once j)
       (λ k b.
       half-even _ _ _ _ _ _ _ _ (2 * k) k refl ∙ rw (front-is k, back-is k (omega arith)) (sym (even-is s′ sc′ t′ a′ w turn once (2 * k) k refl)))
       (λ k b.
       half-odd _ _ _ _ _ _ _ _ (2 * k + 1) k refl ∙ rw (front-is k, back-is k (omega arith)) (sym (odd-is s′ sc′ t′ a′ w turn once (2 * k + 1) k refl)))
+
+  pub forward-twice-is : tabulate made (2 * quarter) ≡ tabulate (forwardHalf w s′ sc′ turn once) (2 ^ (w - 1))
+  forward-twice-is = rw half (tabulate-ext made (forwardHalf w s′ sc′ turn once) (2 * quarter) entry)

@@ -107,3 +107,136 @@ fn forward_run(
         i += 2;
     }
 }
+
+// Both steps from the half of 2 * 2 ^ h entries at src to the one at dst, run by run: a run goes with its opposite, which begins at t.
+fn forward_runs(
+    v: &mut [f64],
+    src: usize,
+    dst: usize,
+    h: usize,
+    x: f64,
+    y: f64,
+    u: f64,
+    z: f64,
+    bits: &[usize; 4],
+    n: usize,
+    up: &[f64; 16],
+    down: &[f64; 16],
+    x2: f64,
+    y2: f64,
+    u2: f64,
+    z2: f64,
+    bits2: &[usize; 4],
+    n2: usize,
+    up2: &[f64; 16],
+    down2: &[f64; 16],
+)
+    requires { ⌜ (2 ≤ h) × (h < 23) × Apart (length (now v)) src (2 * 2 ^ h) dst (2 * 2 ^ h) × Rising (now bits) n (h + 1)
+        × Rising (now bits2) n2 (h + 1) ⌝ }
+    ensures { λ _. ⌜ now (v .exit) ≡ put (now (v .entry)) dst
+        (tabulate
+        (halfTwice x y u z x2 y2 u2 z2 (weights (now (bits .entry)) n (now (up .entry))) (weights (now (bits .entry)) n (now (down .entry)))
+        (endWeights h (now (bits .entry)) n (now (up .entry))) (endWeights h (now (bits .entry)) n (now (down .entry)))
+        (weights (now (bits2 .entry)) n2 (now (up2 .entry))) (weights (now (bits2 .entry)) n2 (now (down2 .entry)))
+        (entries (now (v .entry)) src) (fromEnd (now (v .entry)) src (2 * 2 ^ h))
+        (entries (now (v .entry)) (src + 2 ^ h)) (fromEnd (now (v .entry)) src (2 ^ h)))
+        (2 * 2 ^ h)) ⌝ }
+{
+    let end = pow2(h - 1);
+    let quarter = pow2(h);
+    let e = runs_of(bits, n, bits2, n2, h - 1);
+    let size = pow2(e);
+    let one = pattern_of(1, bits, n);
+    let low = pattern_of(1, bits2, n2);
+    let two = pattern_of(2, bits2, n2);
+    let s = src + quarter;
+    let mut k = 0usize;
+    while k < end {
+        let t = quarter - k - size;
+        let m = pattern_of(k, bits, n);
+        let r = pattern_of(t, bits, n);
+        let j = pattern_of(2 * k, bits2, n2);
+        let p = opposed(up, m, r, one);
+        let q = opposed(down, m, r, one);
+        let f = four_at(up2, j, low, two);
+        let g = four_at(down2, j, low, two);
+        forward_run(
+            v,
+            src + k,
+            s + t,
+            s + k,
+            src + t,
+            dst + 4 * k,
+            size,
+            x,
+            y,
+            u,
+            z,
+            x2,
+            y2,
+            u2,
+            z2,
+            p,
+            q,
+            f,
+            g,
+        );
+        k += size;
+    }
+}
+
+// The two forward steps from the half at place src to place dst.
+pub fn half_stride_forward(
+    room: &mut [f64],
+    src: usize,
+    dst: usize,
+    w: usize,
+    odd: bool,
+    ep: f64,
+    em: f64,
+    bits: &[usize; 4],
+    count: usize,
+    up: &[f64; 16],
+    down: &[f64; 16],
+    ep2: f64,
+    em2: f64,
+    bits2: &[usize; 4],
+    count2: usize,
+    up2: &[f64; 16],
+    down2: &[f64; 16],
+)
+    requires { ⌜ (4 ≤ w) × Places (length (now room)) w src dst × Rising (now bits) count (w - 1) × Rising (now bits2) count2 (w - 1) ⌝ }
+    ensures { λ _. ⌜ ((s : Step Float) (sc : Float) (s′ : Step Float) (sc′ : Float)
+        → Tabled s sc (tables count ep em (now (bits .entry)) (now (up .entry)) (now (down .entry)))
+        → Tabled s′ sc′ (tables count2 ep2 em2 (now (bits2 .entry)) (now (up2 .entry)) (now (down2 .entry)))
+        → now (room .exit) ≡ hold (now (room .entry)) w dst
+        (tabulate (forwardHalf w s′ sc′ (turnOf odd) (forwardHalf w s sc (turnOf odd) (entries (now (room .entry)) (src * 2 ^ w)))) (2 ^ (w - 1)))) ⌝ }
+{
+    let size = pow2(w);
+    let y = turned(odd, em);
+    let z = turned(odd, ep);
+    let y2 = turned(odd, em2);
+    let z2 = turned(odd, ep2);
+    forward_runs(
+        room,
+        src * size,
+        dst * size,
+        w - 2,
+        ep,
+        y,
+        em,
+        z,
+        bits,
+        count,
+        up,
+        down,
+        ep2,
+        y2,
+        em2,
+        z2,
+        bits2,
+        count2,
+        up2,
+        down2,
+    );
+}
