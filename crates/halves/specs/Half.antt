@@ -1,6 +1,6 @@
 -- The rules by which the steps and the sums go over the lower half h of a vector, in a window w.
 use mathlib.Core.Path.{_≡_, ap}
-use mathlib.Core.Bool.{cond}
+use mathlib.Core.Bool.{Bool, cond}
 use mathlib.Core.Logic.{dite}
 use Prim.Native.Nat.{ℕ, _+_, _*_, _-_, _/_, _%_, _^_, _≤_, _<_, min}
 use native.Mathlib.Nat.{min-eq-left, min-eq-right}
@@ -8,7 +8,7 @@ use native.Mathlib.Decide.{decLt}
 use native.Mathlib.Omega.{arith}
 use borrow.Author.Tests.{lt-ltb, le-ltb}
 use lib.Dec.{ltb}
-use lib.Ieee.{Float}
+use lib.Ieee.{Float, neg}
 use Rattle.vector.specs.Bits.{bit}
 use Rattle.vector.specs.Power.{pow-double}
 use Rattle.transfer.specs.Job.{Step}
@@ -49,6 +49,10 @@ forwardHalf w s sc turn h j =
     cond (bit 0 j)
     (blend (S.em ieee (s .left)) (turn (S.ep ieee (s .left))) (downs s sc k) a b)
     (blend (S.ep ieee (s .left)) (turn (S.em ieee (s .left))) (ups s sc k) a b)
+
+-- the turn of an even half's coefficients, and of an odd one's
+abbrev pub turnOf : Bool → Float → Float
+turnOf odd x = cond odd (neg x) x
 
 -- Backward, for a window of 2 or more, from entries 2k and 2k + 1: x and y are those times up and down; entry k is ep x + em y, and entry
 -- 2 ^ (w - 1) - 1 - k is em x + ep y.

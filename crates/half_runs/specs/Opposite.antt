@@ -1,0 +1,81 @@
+-- The opposite of a run: the run as far from the end of the first 2 ^ h places as this one is from their front.
+use mathlib.Core.Path.{_≡_, sym, _∙_}
+use mathlib.Core.List.{List}
+use mathlib.Core.Logic.{dite}
+use Prim.Native.Nat.{ℕ, _+_, _*_, _-_, _%_, _^_, _≤_, _<_}
+use native.Mathlib.Nat.{lt-of-mul-lt-mul-right}
+use native.Mathlib.Decide.{decLt}
+use native.Mathlib.Omega.{arith}
+use lib.Pow.{pow-add}
+use lib.ListN.{getD}
+use lib.Ieee.{Float, nan}
+use Rattle.sweep.specs.Step.{patternBy}
+use Rattle.sweep.specs.Rule.{weights, inTurn}
+use Rattle.sweep.specs.Rules.{turn-even, turn-odd}
+use Rattle.runs.specs.declared.Four.{Four}
+use Rattle.runs.specs.Picks.{pick-lower}
+use Rattle.runs.specs.AtRun.{Runs, AtRun, run-size, run-even, run-inside, first-16}
+use Rattle.half_runs.specs.Rule.{endWeights, Opposed}
+
+-- by turns, from the other end
+turn-back : (p q : Float) (n i : ℕ) → n % 2 ≡ 0 → i < n → inTurn p q (n - 1 - i) ≡ inTurn q p i
+turn-back p q n i ev b =
+    dite (decLt (i % 2) 1)
+    (λ l. rw (turn-odd p q (n - 1 - i) (omega arith), turn-even q p i (omega arith)))
+    (λ l. rw (turn-even p q (n - 1 - i) (omega arith), turn-odd q p i (omega arith)))
+
+-- t and x of c blocks of n, and one
+multiples : (c t x n : ℕ) → c ≡ t + x + 1 → c * n ≡ t * n + x * n + n
+multiples c t x n h = rw h (omega arith)
+
+module _ {l : List ℕ} {n : ℕ} {l′ : List ℕ} {n′ g h e end quarter size one top low two k : ℕ}
+    (r : Runs l n l′ n′ g h e end quarter size one top low two) (a : AtRun e end k) (under : k < end) where
+  -- the runs of all places
+  all : Runs l n l′ n′ h h e quarter quarter size one top low two
+  all =
+      record {
+        few = r .few;
+        few′ = r .few′;
+        first = r .first;
+        second = r .second;
+        some = r .some;
+        inside = omega (arith, r .inside, r .within);
+        within = omega arith;
+        ends = r .whole;
+        whole = r .whole;
+        length = r .length;
+        odd = r .odd;
+        upper = r .upper;
+        odd′ = r .odd′;
+        next′ = r .next′;
+      }
+
+  -- it is one of them
+  pub opposite : AtRun e quarter (quarter - k - size)
+  opposite =
+      let c = 2 ^ (h - e) in
+      let t : h - e + e ≡ h = omega (arith, r .inside, r .within) in
+      let p : 2 ^ h ≡ c * 2 ^ e = rw t at (pow-add 2 (h - e) e) in
+      let z = run-inside r a under in
+      let b : a .number < c = lt-of-mul-lt-mul-right (2 ^ e) (omega (arith, a .begins, r .length, r .whole, run-size r)) in
+      let f = multiples c (c - a .number - 1) (a .number) (2 ^ e) (omega arith) in
+      record { number = c - a .number - 1; begins = omega (arith, a .begins, r .length, r .whole); within = omega arith }
+
+  opposite-under : quarter - k - size < quarter
+  opposite-under = omega (arith, run-inside r a under, run-size r)
+
+  -- the patterns of both are indexes of tables
+  pub opposed-16 : (m t : ℕ) → m ≡ patternBy l n k → t ≡ patternBy l n (quarter - k - size) → (m + one < 16) × (t + one < 16)
+  opposed-16 m t p q = (omega (arith, first-16 r a under m p), omega (arith, first-16 all opposite opposite-under t q))
+
+  -- the weights of the run, and those of its opposite from the end
+  module _ (table : List Float) (f : Four) (i m t : ℕ) (b : i < size) (o : Opposed table m t one f) where
+    pub run-is : m ≡ patternBy l n k → inTurn (f .first) (f .third) i ≡ weights l n table (k + i)
+    run-is p = rw (o .first, o .third) (pick-lower (a .number) one (r .first) (r .some) (a .begins) p (r .odd) table i (rw (r .length) at b))
+
+    pub opposite-is : t ≡ patternBy l n (quarter - k - size) → inTurn (f .second) (f .fourth) i ≡ endWeights h l n table (k + i)
+    opposite-is p =
+        let z : quarter - k - size + (size - 1 - i) ≡ 2 ^ h - 1 - (k + i) = omega (arith, run-inside r a under, r .whole) in
+        let c : size - 1 - i < 2 ^ e = omega (arith, r .length) in
+        rw (o .second, o .fourth, ← turn-back (getD table t nan) (getD table (t + one) nan) size i (run-even r) b, ← z)
+        (pick-lower (opposite .number) one (r .first) (r .some) (opposite .begins) p (r .odd) table (size - 1 - i) c)

@@ -1,0 +1,28 @@
+// The runs of two steps of a half vector: a run goes with its opposite, which lies as far from the end of the half's first part as the run
+// from its front.
+ghost use mathlib.Core.Path.{_≡_};
+ghost use Prim.Native.Nat.{_+_, _<_};
+ghost use Rattle.halves.specs.Half.{turnOf};
+ghost use Rattle.half_runs.specs.Rule.{Opposed};
+use runs::Four;
+
+// The table at an even place of a run and at the place opposite to it, and the same at the next: the run's pattern is m, its opposite's
+// t, and `one` is the pattern of 1.
+pub fn opposed(table: &[f64; 16], m: usize, t: usize, one: usize) -> Four
+    requires { ⌜ (m + one < 16) × (t + one < 16) ⌝ }
+    ensures { λ r. ⌜ Opposed (now (table .entry)) m t one r ⌝ }
+{
+    Four {
+        first: table[m],
+        second: table[t + one],
+        third: table[m + one],
+        fourth: table[t],
+    }
+}
+
+// A coefficient of the entries from the end of a half, which is even or odd.
+pub fn turned(odd: bool, x: f64) -> f64
+    ensures { λ r. ⌜ r ≡ turnOf odd x ⌝ }
+{
+    if odd { -x } else { x }
+}
