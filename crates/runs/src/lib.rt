@@ -24,7 +24,7 @@ pub fn four_at(table: &[f64; 16], m: usize, a: usize, b: usize) -> Four
 }
 
 // The lowest of the bits that is not below `low`, or h where there is none below h.
-fn run_bit(bits: &[usize; 4], n: usize, low: usize, h: usize) -> usize
+pub fn run_bit(bits: &[usize; 4], n: usize, low: usize, h: usize) -> usize
     requires { ⌜ (n ≤ 4) × (low ≤ h) ⌝ }
     ensures { λ r. ⌜ (low ≤ r) × (r ≤ h) ⌝ }
     ensures { λ r. ⌜ Sparse (now (bits .entry)) n low r ⌝ }

@@ -1,0 +1,27 @@
+-- One store is the one entry of a half, and two are its two.
+use mathlib.Core.Path.{_≡_, refl, sym, ap, _∙_}
+use mathlib.Core.List.{List}
+use Prim.Native.Nat.{ℕ, _+_, _≤_}
+use native.Mathlib.Nat.{add-zero}
+use native.Mathlib.Omega.{arith}
+use lib.ListN.{length, set}
+use lib.Ieee.{Float}
+use Rattle.vector.specs.Tabulate.{tabulate}
+use Rattle.vector.specs.Part.{put, fill-none, fill-one, fill-two}
+use Rattle.sweep.specs.Rule.{inTurn}
+use Rattle.sweep.specs.Rules.{turn-even, turn-odd}
+
+module _ (d : List Float) (at half : ℕ) (a b : Float) (fits : at + half ≤ length d) where
+  pub few-one : half ≡ 1 → set d at a ≡ put d at (tabulate (inTurn a b) half)
+  few-one e =
+      let f = inTurn a b in
+      rw e
+      (ap (λ (l : List Float). set l at a) (fill-none d at f)
+      ∙ rw (add-zero at) at (fill-one d at f 0 a (omega arith) (sym (turn-even a b 0 refl))))
+
+  pub few-two : half ≡ 2 → set (set d at a) (at + 1) b ≡ put d at (tabulate (inTurn a b) half)
+  few-two e =
+      let f = inTurn a b in
+      rw e
+      (ap (λ (l : List Float). set (set l at a) (at + 1) b) (fill-none d at f)
+      ∙ rw (add-zero at) at (fill-two d at f 0 a b (omega arith) (sym (turn-even a b 0 refl)) (sym (turn-odd a b 1 refl))))

@@ -1,0 +1,6 @@
+mod Halves
+mod Runs
+mod FewTurn
+mod ForwardTurn
+mod BackwardTurn
+mod AlternateTurn

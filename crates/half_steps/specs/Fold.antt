@@ -1,0 +1,50 @@
+-- The backward step from half to half, in every window.
+use mathlib.Core.Path.{_≡_, sym, _∙_}
+use mathlib.Core.List.{List}
+use mathlib.Core.Logic.{dite}
+use Prim.Native.Nat.{ℕ, _+_, _*_, _-_, _^_, _≤_, _<_, min}
+use native.Mathlib.Decide.{decLt}
+use native.Mathlib.Omega.{arith}
+use lib.Ieee.{Float}
+use Rattle.vector.specs.Power.{pow-double}
+use Rattle.transfer.specs.Job.{Step}
+use Rattle.transfer.specs.Rounded.{ieee}
+use Rattle.transfer.specs.Sweep as S
+use Rattle.symmetry.specs.Flip.{Below}
+use Rattle.symmetry.specs.Entries.{lower}
+use Rattle.halves.specs.Half.{thereAndBack, there, backwardHalf}
+use Rattle.halves.specs.Even.{Even, backward-even, backward-even-one}
+
+-- backward, from the half there and back: in a window of 1 its one entry stands for both of the pair
+abbrev pub backwardFold : ℕ → Step Float → Float → (ℕ → Float) → ℕ → Float
+backwardFold w s sc h = backwardHalf w s sc (thereAndBack w h)
+
+module _ (w : ℕ) (s : Step Float) (sc : Float) (h : ℕ → Float) (j : ℕ) (b : j < 2 ^ (w - 1)) where
+  -- in a window of 1
+  pub fold-one : w ≡ 1 → backwardFold w s sc h j ≡ lower w s sc (λ i. h 0) 0
+  unfolding backwardHalf
+  fold-one e =
+      let z : 2 ^ (w - 1) ≡ 1 = rw e in
+      let i : j ≡ 0 = omega arith in
+      rw (e, i)
+
+  -- in a wider one the pair stands in the half
+  pub fold-wide : 2 ≤ w → backwardFold w s sc h j ≡ backwardHalf w s sc h j
+  unfolding backwardHalf
+  fold-wide wide =
+      let k = min j (2 ^ (w - 1) - 1 - j) in
+      let z = pow-double (w - 1) (omega arith) in
+      rw (there w (omega arith) h (2 * k) (omega arith), there w (omega arith) h (2 * k + 1) (omega arith))
+
+-- it is the even half of the backward step's vector
+pub fold-even : (w : ℕ) (s : Step Float) (sc : Float) (h : ℕ → Float) (v : List Float) → 1 ≤ w → Below (w - 1) (s .others) → Even w h v
+    → Even w (backwardFold w s sc h) (S.backwardStep ieee w s sc v)
+fold-even w s sc h v wide low even =
+    dite (decLt w 2)
+    (λ l.
+    let e : w ≡ 1 = omega arith in
+    same (backward-even-one w s sc h v wide low even e) (λ j b. fold-one w s sc h j b e))
+    (λ l. same (backward-even w s sc h v wide low even (omega arith)) (λ j b. fold-wide w s sc h j b (omega arith)))
+  where
+    same : {f g : ℕ → Float} {u : List Float} → Even w f u → ((j : ℕ) → j < 2 ^ (w - 1) → g j ≡ f j) → Even w g u
+    same e p = record { low = λ j b. e .low j b ∙ sym (p j b); high = λ j b. e .high j b ∙ sym (p j b) }

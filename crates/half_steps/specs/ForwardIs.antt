@@ -1,0 +1,55 @@
+-- The forward rule over the tables is the rule of the laws of halves.
+use mathlib.Core.Path.{_≡_}
+use mathlib.Core.List.{List}
+use Prim.Native.Nat.{ℕ, _+_, _-_, _/_, _^_, _≤_, _<_}
+use native.Mathlib.Nat.{add-zero}
+use native.Mathlib.Omega.{arith}
+use lib.ListN.{getD}
+use lib.Ieee.{Float, nan}
+use Rattle.vector.specs.Tabulate.{tabulate, tabulate-ext}
+use Rattle.transfer.specs.Job.{Step}
+use Rattle.sweep.specs.Step.{Tables, Tabled}
+use Rattle.sweep.specs.Rule.{entries, weights, inTurn, blend}
+use Rattle.sweep.specs.Tabled.{up-weight, down-weight}
+use Rattle.runs.specs.Patterns.{pattern-zero}
+use Rattle.halves.specs.Half.{forwardHalf}
+use Rattle.half_steps.specs.Rule.{downFrom, forwardHalfRule}
+
+module _ (s : Step Float) (sc : Float) (t : Tables) (a : Tabled s sc t) (w : ℕ) (turn : Float → Float) (d : List Float) (src : ℕ) where
+  abbrev half : ℕ
+  half = 2 ^ (w - 1)
+
+  abbrev whole : ℕ → Float
+  whole = forwardHalf w s sc turn (entries d src)
+
+  abbrev made : ℕ → Float
+  made =
+      forwardHalfRule (t .ep) (turn (t .em)) (t .em) (turn (t .ep)) (weights (t .bits) (t .count) (t .up)) (weights (t .bits) (t .count) (t .down))
+      (entries d src) (downFrom d (src + half - 1))
+
+  entry : (j : ℕ) → j < half → made j ≡ whole j
+  unfolding forwardHalf forwardHalfRule blend
+  entry j b =
+      let k = j / 2 in
+      let i : src + half - 1 - k ≡ src + (half - 1 - k) = omega arith in
+      rw (a .plus, a .minus, up-weight s sc t a k, down-weight s sc t a k, i)
+
+  -- what the runs leave
+  pub forward-is : tabulate made half ≡ tabulate whole half
+  forward-is = tabulate-ext made whole half entry
+
+  -- one entry, or two: those of the pattern 0
+  abbrev few : ℕ → Float
+  few =
+      inTurn (blend (t .ep) (turn (t .em)) (getD (t .up) 0 nan) (getD d src nan) (getD d (src + half - 1) nan))
+      (blend (t .em) (turn (t .ep)) (getD (t .down) 0 nan) (getD d src nan) (getD d (src + half - 1) nan))
+
+  few-entry : half ≤ 2 → (j : ℕ) → j < half → few j ≡ made j
+  unfolding inTurn forwardHalfRule
+  few-entry l j b =
+      let k : j / 2 ≡ 0 = omega arith in
+      let i : src + half - 1 - 0 ≡ src + half - 1 = omega arith in
+      rw (k, pattern-zero (t .bits) (t .count), add-zero src, i)
+
+  pub few-is : half ≤ 2 → tabulate few half ≡ tabulate whole half
+  few-is l = rw (tabulate-ext few made half (few-entry l)) forward-is
