@@ -1,16 +1,19 @@
--- What a vector that is written to a place leaves as it was: its own length, the other places, and what lies behind the places.
+-- What a half vector that is written to a place leaves as it was: the room's length, the other places, and what lies behind the places.
 use mathlib.Core.Path.{_≡_, refl, sym, ap, _∙_, subst}
 use mathlib.Core.List.{List, []}
 use mathlib.Core.Logic.{_⊎_, inl, inr, dite}
-use Prim.Native.Nat.{ℕ, _+_, _*_, _-_, _^_, _≤_, _<_}
+use Prim.Native.Nat.{ℕ, zero, suc, _+_, _*_, _-_, _^_, _≤_, _<_}
 use native.Mathlib.Decide.{decLt}
-use native.Mathlib.Nat.{suc-mul, mul-le-mul-right, zero-mul}
+use native.Mathlib.Nat.{suc-mul, mul-le-mul-right}
 use native.Mathlib.Omega.{arith}
 use lib.ListN.{length, getD, drop, set, length-drop, length-set}
 use lib.Seq.{ext-getD, getD-drop, getD-set-other}
 use lib.Ieee.{Float, nan}
+use Rattle.vector.specs.Power.{pow-double}
+use Rattle.vector.specs.Tabulate.{tabulate, tabulate-at}
 use Rattle.vector.specs.Part.{part, put, Apart, part-length, part-at, put-length, put-out, part-put, part-put-out}
 use Rattle.sweep.specs.Place.{held, hold}
+use Rattle.half_sums.specs.Terms.{halfAt}
 
 -- place p of window w lies below `end`
 abbrev pub Fits : ℕ → ℕ → ℕ → Type 0
@@ -30,35 +33,56 @@ moving-fits w end p l m =
     (λ z. let e : p ≡ 0 = omega arith in rw e (omega arith))
     (λ z. let e : p ≡ 1 = omega arith in rw e (omega arith))
 
--- r′ is r with some vector at place p
+-- a half lies within its place
+half-within : (w : ℕ) → 2 ^ (w - 1) ≤ 2 ^ w
+half-within zero = omega arith
+half-within (suc w) = omega (arith, pow-double (suc w) (omega arith))
+
+-- where a place's numbers are as they were, its half is
+pub half-held : (r r′ : List Float) (w p : ℕ) → held r′ w p ≡ held r w p → (j : ℕ) → j < 2 ^ (w - 1) → halfAt r′ w p j ≡ halfAt r w p j
+half-held r r′ w p e j b =
+    let c : j < 2 ^ w = omega (arith, half-within w) in
+    sym (part-at r′ (p * 2 ^ w) (2 ^ w) j nan c) ∙ ap (λ (l : List Float). getD l j nan) e ∙ part-at r (p * 2 ^ w) (2 ^ w) j nan c
+
+-- r′ is r with some half vector at place p
 pub record Wrote (r r′ : List Float) (w p : ℕ) : Type 0 where
   pub vector : List Float
-  pub full : length vector ≡ 2 ^ w
+  pub full : length vector ≡ 2 ^ (w - 1)
   pub done : r′ ≡ hold r w p vector
 
 module _ (r r′ : List Float) (w p : ℕ) (g : Wrote r r′ w p) (fits : Fits w (length r) p) where
   ends : p * 2 ^ w + length (g .vector) ≤ length r
-  ends = omega (arith, g .full)
+  ends = omega (arith, g .full, half-within w)
 
   pub wrote-length : length r′ ≡ length r
   wrote-length = ap length (g .done) ∙ put-length r (p * 2 ^ w) (g .vector) ends
 
-  -- the place holds the vector
-  pub wrote-same : held r′ w p ≡ g .vector
-  wrote-same =
-      ap (λ (x : List Float). held x w p) (g .done)
-      ∙ subst (λ (k : ℕ). part (hold r w p (g .vector)) (p * 2 ^ w) k ≡ g .vector) (g .full) (part-put r (p * 2 ^ w) (g .vector) ends)
+  -- the place's half is the one that was written
+  pub wrote-same : (j : ℕ) → j < 2 ^ (w - 1) → halfAt r′ w p j ≡ getD (g .vector) j nan
+  wrote-same j b =
+      ap (λ (x : List Float). halfAt x w p j) (g .done)
+      ∙ sym (part-at (hold r w p (g .vector)) (p * 2 ^ w) (length (g .vector)) j nan (omega (arith, g .full)))
+      ∙ ap (λ (x : List Float). getD x j nan) (part-put r (p * 2 ^ w) (g .vector) ends)
+
+  pub wrote-half : (f : ℕ → Float) → g .vector ≡ tabulate f (2 ^ (w - 1)) → (j : ℕ) → j < 2 ^ (w - 1) → halfAt r′ w p j ≡ f j
+  wrote-half f e j b = wrote-same j b ∙ ap (λ (x : List Float). getD x j nan) e ∙ tabulate-at f (2 ^ (w - 1)) j nan b
 
   -- the others hold what they held
   pub wrote-other : (q : ℕ) → (q ≡ p → ⊥) → Fits w (length r) q → held r′ w q ≡ held r w q
   wrote-other q ne b =
-      let a : Apart (length r) (q * 2 ^ w) (2 ^ w) (p * 2 ^ w) (2 ^ w) = record { from = b; to = fits; off = off w q p ne } in
+      let a : Apart (length r) (q * 2 ^ w) (2 ^ w) (p * 2 ^ w) (2 ^ (w - 1)) =
+      record { from = b; to = omega (arith, half-within w); off = before (off w q p ne) } in
       ap (λ (x : List Float). held x w q) (g .done)
-      ∙ part-put-out r (p * 2 ^ w) (g .vector) ends nan (q * 2 ^ w) (2 ^ w) (subst (λ (k : ℕ). Apart (length r) (q * 2 ^ w) (2 ^ w) (p * 2 ^ w) k) (sym (g .full)) a)
+      ∙ part-put-out r (p * 2 ^ w) (g .vector) ends nan (q * 2 ^ w) (2 ^ w)
+      (subst (λ (k : ℕ). Apart (length r) (q * 2 ^ w) (2 ^ w) (p * 2 ^ w) k) (sym (g .full)) a)
+    where
+      before : (q * 2 ^ w + 2 ^ w ≤ p * 2 ^ w) ⊎ (p * 2 ^ w + 2 ^ w ≤ q * 2 ^ w) → (q * 2 ^ w + 2 ^ w ≤ p * 2 ^ w) ⊎ (p * 2 ^ w + 2 ^ (w - 1) ≤ q * 2 ^ w)
+      before (inl l) = inl l
+      before (inr l) = inr (omega (arith, half-within w))
 
   -- all that lies behind the place stays
   pub wrote-at : (i : ℕ) → p * 2 ^ w + 2 ^ w ≤ i → getD r′ i nan ≡ getD r i nan
-  wrote-at i b = ap (λ (x : List Float). getD x i nan) (g .done) ∙ put-out r (p * 2 ^ w) (g .vector) ends i nan (inr (omega (arith, g .full)))
+  wrote-at i b = ap (λ (x : List Float). getD x i nan) (g .done) ∙ put-out r (p * 2 ^ w) (g .vector) ends i nan (inr (omega (arith, g .full, half-within w)))
 
   pub wrote-drop : (k : ℕ) → p * 2 ^ w + 2 ^ w ≤ k → drop k r′ ≡ drop k r
   wrote-drop k b =

@@ -12,7 +12,10 @@ use Rattle.transfer.specs.Rounded.{ieee}
 use Rattle.transfer.specs.Sweep as S
 use Rattle.plan.specs.Layout.{Holds, Vertex, stepIn, forwardPlace, backwardPlace}
 use Rattle.sweep.specs.Place.{held, Places}
-use Rattle.vertex.specs.Frame.{Fits, moving-fits, Wrote, wrote-length, wrote-other, wrote-drop}
+use Rattle.halves.specs.Even.{Even}
+use Rattle.half_sums.specs.Terms.{halfAt}
+use Rattle.vertex.specs.Frame.{Fits, moving-fits, half-held, Wrote, wrote-length, wrote-other, wrote-drop}
+use Rattle.vertex.specs.Same.{even-ext}
 
 -- Places of n vertices below `end`: none (0), or one behind the moving ones that no other vertex has.
 pub record Own (place : ℕ → ℕ) (n w end : ℕ) : Type 0 where
@@ -52,14 +55,14 @@ pub record PlanOf (J : Job Float) (plan : List ℕ) (x : List Float) (n w : ℕ)
 
 -- ---- what is in the room
 
--- The first t vertices' forward vectors are kept where they have a place, and their scales are stored.
+-- The lower halves of the first t vertices' forward vectors are kept where they have a place, and their scales are stored.
 pub record Forward (J : Job Float) (plan : List ℕ) (r : List Float) (w scales t : ℕ) : Type 0 where
-  pub vectors : (u : ℕ) → u < t → 0 < forwardPlace plan u → held r w (forwardPlace plan u) ≡ S.forward ieee J u
+  pub vectors : (u : ℕ) → u < t → 0 < forwardPlace plan u → Even w (halfAt r w (forwardPlace plan u)) (S.forward ieee J u)
   pub scaled : (u : ℕ) → u < t → getD r (scales + u) nan ≡ S.scale ieee J u
 
--- The backward vectors from vertex t on are kept where they have a place.
+-- The lower halves of the backward vectors from vertex t on are kept where they have a place.
 pub record Backward (J : Job Float) (plan : List ℕ) (r : List Float) (n w t : ℕ) : Type 0 where
-  pub vectors : (u : ℕ) → t ≤ u → u < n → 0 < backwardPlace plan u → held r w (backwardPlace plan u) ≡ S.backward ieee J u
+  pub vectors : (u : ℕ) → t ≤ u → u < n → 0 < backwardPlace plan u → Even w (halfAt r w (backwardPlace plan u)) (S.backward ieee J u)
 
 -- What both sweeps leave.
 pub record Swept (J : Job Float) (plan : List ℕ) (r : List Float) (n w scales : ℕ) : Type 0 where
@@ -89,18 +92,23 @@ tail-factors r₀ r scales n e = sym (drop-drop n scales r) ∙ ap (drop n) e �
 pub tail-scale : (r₀ r : List Float) (scales u : ℕ) → drop scales r ≡ drop scales r₀ → getD r (scales + u) nan ≡ getD r₀ (scales + u) nan
 tail-scale r₀ r scales u e = sym (getD-drop scales r u nan) ∙ ap (λ (l : List Float). getD l u nan) e ∙ getD-drop scales r₀ u nan
 
+-- so is the half of a place behind the moving ones
+still-half : (r₀ r : List Float) (w scales p : ℕ) → Still r₀ r w scales → 2 ≤ p → Fits w scales p → (v : List Float)
+    → Even w (halfAt r₀ w p) v → Even w (halfAt r w p) v
+still-half r₀ r w scales p s h f v e = even-ext e (half-held r₀ r w p (s .places p h f))
+
 pub still-swept : (J : Job Float) (plan : List ℕ) (r₀ r : List Float) (n w scales : ℕ) → Ready plan (length r₀) n w scales → Still r₀ r w scales
     → Swept J plan r₀ n w scales → Swept J plan r n w scales
 still-swept J plan r₀ r n w scales p s k =
     record {
       forward = record {
-        vectors = λ u b q. s .places (forwardPlace plan u) (p .forward .high u b q) (p .forward .fits u b q) ∙ k .forward .vectors u b q;
+        vectors = λ u b q. still-half r₀ r w scales _ s (p .forward .high u b q) (p .forward .fits u b q) _ (k .forward .vectors u b q);
         scaled = λ u b. tail-scale r₀ r scales u (s .tail) ∙ k .forward .scaled u b;
       };
-      backward = record { vectors = λ u z b q. s .places (backwardPlace plan u) (p .backward .high u b q) (p .backward .fits u b q) ∙ k .backward .vectors u z b q };
+      backward = record { vectors = λ u z b q. still-half r₀ r w scales _ s (p .backward .high u b q) (p .backward .fits u b q) _ (k .backward .vectors u z b q) };
     }
 
--- a vector that is written to a moving place
+-- a half vector that is written to a moving place
 pub still-wrote : (plan : List ℕ) (r r′ : List Float) (n w scales p : ℕ) → Ready plan (length r) n w scales → p < 2 → Wrote r r′ w p → Still r r′ w scales
 still-wrote plan r r′ n w scales p g l d =
     let f = moving-fits w scales p l (g .moving) in
