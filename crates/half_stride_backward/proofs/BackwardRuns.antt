@@ -131,7 +131,10 @@ module _ {l : List ℕ} {n : ℕ} {l′ : List ℕ} {n′ part h e end quarter s
           let b₁ : b + size ≡ dst + (2 ^ h - k) = omega arith in
           let b₃ : o + size ≡ dst + 2 ^ h + (2 ^ h - k) = omega arith in
           w
-          ∙ rw (e₁, e₂, e₃, filled, ← b₁, ← b₃)
+          ∙ ap (λ (s : List Float). inward s (dst + k) (dst + (quarter - k - size)) (dst + quarter + k) (dst + quarter + (quarter - k - size))
+          (frontRun x y z u p q f g (src + 4 * k) v) (endRun x y z u p q f g (src + 4 * k) v)
+          (endRun y x z u p q f g (src + 4 * k) v) (frontRun y x z u p q f g (src + 4 * k) v) size) filled
+          ∙ rw (e₁, e₂, e₃, ← b₁, ← b₃)
           (inward-run d dst b c o _ _ _ _ _ _ _ _ k size
           (record { first = omega arith; second = omega arith; third = omega arith; last = omega arith })
           (front-same x y) (back-same x y) (back-same y x) (front-same y x))

@@ -1,6 +1,6 @@
 -- The runs fill what the rules of both steps say, and that is the one at the earlier vertex of the one at the later.
 use mathlib.Core.Path.{_≡_, _∙_}
-use Prim.Native.Nat.{_+_, _*_, _-_, _^_}
+use Prim.Native.Nat.{_+_, _-_}
 use native.Mathlib.Omega.{arith}
 use Rattle.vector.specs.Power.{pow-double}
 use Rattle.vector.specs.Part.{apart-within}
