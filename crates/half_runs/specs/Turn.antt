@@ -1,5 +1,4 @@
 -- The indexes of a turn of a run that goes down: within the slice, and held by a machine word.
-use mathlib.Core.Path.{_≡_}
 use Prim.Native.Nat.{ℕ, _+_, _*_, _-_, _^_, _≤_, _<_}
 use native.Mathlib.Omega.{arith}
 use mir.Syntax.{w64}

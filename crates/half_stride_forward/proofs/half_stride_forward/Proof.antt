@@ -1,8 +1,7 @@
 -- The runs fill what the rule of both steps says, and that is the second of the first.
 use mathlib.Core.Path.{_≡_, ap, _∙_}
-use Prim.Native.Nat.{_+_, _*_, _-_, _^_}
+use Prim.Native.Nat.{_+_, _-_}
 use native.Mathlib.Omega.{arith}
-use Rattle.vector.specs.Power.{pow-double}
 use Rattle.vector.specs.Part.{apart-within}
 use Rattle.sweep.specs.Place.{hold, places-apart}
 use Rattle.runs.specs.Quarter.{whole-is}

@@ -1,0 +1,240 @@
+-- The entries up to the run at k are filled; a turn fills those of a run.
+use mathlib.Core.Path.{_≡_, refl, _∙_}
+use Prim.Native.Nat.{_+_, _*_, _-_, _^_, _≤_, _<_}
+use native.Mathlib.Omega.{arith}
+use lib.ListN.{length}
+use Rattle.vector.specs.Power.{pow-double}
+use Rattle.vector.specs.Part.{Apart}
+use Rattle.sweep.specs.Step.{patternBy}
+use Rattle.runs.specs.AtRun.{readable, Runs, AtRun, first-run, next-run, run-size, run-even, run-ends, second-16}
+use Rattle.half_runs.specs.Opposite.{opposed-16}
+use Rattle.half_stride_backward.specs.Inward.{inward-none}
+use Rattle.half_stride_backward.proofs.BackwardRuns.{stepped, run-targets, run-apart, runs-turn}
+use borrow.Author.Needs.{needs}
+use Rattle.half_stride_backward.proofs.backward_runs.Statement.{statement}
+use Rattle.half_stride_backward.proofs.backward_runs.Tie as tie
+
+abbrev Inv-loop : tie.InvT-loop
+Inv-loop v₀ src dst h x y bits n up down z u bits2 n2 up2 down2 end quarter e size one low two o k₀ v k =
+    (length v ≡ length v₀) × Apart (length v₀) src (2 * 2 ^ h) dst (2 * 2 ^ h)
+    × Runs bits n bits2 n2 (h - 1) h e end quarter size one (patternBy bits n quarter) low two × AtRun e end k
+    × (v ≡ stepped x y z u bits n up down bits2 n2 up2 down2 h src dst v₀ k) × (quarter ≡ 2 * end)
+
+abbrev μ-loop : tie.MeasureT-loop
+μ-loop v₀ src dst h x y bits n up down z u bits2 n2 up2 down2 end quarter e size one low two o k₀ v k = end - k
+
+-- the places of both halves are numbers of a machine
+room : (c : tie.In-loop Inv-loop μ-loop)
+    → let at = c .before in
+    let a = at .before .before .before .before .before .before .before .before .before .args in
+    (a .src + 2 * 2 ^ a .h < 18446744073709551616) × (a .dst + 2 * 2 ^ a .h < 18446744073709551616)
+    × (at .loop .k + at .before .before .before .before .pow23 .result ≤ at .before .before .before .before .before .before .before .pow2 .result)
+    × (at .before .before .before .before .before .before .pow22 .result ≡ 2 * at .before .before .before .before .before .before .before .pow2 .result) × (at .before .before .before .before .before .before .pow22 .result ≡ 2 ^ a .h)
+room c =
+    let i = c .before .loop .inv in
+    omega (arith, i .1, i .2 .whole, i .5, run-ends (i .2) (i .3) (c .loop-test .taken), c .before .before .before .before .before .before .before .before .before .before)
+
+sub-pow2 : tie.Need-sub-pow2 Inv-loop μ-loop
+sub-pow2 c = search needs
+
+pow2-requires : tie.Need-pow2-requires Inv-loop μ-loop
+pow2-requires c κs = search needs
+
+pow2-requires-2 : tie.Need-pow2-requires-2 Inv-loop μ-loop
+pow2-requires-2 c κs = search needs
+
+sub-runs-of : tie.Need-sub-runs-of Inv-loop μ-loop
+sub-runs-of c = search needs
+
+runs-of-requires : tie.Need-runs-of-requires Inv-loop μ-loop
+runs-of-requires c κs = search needs
+
+pow2-requires-3 : tie.Need-pow2-requires-3 Inv-loop μ-loop
+pow2-requires-3 c κs = search needs
+
+pattern-of-requires : tie.Need-pattern-of-requires Inv-loop μ-loop
+pattern-of-requires c κs = let p = c .before .before .before .before .before .pre in readable (p .3) (p .1)
+
+pattern-of-requires-2 : tie.Need-pattern-of-requires-2 Inv-loop μ-loop
+pattern-of-requires-2 c κs = let p = c .before .before .before .before .before .before .pre in readable (p .4) (p .1)
+
+pattern-of-requires-3 : tie.Need-pattern-of-requires-3 Inv-loop μ-loop
+pattern-of-requires-3 c κs = let p = c .before .before .before .before .before .before .before .pre in readable (p .4) (p .1)
+
+add-o : tie.Need-add-o Inv-loop μ-loop
+add-o c = omega (arith, c .before .before .before .before .before .before .before .before .pre .2 .to, c .before .before .before .before .before .pow22 .ensures, c .before .before .before .before .before .before .before .before)
+
+loop-holds : tie.Need-loop-holds Inv-loop μ-loop
+loop-holds c =
+    let s = c .before .before .before .before .before .before .before .before in
+    let runs = c .before .before .before .before .runs-of .ensures in (
+      refl,
+      s .pre .2,
+      record {
+        few = s .pre .3 .few;
+        few′ = s .pre .4 .few;
+        first = runs .2;
+        second = runs .3;
+        some = runs .0;
+        inside = runs .1;
+        within = omega arith;
+        ends = c .before .before .before .before .before .before .pow2 .ensures;
+        whole = c .before .before .before .before .before .pow22 .ensures;
+        length = c .before .before .before .pow23 .ensures;
+        odd = c .before .before .pattern-of .ensures .0;
+        upper = refl;
+        odd′ = c .before .pattern-of2 .ensures .0;
+        next′ = c .pattern-of3 .ensures .0;
+      },
+      first-run _ _,
+      inward-none _ _ _ _ _ _ _ _ _,
+      omega (arith, c .before .before .before .before .before .before .pow2 .ensures, c .before .before .before .before .before .pow22 .ensures, pow-double (s .args .h) (omega arith)),
+    )
+
+sub-t : tie.Need-sub-t Inv-loop μ-loop
+sub-t c = let r = room c in omega arith
+
+sub-t-2 : tie.Need-sub-t-2 Inv-loop μ-loop
+sub-t-2 c = let r = room c in omega arith
+
+pattern-of-requires-4 : tie.Need-pattern-of-requires-4 Inv-loop μ-loop
+pattern-of-requires-4 c κs = let p = c .before .before .before .before .before .before .before .before .before .before .pre in readable (p .3) (p .1)
+
+pattern-of-requires-5 : tie.Need-pattern-of-requires-5 Inv-loop μ-loop
+pattern-of-requires-5 c κs = let p = c .before .before .before .before .before .before .before .before .before .before .before .pre in readable (p .3) (p .1)
+
+mul-pattern-of : tie.Need-mul-pattern-of Inv-loop μ-loop
+mul-pattern-of c = omega (arith, room (c .before .before))
+
+pattern-of-requires-6 : tie.Need-pattern-of-requires-6 Inv-loop μ-loop
+pattern-of-requires-6 c κs = let p = c .before .before .before .before .before .before .before .before .before .before .before .before .pre in readable (p .4) (p .1)
+
+opposed-requires : tie.Need-opposed-requires Inv-loop μ-loop
+opposed-requires c κs =
+    let turn = c .before .before .before in
+    let i = turn .before .loop .inv in
+    opposed-16 (i .2) (i .3) (turn .loop-test .taken) _ _ (c .before .before .pattern-of4 .ensures .0) (c .before .pattern-of5 .ensures .0)
+
+opposed-requires-2 : tie.Need-opposed-requires-2 Inv-loop μ-loop
+opposed-requires-2 c κs =
+    let turn = c .before .before .before .before in
+    let i = turn .before .loop .inv in
+    opposed-16 (i .2) (i .3) (turn .loop-test .taken) _ _ (c .before .before .before .pattern-of4 .ensures .0) (c .before .before .pattern-of5 .ensures .0)
+
+four-at-requires : tie.Need-four-at-requires Inv-loop μ-loop
+four-at-requires c κs =
+    let turn = c .before .before .before .before .before in
+    let i = turn .before .loop .inv in
+    second-16 (i .2) (i .3) (turn .loop-test .taken) _ (c .before .before .pattern-of6 .ensures .0)
+
+four-at-requires-2 : tie.Need-four-at-requires-2 Inv-loop μ-loop
+four-at-requires-2 c κs =
+    let turn = c .before .before .before .before .before .before in
+    let i = turn .before .loop .inv in
+    second-16 (i .2) (i .3) (turn .loop-test .taken) _ (c .before .before .before .pattern-of6 .ensures .0)
+
+mul-backward-run : tie.Need-mul-backward-run Inv-loop μ-loop
+mul-backward-run c = omega (arith, room (c .before .before .before .before .before .before .before .before))
+
+add-backward-run : tie.Need-add-backward-run Inv-loop μ-loop
+add-backward-run c = omega (arith, room (c .before .before .before .before .before .before .before .before))
+
+add-backward-run-2 : tie.Need-add-backward-run-2 Inv-loop μ-loop
+add-backward-run-2 c = omega (arith, room (c .before .before .before .before .before .before .before .before))
+
+add-backward-run-3 : tie.Need-add-backward-run-3 Inv-loop μ-loop
+add-backward-run-3 c = omega (arith, room (c .before .before .before .before .before .before .before .before))
+
+add-backward-run-4 : tie.Need-add-backward-run-4 Inv-loop μ-loop
+add-backward-run-4 c = omega (arith, room (c .before .before .before .before .before .before .before .before))
+
+add-backward-run-5 : tie.Need-add-backward-run-5 Inv-loop μ-loop
+add-backward-run-5 c = omega (arith, room (c .before .before .before .before .before .before .before .before))
+
+backward-run-requires : tie.Need-backward-run-requires Inv-loop μ-loop
+backward-run-requires c κs =
+    let turn = c .before .before .before .before .before .before .before .before in
+    let i = turn .before .loop .inv in
+    let under = turn .loop-test .taken in
+    let g = run-targets (i .2) (i .3) under (i .5) _ _ _ (i .1) in
+    let f = run-apart (i .2) (i .3) under (i .5) _ _ _ (i .1) in
+    (run-even (i .2), rw (i .0) g, rw (i .0) (f .0), rw (i .0) (f .1), rw (i .0) (f .2), rw (i .0) (f .3))
+
+add-k : tie.Need-add-k Inv-loop μ-loop
+add-k c = omega (arith, room (c .before .before .before .before .before .before .before .before .before .before .before))
+
+loop-less : tie.Need-loop-less Inv-loop μ-loop
+loop-less c =
+    let turn = c .before .before .before .before .before .before .before .before .before .before .before in
+    omega (arith, run-size (turn .before .loop .inv .2), turn .loop-test .taken)
+
+loop-again : tie.Need-loop-again Inv-loop μ-loop
+loop-again c =
+    let turn = c .before .before .before .before .before .before .before .before .before .before .before in
+    let under = turn .loop-test .taken in
+    let at = turn .before in
+    let i = at .loop .inv in
+    let a = at .before .before .before .before .before .before .before .before .before .args in
+    let run = c .before .before .backward-run in (
+      run .kept .0 ∙ i .0,
+      i .1,
+      i .2,
+      next-run (i .2) (i .3) under,
+      runs-turn (i .2) (i .3) under (i .5) _ _ _ _ (a .up .now) (a .down .now) (a .up2 .now) (a .down2 .now) _ _ _ _ _ _ _ _ _ (a .v .now)
+          (at .loop .v) (c .before .before .before .before .before .before .before .before .before .before .pattern-of4 .ensures .0) (c .before .before .before .before .before .before .before .before .before .pattern-of5 .ensures .0) (c .before .before .before .before .before .before .before .before .pattern-of6 .ensures .0)
+          (c .before .before .before .before .before .before .before .opposed .ensures) (c .before .before .before .before .before .before .opposed2 .ensures) (c .before .before .before .before .before .four-at .ensures) (c .before .before .before .before .four-at2 .ensures) (i .1) (i .4) _ (run .ensures),
+      i .5,
+    )
+
+same-length : tie.Need-same-length Inv-loop μ-loop
+same-length c = omega arith
+
+returns : tie.Need-returns Inv-loop μ-loop
+returns c =
+    let at = c .before in
+    let i = at .loop .inv in
+    let a = at .before .before .before .before .before .before .before .before .before .args in
+    let w = i .2 .whole in
+    let e : at .loop .k ≡ 2 ^ (a .h - 1) = omega (arith, i .2 .ends, i .3 .within) in
+    let z : 2 ^ a .h - 2 ^ (a .h - 1) ≡ 2 ^ (a .h - 1) = omega (arith, i .2 .ends, i .5) in
+    rw (e, z) at (i .4)
+
+pub backward-runs-spec : {M : Type 1} → statement M
+backward-runs-spec =
+    tie.close
+    (tie.spec
+    Inv-loop
+    μ-loop
+    sub-pow2
+    pow2-requires
+    pow2-requires-2
+    sub-runs-of
+    runs-of-requires
+    pow2-requires-3
+    pattern-of-requires
+    pattern-of-requires-2
+    pattern-of-requires-3
+    add-o
+    loop-holds
+    sub-t
+    sub-t-2
+    pattern-of-requires-4
+    pattern-of-requires-5
+    mul-pattern-of
+    pattern-of-requires-6
+    opposed-requires
+    opposed-requires-2
+    four-at-requires
+    four-at-requires-2
+    mul-backward-run
+    add-backward-run
+    add-backward-run-2
+    add-backward-run-3
+    add-backward-run-4
+    add-backward-run-5
+    backward-run-requires
+    add-k
+    loop-less
+    loop-again
+    same-length
+    returns)

@@ -1,0 +1,226 @@
+// Two backward steps of a half vector, by runs.
+ghost use mathlib.Core.Path.{_≡_};
+ghost use Prim.Native.Nat.{_+_, _*_, _-_, _%_, _^_, _<_, _≤_};
+ghost use lib.ListN.{length};
+ghost use lib.Ieee.{Float};
+ghost use Rattle.vector.specs.Tabulate.{tabulate};
+ghost use Rattle.vector.specs.Part.{Apart};
+ghost use Rattle.transfer.specs.Job.{Step};
+ghost use Rattle.sweep.specs.Step.{Rising, Tabled, tables};
+ghost use Rattle.sweep.specs.Rule.{entries, weights, inTurn};
+ghost use Rattle.sweep.specs.Place.{Places, hold};
+ghost use Rattle.halves.specs.Half.{backwardHalf};
+ghost use Rattle.runs.specs.Rule.{inFour};
+ghost use Rattle.half_runs.specs.Rule.{endWeights};
+ghost use Rattle.half_stride_backward.specs.Inward.{Parts, inward};
+ghost use Rattle.half_stride_backward.specs.Rule.{frontTwice, endTwice};
+use half_runs::opposed;
+use runs::Four;
+use runs::four_at;
+use runs::runs_of;
+use sweep::pattern_of;
+use sweep::pow2;
+
+// A run of n places, two a turn: source at s; targets at a and c, and counted from their end at b and d. Neighbours are stored one after
+// the other.
+fn backward_run(
+    v: &mut [f64],
+    s: usize,
+    a: usize,
+    b: usize,
+    c: usize,
+    d: usize,
+    n: usize,
+    x: f64,
+    y: f64,
+    z: f64,
+    u: f64,
+    p: Four,
+    q: Four,
+    e: Four,
+    f: Four,
+)
+    requires { ⌜ (n % 2 ≡ 0) × Parts (length (now v)) a b c d n × Apart (length (now v)) s (4 * n) a n
+        × Apart (length (now v)) s (4 * n) b n × Apart (length (now v)) s (4 * n) c n × Apart (length (now v)) s (4 * n) d n ⌝ }
+    ensures { λ _. ⌜ now (v .exit) ≡ inward (now (v .entry)) a b c d
+        (frontTwice x y z u (inTurn (p .first) (p .third)) (inTurn (q .first) (q .third))
+        (inFour (e .first) (e .second) (e .third) (e .fourth)) (inFour (f .first) (f .second) (f .third) (f .fourth)) (entries (now (v .entry)) s))
+        (endTwice x y u z (inTurn (p .second) (p .fourth)) (inTurn (q .second) (q .fourth))
+        (inFour (e .first) (e .second) (e .third) (e .fourth)) (inFour (f .first) (f .second) (f .third) (f .fourth)) (entries (now (v .entry)) s))
+        (endTwice y x u z (inTurn (p .second) (p .fourth)) (inTurn (q .second) (q .fourth))
+        (inFour (e .first) (e .second) (e .third) (e .fourth)) (inFour (f .first) (f .second) (f .third) (f .fourth)) (entries (now (v .entry)) s))
+        (frontTwice y x z u (inTurn (p .first) (p .third)) (inTurn (q .first) (q .third))
+        (inFour (e .first) (e .second) (e .third) (e .fourth)) (inFour (f .first) (f .second) (f .third) (f .fourth)) (entries (now (v .entry)) s)) n ⌝ }
+{
+    let Four {
+        first: p0,
+        second: p1,
+        third: p2,
+        fourth: p3,
+    } = p;
+    let Four {
+        first: q0,
+        second: q1,
+        third: q2,
+        fourth: q3,
+    } = q;
+    let Four {
+        first: e0,
+        second: e1,
+        third: e2,
+        fourth: e3,
+    } = e;
+    let Four {
+        first: f0,
+        second: f1,
+        third: f2,
+        fourth: f3,
+    } = f;
+    let mut i = 0usize;
+    while i < n {
+        let r = n - i;
+        let a0 = v[s + 4 * i] * e0;
+        let b0 = v[s + 4 * i + 1] * f0;
+        let c0 = v[s + 4 * i + 2] * e1;
+        let d0 = v[s + 4 * i + 3] * f1;
+        let a1 = v[s + 4 * i + 4] * e2;
+        let b1 = v[s + 4 * i + 5] * f2;
+        let c1 = v[s + 4 * i + 6] * e3;
+        let d1 = v[s + 4 * i + 7] * f3;
+        let k0 = (z * a0 + u * b0) * p0;
+        let k1 = (z * a1 + u * b1) * p2;
+        let l0 = (z * c0 + u * d0) * q0;
+        let l1 = (z * c1 + u * d1) * q2;
+        let m0 = (u * a0 + z * b0) * q1;
+        let m1 = (u * a1 + z * b1) * q3;
+        let n0 = (u * c0 + z * d0) * p1;
+        let n1 = (u * c1 + z * d1) * p3;
+        v[a + i] = x * k0 + y * l0;
+        v[a + i + 1] = x * k1 + y * l1;
+        v[b + r - 2] = x * n1 + y * m1;
+        v[b + r - 1] = x * n0 + y * m0;
+        v[c + i] = y * n0 + x * m0;
+        v[c + i + 1] = y * n1 + x * m1;
+        v[d + r - 2] = y * k1 + x * l1;
+        v[d + r - 1] = y * k0 + x * l0;
+        i += 2;
+    }
+}
+
+// Both steps from the half of 2 * 2 ^ h entries at src to the one at dst, run by run: a run goes with its opposite, which begins at t.
+fn backward_runs(
+    v: &mut [f64],
+    src: usize,
+    dst: usize,
+    h: usize,
+    x: f64,
+    y: f64,
+    bits: &[usize; 4],
+    n: usize,
+    up: &[f64; 16],
+    down: &[f64; 16],
+    z: f64,
+    u: f64,
+    bits2: &[usize; 4],
+    n2: usize,
+    up2: &[f64; 16],
+    down2: &[f64; 16],
+)
+    requires { ⌜ (2 ≤ h) × (h < 23) × Apart (length (now v)) src (2 * 2 ^ h) dst (2 * 2 ^ h) × Rising (now bits) n (h + 1)
+        × Rising (now bits2) n2 (h + 1) ⌝ }
+    ensures { λ _. ⌜ now (v .exit) ≡ inward (now (v .entry)) dst (dst + 2 ^ (h - 1)) (dst + 2 ^ h) (dst + 2 ^ h + 2 ^ (h - 1))
+        (frontTwice x y z u (weights (now (bits .entry)) n (now (up .entry))) (weights (now (bits .entry)) n (now (down .entry)))
+        (weights (now (bits2 .entry)) n2 (now (up2 .entry))) (weights (now (bits2 .entry)) n2 (now (down2 .entry))) (entries (now (v .entry)) src))
+        (endTwice x y u z (endWeights h (now (bits .entry)) n (now (up .entry))) (endWeights h (now (bits .entry)) n (now (down .entry)))
+        (weights (now (bits2 .entry)) n2 (now (up2 .entry))) (weights (now (bits2 .entry)) n2 (now (down2 .entry))) (entries (now (v .entry)) src))
+        (endTwice y x u z (endWeights h (now (bits .entry)) n (now (up .entry))) (endWeights h (now (bits .entry)) n (now (down .entry)))
+        (weights (now (bits2 .entry)) n2 (now (up2 .entry))) (weights (now (bits2 .entry)) n2 (now (down2 .entry))) (entries (now (v .entry)) src))
+        (frontTwice y x z u (weights (now (bits .entry)) n (now (up .entry))) (weights (now (bits .entry)) n (now (down .entry)))
+        (weights (now (bits2 .entry)) n2 (now (up2 .entry))) (weights (now (bits2 .entry)) n2 (now (down2 .entry))) (entries (now (v .entry)) src))
+        (2 ^ (h - 1)) ⌝ }
+{
+    let end = pow2(h - 1);
+    let quarter = pow2(h);
+    let e = runs_of(bits, n, bits2, n2, h - 1);
+    let size = pow2(e);
+    let one = pattern_of(1, bits, n);
+    let low = pattern_of(1, bits2, n2);
+    let two = pattern_of(2, bits2, n2);
+    let o = dst + quarter;
+    let mut k = 0usize;
+    while k < end {
+        let t = quarter - k - size;
+        let m = pattern_of(k, bits, n);
+        let r = pattern_of(t, bits, n);
+        let j = pattern_of(2 * k, bits2, n2);
+        let p = opposed(up, m, r, one);
+        let q = opposed(down, m, r, one);
+        let f = four_at(up2, j, low, two);
+        let g = four_at(down2, j, low, two);
+        backward_run(
+            v,
+            src + 4 * k,
+            dst + k,
+            dst + t,
+            o + k,
+            o + t,
+            size,
+            x,
+            y,
+            z,
+            u,
+            p,
+            q,
+            f,
+            g,
+        );
+        k += size;
+    }
+}
+
+// The two backward steps from the half at place src to place dst. The first tables are the earlier vertex's, whose step is the second.
+pub fn half_stride_backward(
+    room: &mut [f64],
+    src: usize,
+    dst: usize,
+    w: usize,
+    ep: f64,
+    em: f64,
+    bits: &[usize; 4],
+    count: usize,
+    up: &[f64; 16],
+    down: &[f64; 16],
+    ep2: f64,
+    em2: f64,
+    bits2: &[usize; 4],
+    count2: usize,
+    up2: &[f64; 16],
+    down2: &[f64; 16],
+)
+    requires { ⌜ (4 ≤ w) × Places (length (now room)) w src dst × Rising (now bits) count (w - 1) × Rising (now bits2) count2 (w - 1) ⌝ }
+    ensures { λ _. ⌜ ((s : Step Float) (sc : Float) (s′ : Step Float) (sc′ : Float)
+        → Tabled s sc (tables count ep em (now (bits .entry)) (now (up .entry)) (now (down .entry)))
+        → Tabled s′ sc′ (tables count2 ep2 em2 (now (bits2 .entry)) (now (up2 .entry)) (now (down2 .entry)))
+        → now (room .exit) ≡ hold (now (room .entry)) w dst
+        (tabulate (backwardHalf w s sc (backwardHalf w s′ sc′ (entries (now (room .entry)) (src * 2 ^ w)))) (2 ^ (w - 1)))) ⌝ }
+{
+    let size = pow2(w);
+    backward_runs(
+        room,
+        src * size,
+        dst * size,
+        w - 2,
+        ep,
+        em,
+        bits,
+        count,
+        up,
+        down,
+        ep2,
+        em2,
+        bits2,
+        count2,
+        up2,
+        down2,
+    );
+}
