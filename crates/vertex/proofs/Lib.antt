@@ -1,3 +1,4 @@
 -- Laws that the proofs share.
 mod Entered
 mod Factors
+mod Folds

@@ -1,24 +1,20 @@
-// Two steps in one pass, from one place of the room to another.
+// Two steps of a half vector in one pass, from one place of the room to another.
 ghost use mathlib.Core.Path.{_≡_};
-ghost use mathlib.Core.Bool.{true};
+ghost use Prim.Native.Nat.{_-_, _^_};
 ghost use lib.ListN.{length, drop};
-ghost use Rattle.transfer.specs.Rounded.{ieee};
-ghost use Rattle.transfer.specs.Sweep.{forwardStep, backwardStep};
-ghost use Rattle.plan.specs.Layout.{stepIn};
-ghost use Rattle.sweep.specs.Place.{held, hold};
-ghost use Rattle.symmetry.specs.Symmetric.{Symmetric};
+ghost use Rattle.vector.specs.Tabulate.{tabulate};
+ghost use Rattle.sweep.specs.Place.{hold};
+ghost use Rattle.half_sums.specs.Terms.{halfAt};
 ghost use Rattle.vertex.specs.Ready.{Stepping};
 ghost use Rattle.vertex.specs.Through.{Second, Through, forwardBy, backwardBy, through};
 use crate::step::backward_at;
 use crate::step::forward_at;
 use crate::tables::tables_at;
-use mirror::mirrored_backward;
-use mirror::mirrored_forward;
+use half_stride_backward::half_stride_backward;
+use half_stride_forward::half_stride_forward;
 use plan::near_count;
-use stride_forward::stride_forward;
 
-// The forward step at t with the scale, and then the one at `last` with the other scale. A vector that is known to be symmetric takes half
-// of the work.
+// The forward step at t with the scale, and then the one at `last` with the other scale, from an even half or from an odd one.
 fn forward_two_at(
     room: &mut [f64],
     factors: usize,
@@ -28,15 +24,15 @@ fn forward_two_at(
     last: usize,
     scale: f64,
     then: f64,
+    odd: bool,
     src: usize,
     dst: usize,
-    symmetric: bool,
 )
-    requires { ⌜ Stepping (now plan) (length (now room)) w factors t src dst × Second (now plan) (length (now room)) w factors last
-        × (symmetric ≡ true → Symmetric w (held (now room) w src)) ⌝ }
+    requires { ⌜ Stepping (now plan) (length (now room)) w factors t src dst × Second (now plan) (length (now room)) w factors last ⌝ }
     ensures { λ _. ⌜ now (room .exit) ≡ hold (now (room .entry)) w dst
-        (forwardStep ieee w (stepIn (now (plan .entry)) (drop factors (now (room .entry))) last) then
-        (forwardStep ieee w (stepIn (now (plan .entry)) (drop factors (now (room .entry))) t) scale (held (now (room .entry)) w src))) ⌝ }
+        (tabulate
+        (forwardBy (now (plan .entry)) (drop factors (now (room .entry))) w odd last then
+        (forwardBy (now (plan .entry)) (drop factors (now (room .entry))) w odd t scale (halfAt (now (room .entry)) w src))) (2 ^ (w - 1))) ⌝ }
 {
     let mut bits = [0usize; 4];
     let mut up = [0.0f64; 16];
@@ -68,48 +64,29 @@ fn forward_two_at(
     );
     let n = near_count(plan, t);
     let n2 = near_count(plan, last);
-    if symmetric {
-        mirrored_forward(
-            room,
-            src,
-            dst,
-            w,
-            ep,
-            1.0 / ep,
-            &bits,
-            n,
-            &up,
-            &down,
-            ep2,
-            1.0 / ep2,
-            &bits2,
-            n2,
-            &up2,
-            &down2,
-        );
-    } else {
-        stride_forward(
-            room,
-            src,
-            dst,
-            w,
-            ep,
-            1.0 / ep,
-            &bits,
-            n,
-            &up,
-            &down,
-            ep2,
-            1.0 / ep2,
-            &bits2,
-            n2,
-            &up2,
-            &down2,
-        );
-    }
+    half_stride_forward(
+        room,
+        src,
+        dst,
+        w,
+        odd,
+        ep,
+        1.0 / ep,
+        &bits,
+        n,
+        &up,
+        &down,
+        ep2,
+        1.0 / ep2,
+        &bits2,
+        n2,
+        &up2,
+        &down2,
+    );
 }
 
-// The forward steps at t and at `last`, or the one at t alone where `last` is t: the first with the scale, the second with the other.
+// The forward steps at t and at `last`, or the one at t alone where `last` is t: the first with the scale, the second with the other. `odd`
+// says of which kind the half is.
 pub fn forward_through(
     room: &mut [f64],
     factors: usize,
@@ -119,35 +96,24 @@ pub fn forward_through(
     last: usize,
     scale: f64,
     then: f64,
+    odd: bool,
     src: usize,
     dst: usize,
-    symmetric: bool,
 )
-    requires { ⌜ Stepping (now plan) (length (now room)) w factors t src dst × Through (now plan) (length (now room)) w factors t last
-        × (symmetric ≡ true → Symmetric w (held (now room) w src)) ⌝ }
+    requires { ⌜ Stepping (now plan) (length (now room)) w factors t src dst × Through (now plan) (length (now room)) w factors t last ⌝ }
     ensures { λ _. ⌜ now (room .exit) ≡ hold (now (room .entry)) w dst
-        (through (forwardBy (now (plan .entry)) (drop factors (now (room .entry))) w) t last scale then (held (now (room .entry)) w src)) ⌝ }
+        (tabulate
+        (through (forwardBy (now (plan .entry)) (drop factors (now (room .entry))) w odd) t last scale then (halfAt (now (room .entry)) w src))
+        (2 ^ (w - 1))) ⌝ }
 {
     if last == t {
-        forward_at(room, factors, plan, w, t, scale, src, dst);
+        forward_at(room, factors, plan, w, t, scale, odd, src, dst);
     } else {
-        forward_two_at(
-            room,
-            factors,
-            plan,
-            w,
-            t,
-            last,
-            scale,
-            then,
-            src,
-            dst,
-            symmetric,
-        );
+        forward_two_at(room, factors, plan, w, t, last, scale, then, odd, src, dst);
     }
 }
 
-// The backward steps likewise, from a symmetric vector. The tables of `last`, whose step is the second, come first.
+// The backward steps likewise, from an even half. The tables of `last`, whose step is the second, come first.
 fn backward_two_at(
     room: &mut [f64],
     factors: usize,
@@ -160,11 +126,11 @@ fn backward_two_at(
     src: usize,
     dst: usize,
 )
-    requires { ⌜ Stepping (now plan) (length (now room)) w factors t src dst × Second (now plan) (length (now room)) w factors last
-        × Symmetric w (held (now room) w src) ⌝ }
+    requires { ⌜ Stepping (now plan) (length (now room)) w factors t src dst × Second (now plan) (length (now room)) w factors last ⌝ }
     ensures { λ _. ⌜ now (room .exit) ≡ hold (now (room .entry)) w dst
-        (backwardStep ieee w (stepIn (now (plan .entry)) (drop factors (now (room .entry))) last) then
-        (backwardStep ieee w (stepIn (now (plan .entry)) (drop factors (now (room .entry))) t) scale (held (now (room .entry)) w src))) ⌝ }
+        (tabulate
+        (backwardBy (now (plan .entry)) (drop factors (now (room .entry))) w last then
+        (backwardBy (now (plan .entry)) (drop factors (now (room .entry))) w t scale (halfAt (now (room .entry)) w src))) (2 ^ (w - 1))) ⌝ }
 {
     let mut bits = [0usize; 4];
     let mut up = [0.0f64; 16];
@@ -196,7 +162,7 @@ fn backward_two_at(
     );
     let n = near_count(plan, last);
     let n2 = near_count(plan, t);
-    mirrored_backward(
+    half_stride_backward(
         room,
         src,
         dst,
@@ -216,7 +182,7 @@ fn backward_two_at(
     );
 }
 
-// The backward steps at t and at `last`, or the one at t alone where `last` is t, from a symmetric vector.
+// The backward steps at t and at `last`, or the one at t alone where `last` is t, from an even half.
 pub fn backward_through(
     room: &mut [f64],
     factors: usize,
@@ -229,10 +195,11 @@ pub fn backward_through(
     src: usize,
     dst: usize,
 )
-    requires { ⌜ Stepping (now plan) (length (now room)) w factors t src dst × Through (now plan) (length (now room)) w factors t last
-        × Symmetric w (held (now room) w src) ⌝ }
+    requires { ⌜ Stepping (now plan) (length (now room)) w factors t src dst × Through (now plan) (length (now room)) w factors t last ⌝ }
     ensures { λ _. ⌜ now (room .exit) ≡ hold (now (room .entry)) w dst
-        (through (backwardBy (now (plan .entry)) (drop factors (now (room .entry))) w) t last scale then (held (now (room .entry)) w src)) ⌝ }
+        (tabulate
+        (through (backwardBy (now (plan .entry)) (drop factors (now (room .entry))) w) t last scale then (halfAt (now (room .entry)) w src))
+        (2 ^ (w - 1))) ⌝ }
 {
     if last == t {
         backward_at(room, factors, plan, w, t, scale, src, dst);

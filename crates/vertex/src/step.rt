@@ -1,17 +1,18 @@
-// A step from one place of the room to another.
+// A step of a half vector, from one place of the room to another.
 ghost use mathlib.Core.Path.{_≡_};
+ghost use Prim.Native.Nat.{_-_, _^_};
 ghost use lib.ListN.{length, drop};
-ghost use Rattle.transfer.specs.Rounded.{ieee};
-ghost use Rattle.transfer.specs.Sweep.{forwardStep, backwardStep};
-ghost use Rattle.plan.specs.Layout.{stepIn};
-ghost use Rattle.sweep.specs.Place.{held, hold};
+ghost use Rattle.vector.specs.Tabulate.{tabulate};
+ghost use Rattle.sweep.specs.Place.{hold};
+ghost use Rattle.half_sums.specs.Terms.{halfAt};
 ghost use Rattle.vertex.specs.Ready.{Stepping};
+ghost use Rattle.vertex.specs.Through.{forwardBy, backwardBy};
 use crate::tables::tables_at;
+use half_steps::half_backward;
+use half_steps::half_forward;
 use plan::near_count;
-use sweep::step_backward;
-use sweep::step_forward;
 
-// The forward step at t, with the scale, from the vector at place src to place dst.
+// The forward step at t, with the scale, from the half at place src, which is even or odd, to place dst.
 pub(crate) fn forward_at(
     room: &mut [f64],
     factors: usize,
@@ -19,12 +20,13 @@ pub(crate) fn forward_at(
     w: usize,
     t: usize,
     scale: f64,
+    odd: bool,
     src: usize,
     dst: usize,
 )
     requires { ⌜ Stepping (now plan) (length (now room)) w factors t src dst ⌝ }
     ensures { λ _. ⌜ now (room .exit) ≡ hold (now (room .entry)) w dst
-        (forwardStep ieee w (stepIn (now (plan .entry)) (drop factors (now (room .entry))) t) scale (held (now (room .entry)) w src)) ⌝ }
+        (tabulate (forwardBy (now (plan .entry)) (drop factors (now (room .entry))) w odd t scale (halfAt (now (room .entry)) w src)) (2 ^ (w - 1))) ⌝ }
 {
     let mut bits = [0usize; 4];
     let mut up = [0.0f64; 16];
@@ -41,10 +43,22 @@ pub(crate) fn forward_at(
         &mut down,
     );
     let count = near_count(plan, t);
-    step_forward(room, src, dst, w, ep, 1.0 / ep, &bits, count, &up, &down);
+    half_forward(
+        room,
+        src,
+        dst,
+        w,
+        ep,
+        1.0 / ep,
+        odd,
+        &bits,
+        count,
+        &up,
+        &down,
+    );
 }
 
-// The backward step at t likewise.
+// The backward step at t likewise, from an even half.
 pub(crate) fn backward_at(
     room: &mut [f64],
     factors: usize,
@@ -57,7 +71,7 @@ pub(crate) fn backward_at(
 )
     requires { ⌜ Stepping (now plan) (length (now room)) w factors t src dst ⌝ }
     ensures { λ _. ⌜ now (room .exit) ≡ hold (now (room .entry)) w dst
-        (backwardStep ieee w (stepIn (now (plan .entry)) (drop factors (now (room .entry))) t) scale (held (now (room .entry)) w src)) ⌝ }
+        (tabulate (backwardBy (now (plan .entry)) (drop factors (now (room .entry))) w t scale (halfAt (now (room .entry)) w src)) (2 ^ (w - 1))) ⌝ }
 {
     let mut bits = [0usize; 4];
     let mut up = [0.0f64; 16];
@@ -74,5 +88,5 @@ pub(crate) fn backward_at(
         &mut down,
     );
     let count = near_count(plan, t);
-    step_backward(room, src, dst, w, ep, 1.0 / ep, &bits, count, &up, &down);
+    half_backward(room, src, dst, w, ep, 1.0 / ep, &bits, count, &up, &down);
 }

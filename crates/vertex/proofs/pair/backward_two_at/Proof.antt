@@ -1,7 +1,11 @@
 -- Both tables are read, and the steps are taken by them.
+use mathlib.Core.Path.{sym, ap, _∙_}
 use lib.ListN.{drop}
+use Rattle.plan.specs.Layout.{stepIn}
 use Rattle.sweep.specs.Constants.{one-is}
-use Rattle.vertex.specs.Steady.{step-below}
+use Rattle.sweep.specs.Place.{hold}
+use Rattle.half_sums.specs.Terms.{halfAt}
+use Rattle.vertex.proofs.Folds.{fold-twice}
 use borrow.Author.Needs.{needs}
 use Rattle.vertex.proofs.pair.backward_two_at.Statement.{statement}
 use Rattle.vertex.proofs.pair.backward_two_at.Tie as tie
@@ -36,14 +40,13 @@ near-count-requires c κs = search needs
 near-count-requires-2 : tie.Need-near-count-requires-2
 near-count-requires-2 c κs = search needs
 
-mirrored-backward-requires : tie.Need-mirrored-backward-requires
-mirrored-backward-requires c κs =
+half-stride-backward-requires : tie.Need-half-stride-backward-requires
+half-stride-backward-requires c κs =
     let s = c .before .before .before .before .before .before .before .before .before .before .before .before .before .before .before .before .before .before .before .before .before .before .before .before .before .before .before in (
       s .pre .1 .wide,
       s .pre .0 .places,
       rw (c .before .before .before .before .before .before .before .before .near-count .ensures) (c .before .before .before .before .before .before .before .before .before .before .before .before .before .before .before .before .before .before .before .before .tables-at .ensures .1),
       rw (c .before .before .before .before .before .before .before .near-count2 .ensures) (c .before .before .before .before .before .before .before .before .before .before .before .before .tables-at2 .ensures .1),
-      s .pre .2,
     )
 
 same-length : tie.Need-same-length
@@ -52,11 +55,14 @@ same-length c = search needs
 returns : tie.Need-returns
 returns c =
     let s = c .before .before .before .before .before .before .before .before .before .before .before .before .before .before .before .before .before .before .before .before .before .before .before .before .before .before .before .before .before .before in
-    let x = drop (s .args .factors) (s .args .room .now) in
-    c .before .before .mirrored-backward .ensures _ _ _ _
+    let a = s .args in
+    let x = drop (a .factors) (a .room .now) in
+    let one = stepIn (a .plan .now) x (a .t) in
+    let two = stepIn (a .plan .now) x (a .last) in
+    c .before .before .half-stride-backward .ensures two (a .then) one (a .scale)
     (rw (c .before .before .before .before .before .before .before .before .before .before .before .near-count .ensures, one-is) (c .before .before .before .before .before .before .before .before .before .before .before .before .before .before .before .before .before .before .before .before .before .before .before .tables-at .ensures .0))
     (rw (c .before .before .before .before .before .before .before .before .before .before .near-count2 .ensures, one-is) (c .before .before .before .before .before .before .before .before .before .before .before .before .before .before .before .tables-at2 .ensures .0))
-    (step-below x (s .pre .1 .reads .vertex)) (step-below x (s .pre .0 .reads .vertex))
+    ∙ ap (hold (a .room .now) (a .w) (a .dst)) (sym (fold-twice (a .w) two (a .then) one (a .scale) (halfAt (a .room .now) (a .w) (a .src)) (s .pre .1 .wide)))
 
 pub backward-two-at-spec : {M : Type 1} → statement M
 backward-two-at-spec =
@@ -72,6 +78,6 @@ backward-two-at-spec =
     tables-at-requires-2
     near-count-requires
     near-count-requires-2
-    mirrored-backward-requires
+    half-stride-backward-requires
     same-length
     returns)

@@ -1,8 +1,8 @@
 -- One step or two, as `last` says.
 use mathlib.Core.Path.{sym, ap, _∙_}
-use Rattle.sweep.specs.Place.{hold}
 use Rattle.vertex.specs.Through.{second-of, through-one, through-two}
 use borrow.Author.Needs.{needs}
+use Rattle.vertex.proofs.Folds.{half-to}
 use Rattle.vertex.proofs.pair.forward_through.Statement.{statement}
 use Rattle.vertex.proofs.pair.forward_through.Tie as tie
 
@@ -13,19 +13,19 @@ forward-two-at-requires : tie.Need-forward-two-at-requires
 forward-two-at-requires c κs =
     let s = c .before .before .before .before in
     let two = second-of (s .pre .1) (c .before .if1 .left) in
-    (s .pre .0, two, s .pre .2)
+    (s .pre .0, two)
 
 same-length : tie.Need-same-length
 same-length c = search needs
 
 returns : tie.Need-returns
-returns c = c .before .before .forward-at .ensures ∙ ap (hold _ _ _) (sym (through-one _ _ _ _ _ _ (c .before .before .before .before .if1 .taken)))
+returns c = c .before .before .forward-at .ensures ∙ ap (half-to _ _ _ _) (sym (through-one _ _ _ _ _ _ (c .before .before .before .before .if1 .taken)))
 
 same-length-2 : tie.Need-same-length-2
 same-length-2 c = search needs
 
 returns-2 : tie.Need-returns-2
-returns-2 c = c .before .before .forward-two-at .ensures ∙ ap (hold _ _ _) (sym (through-two _ _ _ _ _ _ (c .before .before .before .before .if1 .left)))
+returns-2 c = c .before .before .forward-two-at .ensures ∙ ap (half-to _ _ _ _) (sym (through-two _ _ _ _ _ _ (c .before .before .before .before .if1 .left)))
 
 pub forward-through-spec : {M : Type 1} → statement M
 forward-through-spec =

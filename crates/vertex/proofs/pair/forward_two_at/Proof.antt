@@ -1,15 +1,8 @@
 -- Both tables are read, and the steps are taken by them.
-use Prim.Native.Nat.{ℕ, _≤_}
-use native.Mathlib.Omega.{arith}
-use lib.ListN.{drop}
 use Rattle.sweep.specs.Constants.{one-is}
-use Rattle.vertex.specs.Steady.{step-below}
 use borrow.Author.Needs.{needs}
 use Rattle.vertex.proofs.pair.forward_two_at.Statement.{statement}
 use Rattle.vertex.proofs.pair.forward_two_at.Tie as tie
-
-three : {w : ℕ} → 4 ≤ w → 3 ≤ w
-three h = omega arith
 
 slice-aggregate-tables-at : tie.Need-slice-aggregate-tables-at
 slice-aggregate-tables-at c = search needs
@@ -41,23 +34,13 @@ near-count-requires c κs = search needs
 near-count-requires-2 : tie.Need-near-count-requires-2
 near-count-requires-2 c κs = search needs
 
-mirrored-forward-requires : tie.Need-mirrored-forward-requires
-mirrored-forward-requires c κs =
-    let s = c .before .before .before .before .before .before .before .before .before .before .before .before .before .before .before .before .before .before .before .before .before .before .before .before .before .before .before .before in (
+half-stride-forward-requires : tie.Need-half-stride-forward-requires
+half-stride-forward-requires c κs =
+    let s = c .before .before .before .before .before .before .before .before .before .before .before .before .before .before .before .before .before .before .before .before .before .before .before .before .before .before .before in (
       s .pre .1 .wide,
       s .pre .0 .places,
-      rw (c .before .before .before .before .before .before .before .before .before .near-count .ensures) (c .before .before .before .before .before .before .before .before .before .before .before .before .before .before .before .before .before .before .before .before .before .tables-at .ensures .1),
-      rw (c .before .before .before .before .before .before .before .before .near-count2 .ensures) (c .before .before .before .before .before .before .before .before .before .before .before .before .before .tables-at2 .ensures .1),
-      s .pre .2 (c .before .before .before .before .before .before .before .if1 .taken),
-    )
-
-stride-forward-requires : tie.Need-stride-forward-requires
-stride-forward-requires c κs =
-    let s = c .before .before .before .before .before .before .before .before .before .before .before .before .before .before .before .before .before .before .before .before .before .before .before .before .before .before .before .before in (
-      three (s .pre .1 .wide),
-      s .pre .0 .places,
-      rw (c .before .before .before .before .before .before .before .before .before .near-count .ensures) (c .before .before .before .before .before .before .before .before .before .before .before .before .before .before .before .before .before .before .before .before .before .tables-at .ensures .1),
-      rw (c .before .before .before .before .before .before .before .before .near-count2 .ensures) (c .before .before .before .before .before .before .before .before .before .before .before .before .before .tables-at2 .ensures .1),
+      rw (c .before .before .before .before .before .before .before .before .near-count .ensures) (c .before .before .before .before .before .before .before .before .before .before .before .before .before .before .before .before .before .before .before .before .tables-at .ensures .1),
+      rw (c .before .before .before .before .before .before .before .near-count2 .ensures) (c .before .before .before .before .before .before .before .before .before .before .before .before .tables-at2 .ensures .1),
     )
 
 same-length : tie.Need-same-length
@@ -65,21 +48,9 @@ same-length c = search needs
 
 returns : tie.Need-returns
 returns c =
-    let s = c .before .before .before .before .before .before .before .before .before .before .before .before .before .before .before .before .before .before .before .before .before .before .before .before .before .before .before .before .before .before .before in
-    let x = drop (s .args .factors) (s .args .room .now) in
-    c .before .before .mirrored-forward .ensures _ _ _ _
-    (rw (c .before .before .before .before .before .before .before .before .before .before .before .before .near-count .ensures, one-is) (c .before .before .before .before .before .before .before .before .before .before .before .before .before .before .before .before .before .before .before .before .before .before .before .before .tables-at .ensures .0))
-    (rw (c .before .before .before .before .before .before .before .before .before .before .before .near-count2 .ensures, one-is) (c .before .before .before .before .before .before .before .before .before .before .before .before .before .before .before .before .tables-at2 .ensures .0))
-    (step-below x (s .pre .0 .reads .vertex)) (step-below x (s .pre .1 .reads .vertex))
-
-same-length-2 : tie.Need-same-length-2
-same-length-2 c = search needs
-
-returns-2 : tie.Need-returns-2
-returns-2 c =
-    c .before .before .stride-forward .ensures _ _ _ _
-    (rw (c .before .before .before .before .before .before .before .before .before .before .before .before .near-count .ensures, one-is) (c .before .before .before .before .before .before .before .before .before .before .before .before .before .before .before .before .before .before .before .before .before .before .before .before .tables-at .ensures .0))
-    (rw (c .before .before .before .before .before .before .before .before .before .before .before .near-count2 .ensures, one-is) (c .before .before .before .before .before .before .before .before .before .before .before .before .before .before .before .before .tables-at2 .ensures .0))
+    c .before .before .half-stride-forward .ensures _ _ _ _
+    (rw (c .before .before .before .before .before .before .before .before .before .before .before .near-count .ensures, one-is) (c .before .before .before .before .before .before .before .before .before .before .before .before .before .before .before .before .before .before .before .before .before .before .before .tables-at .ensures .0))
+    (rw (c .before .before .before .before .before .before .before .before .before .before .near-count2 .ensures, one-is) (c .before .before .before .before .before .before .before .before .before .before .before .before .before .before .before .tables-at2 .ensures .0))
 
 pub forward-two-at-spec : {M : Type 1} → statement M
 forward-two-at-spec =
@@ -95,9 +66,6 @@ forward-two-at-spec =
     tables-at-requires-2
     near-count-requires
     near-count-requires-2
-    mirrored-forward-requires
-    stride-forward-requires
+    half-stride-forward-requires
     same-length
-    returns
-    same-length-2
-    returns-2)
+    returns)

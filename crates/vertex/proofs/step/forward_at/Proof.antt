@@ -2,43 +2,30 @@ use Rattle.sweep.specs.Constants.{one-is}
 use borrow.Author.Needs.{needs}
 use Rattle.vertex.proofs.step.forward_at.Statement.{statement}
 use Rattle.vertex.proofs.step.forward_at.Tie as tie
-use Rattle.vertex.proofs.step.forward_at.Reads as reads
-use Rattle.vertex.proofs.step.forward_at.Lts as lts
-use Rattle.plan.proofs.near_count.Reads as near-count-reads
-use Rattle.sweep.proofs.step_forward.Reads as step-forward-reads
-use Rattle.vertex.proofs.tables.tables_at.Reads as tables-at-reads
 
--- src/step.rt:39:9
 slice-aggregate-tables-at : tie.Need-slice-aggregate-tables-at
 slice-aggregate-tables-at c = search needs
 
--- src/step.rt:40:9
 slice-aggregate-tables-at-2 : tie.Need-slice-aggregate-tables-at-2
 slice-aggregate-tables-at-2 c = search needs
 
--- src/step.rt:41:9
 slice-aggregate-tables-at-3 : tie.Need-slice-aggregate-tables-at-3
 slice-aggregate-tables-at-3 c = search needs
 
--- src/step.rt:32:9
 tables-at-requires : tie.Need-tables-at-requires
 tables-at-requires c κs = search needs
 
--- src/step.rt:43:9
 near-count-requires : tie.Need-near-count-requires
 near-count-requires c κs = search needs
 
--- src/step.rt:44:5
-step-forward-requires : tie.Need-step-forward-requires
-step-forward-requires c κs = (c .before .before .before .before .before .before .before .before .before .before .before .before .before .before .before .pre .places, rw (c .before .before .before .before .near-count .ensures) (c .before .before .before .before .before .before .before .before .tables-at .ensures .1))
+half-forward-requires : tie.Need-half-forward-requires
+half-forward-requires c κs = (c .before .before .before .before .before .before .before .before .before .before .before .before .before .before .before .pre .places, rw (c .before .before .before .before .near-count .ensures) (c .before .before .before .before .before .before .before .before .tables-at .ensures .1))
 
--- src/step.rt:15:1
 same-length : tie.Need-same-length
 same-length c = search needs
 
--- src/step.rt:15:1
 returns : tie.Need-returns
-returns c = c .before .before .step-forward .ensures _ _ (rw (c .before .before .before .before .before .before .before .near-count .ensures, one-is) (c .before .before .before .before .before .before .before .before .before .before .before .tables-at .ensures .0))
+returns c = c .before .before .half-forward .ensures _ _ (rw (c .before .before .before .before .before .before .before .near-count .ensures, one-is) (c .before .before .before .before .before .before .before .before .before .before .before .tables-at .ensures .0))
 
 pub forward-at-spec : {M : Type 1} → statement M
 forward-at-spec =
@@ -49,6 +36,6 @@ forward-at-spec =
     slice-aggregate-tables-at-3
     tables-at-requires
     near-count-requires
-    step-forward-requires
+    half-forward-requires
     same-length
     returns)
