@@ -1,29 +1,34 @@
 -- The backward sweep: its start, and a turn.
-use mathlib.Core.Path.{_≡_, refl, sym, ap, _∙_}
+use mathlib.Core.Path.{_≡_, refl, sym, ap, _∙_, subst}
 use mathlib.Core.Bool.{Bool, cond}
 use mathlib.Core.List.{List}
 use mathlib.Core.Logic.{inl, inr, ⊎-elim, dite}
-use Prim.Native.Nat.{ℕ, suc, _+_, _-_, _≤_, _<_}
+use Prim.Native.Nat.{ℕ, suc, _+_, _-_, _^_, _≤_, _<_}
 use native.Mathlib.Decide.{decLt}
 use native.Mathlib.Omega.{arith}
 use lib.ListN.{length, drop}
 use lib.Ieee.{Float, binary64, div}
+use Rattle.vector.specs.Tabulate.{tabulate, tabulate-length}
 use Rattle.transfer.specs.Job.{Job, Manner, Step, block, perElement, stepOf}
 use Rattle.transfer.specs.Rounded.{ieee}
 use Rattle.transfer.specs.Sweep as S
 use Rattle.plan.specs.Layout.{stepIn, forwardPlace, backwardPlace}
-use Rattle.sweep.specs.Place.{held, hold}
-use Rattle.symmetry.specs.Symmetric.{start-symmetric}
-use Rattle.vertex.specs.Frame.{Fits, Wrote, wrote-same, wrote-other}
+use Rattle.sweep.specs.Place.{hold}
+use Rattle.halves.specs.Even.{Even, start-even}
+use Rattle.halves.specs.Largest.{stored-even}
+use Rattle.half_sums.specs.Terms.{halfAt}
+use Rattle.half_steps.specs.Fold.{fold-even}
+use Rattle.vertex.specs.Same.{even-ext, even-as}
+use Rattle.vertex.specs.Frame.{Fits, half-held, Wrote, wrote-half, wrote-other}
 use Rattle.vertex.specs.Ready.{Ready, PlanOf, Stepping, tail-factors}
-use Rattle.vertex.specs.Steady.{through-backward}
-use Rattle.vertex.specs.Through.{Through, backwardBy, through, backward-full, through-one, through-two, through-full}
+use Rattle.vertex.specs.Steady.{step-below}
+use Rattle.vertex.specs.Through.{Through, backwardBy, through, through-one, through-two}
 use Rattle.sweeps.specs.Target.{Target}
 use Rattle.sweeps.specs.Kept.{Since}
 use Rattle.sweeps.specs.Turn.{BackwardPair, BackwardTurn}
 use Rattle.sweeps.specs.Coming.{NewestBackward, Coming}
 use Rattle.sweeps.proofs.Targets.{Aimed, target-fits, target-own, target-kind, target-other, target-free}
-use Rattle.sweeps.proofs.Frames.{place-of, stepping, start-full, since-none, since-then, since-wrote}
+use Rattle.sweeps.proofs.Frames.{place-of, stepping, since-none, since-then, since-wrote}
 use Rattle.sweeps.proofs.Unscaled.{unscaled}
 
 -- ---- the definition, opened
@@ -40,6 +45,10 @@ entry-next : (J : Job Float) (i : ℕ)
     → S.afterSteps ieee J (suc i) .1 ≡ S.stored ieee (J .manner) 0 (J .last - i) (S.afterSteps ieee J (suc i) .0)
 unfolding S.afterSteps S.sweepBackward
 entry-next J i = refl
+
+step-full : (J : Job Float) (i : ℕ) → length (S.afterSteps ieee J (suc i) .0) ≡ 2 ^ J .window
+unfolding S.afterSteps S.sweepBackward S.backwardStep
+step-full J i = tabulate-length _ (2 ^ J .window)
 
 backward-is : (J : Job Float) (t : ℕ) → S.backward ieee J t ≡ S.afterSteps ieee J (J .last - t) .0
 unfolding S.backward
@@ -69,6 +78,9 @@ module _ (J : Job Float) {n t : ℕ} (u : ℕ) (vertices : J .last + 1 ≡ n) (b
       let new = S.afterSteps ieee J (suc (J .last - t)) in
       rw count (entry-next J (J .last - t) ∙ ap (λ (k : ℕ). S.stored ieee (J .manner) 0 k (new .0)) back)
 
+  full-at : length (S.afterSteps ieee J (J .last - u) .0) ≡ 2 ^ J .window
+  full-at = rw count (step-full J (J .last - t))
+
 -- ---- a vector of u, written to its target
 
 module _ {plan : List ℕ} (r : List Float) {n w scales u src dst : ℕ} (g : Ready plan (length r) n w scales) (b : u < n)
@@ -87,32 +99,40 @@ module _ {plan : List ℕ} (r : List Float) {n w scales u src dst : ℕ} (g : Re
       since-wrote plan r r′ n w scales dst g written-fits
       (λ v c p. target-kind aimed (forwardPlace plan v) (g .forward .high v c p) (λ e. g .kinds v u c b p e)) d
 
+-- what was written at its place p is the vector of u
+kept-as : (J : Job Float) (u : ℕ) (r : List Float) (w : ℕ) {p q : ℕ} → p ≡ q → Even w (halfAt r w p) (S.afterSteps ieee J (J .last - u) .0)
+    → Even w (halfAt r w q) (S.backward ieee J u)
+kept-as J u r w same e =
+    even-as (subst (λ (q : ℕ). Even w (halfAt r w q) (S.afterSteps ieee J (J .last - u) .0)) same e) (sym (backward-is J u))
+
 -- ---- the start: e is the room at entry, u the last vertex
 
 module _ {plan : List ℕ} (e : List Float) {r : List Float} {n w scales : ℕ} (u : ℕ) {src dst : ℕ} (g : Ready plan (length e) n w scales)
-    (last : u + 1 ≡ n) (target : Target (backwardPlace plan u) src dst) (made : r ≡ hold e w dst (S.start ieee w)) where
+    (last : u + 1 ≡ n) (target : Target (backwardPlace plan u) src dst) (made : r ≡ hold e w dst (tabulate (λ _. ieee .𝟙) (2 ^ (w - 1)))) where
   first-below : u < n
   first-below = omega arith
 
   abbrev first-wrote : Wrote e r w dst
-  first-wrote = record { vector = S.start ieee w; full = start-full w; done = made }
+  first-wrote = record { vector = tabulate (λ _. ieee .𝟙) (2 ^ (w - 1)); full = tabulate-length _ (2 ^ (w - 1)); done = made }
 
   pub start-since : Since plan e r n w scales
   start-since = written-since e g first-below target first-wrote
 
+  first-even : Even w (halfAt r w dst) (S.start ieee w)
+  first-even = even-ext (start-even w (g .wide)) (wrote-half e r w dst first-wrote (written-inside e g first-below target) (λ _. ieee .𝟙) refl)
+
   first-newest : {one : Float} → one ≡ ieee .𝟙 → (J : Job Float) → J .last + 1 ≡ n → J .window ≡ w → NewestBackward J plan r n w u dst one
   first-newest o J vertices window =
       let none : J .last - u ≡ 0 = omega arith in
-      let vector : held r w dst ≡ S.afterSteps ieee J (J .last - u) .0 =
-      wrote-same e r w dst first-wrote (written-inside e g first-below target)
-      ∙ ap (S.start ieee) (sym window) ∙ sym (first-vector J) ∙ ap (λ (i : ℕ). S.afterSteps ieee J i .0) (sym none) in
+      let vector : Even w (halfAt r w dst) (S.afterSteps ieee J (J .last - u) .0) =
+      even-as first-even (ap (S.start ieee) (sym window) ∙ sym (first-vector J) ∙ ap (λ (i : ℕ). S.afterSteps ieee J i .0) (sym none)) in
       record {
         vector = vector;
         entry = o ∙ sym (first-entry J) ∙ ap (λ (i : ℕ). S.afterSteps ieee J i .1) (sym none);
         kept = record {
           vectors = λ v c d p. let x : v ≡ u = omega arith in
               let p′ : 0 < backwardPlace plan u = rw x at p in
-              rw x (ap (λ (q : ℕ). held r w q) (sym (target .keeps p′)) ∙ vector ∙ sym (backward-is J u));
+              rw x (kept-as J u r w (target .keeps p′) vector);
         };
       }
 
@@ -123,7 +143,6 @@ module _ {plan : List ℕ} (e : List Float) {r : List Float} {n w scales : ℕ} 
         ready = rw (start-since .same) g;
         since = since-none plan r n w scales;
         free = target-free (aimed e g first-below target) (λ v. v < u) (λ v q x. omega arith);
-        symmetric = rw (wrote-same e r w dst first-wrote (written-inside e g first-below target)) (start-symmetric w);
         newest = λ J of. first-newest o J (of .vertices) (of .window);
       }
 
@@ -162,15 +181,17 @@ module _ {plan : List ℕ} {r₀ r : List Float} {n w scales : ℕ} {each : Bool
   coming-through = ⊎-elim inl (λ p. inr (record { wide = p .wide; reads = stepping-at last last-below .reads })) turn
 
   module _ {r₂ : List Float} {one scale most′ : Float} (unit : one ≡ ieee .𝟙) (one-over : scale ≡ div binary64 (ieee .𝟙) most)
-      (step : r₂ ≡ hold r w dst (through (backwardBy plan (drop (scales + n) r) w) t last scale one (held r w src)))
-      (taken : most′ ≡ S.stored ieee (cond each perElement block) 0 last (held r₂ w dst)) where
+      (step : r₂ ≡ hold r w dst (tabulate (through (backwardBy plan (drop (scales + n) r) w) t last scale one (halfAt r w src)) (2 ^ (w - 1))))
+      (taken : most′ ≡ S.stored ieee (cond each perElement block) 0 last (tabulate (halfAt r₂ w dst) (2 ^ (w - 1)))) where
+    -- the steps
+    abbrev by : ℕ → Float → (ℕ → Float) → ℕ → Float
+    by = backwardBy plan (drop (scales + n) r) w
+
+    abbrev half : ℕ → Float
+    half = through by t last scale one (halfAt r w src)
+
     abbrev wrote : Wrote r r₂ w dst
-    wrote =
-        record {
-          vector = _;
-          full = through-full (backwardBy plan (drop (scales + n) r) w) t last scale one (held r w src) (backward-full plan (drop (scales + n) r) w);
-          done = step;
-        }
+    wrote = record { vector = tabulate half (2 ^ (w - 1)); full = tabulate-length half (2 ^ (w - 1)); done = step }
 
     -- in job J
     module _ (J : Job Float) (of : PlanOf J plan (drop (scales + n) r₀) n w each) where
@@ -186,49 +207,56 @@ module _ {plan : List ℕ} {r₀ r : List Float} {n w scales : ℕ} {each : Bool
       said : (v : ℕ) → v < n → stepIn plan (drop (scales + n) r) v ≡ stepOf J v
       said v b = ap (λ (x : List Float). stepIn plan x v) (tail-factors r₀ r scales n (g .since .tail)) ∙ of .step v b
 
-      first : (v : ℕ) → t ≡ v + 1 → backwardBy plan (drop (scales + n) r) w t scale (held r w src) ≡ after v .0
-      first v e =
-          ap (λ (s : Step Float). S.backwardStep ieee w s scale (held r w src)) (said t (g .below))
-          ∙ ap (λ (x : List Float). S.backwardStep ieee w (stepOf J t) scale x) (newest .vector)
-          ∙ ap (λ (c : Float). S.backwardStep ieee w (stepOf J t) c (after t .0)) (one-over ∙ ap (div binary64 (ieee .𝟙)) (newest .entry))
-          ∙ ap (λ (k : ℕ). S.backwardStep ieee k (stepOf J t) (div binary64 (ieee .𝟙) (after t .1)) (after t .0)) (sym (of .window))
-          ∙ sym (vector-at J v (of .vertices) (g .below) e)
+      -- a step from a half of the vector x
+      stepped : (v : ℕ) → v < n → (c : Float) (h : ℕ → Float) (x : List Float) → Even w h x → Even w (by v c h) (S.backwardStep ieee w (stepOf J v) c x)
+      stepped v b c h x e =
+          even-as (fold-even w (stepIn plan (drop (scales + n) r) v) c h x (g .ready .wide) (step-below (drop (scales + n) r) (g .ready .vertex v b)) e)
+          (ap (λ (s : Step Float). S.backwardStep ieee w s c x) (said v b))
 
-      second : BackwardPair plan w each t last → backwardBy plan (drop (scales + n) r) w last one (after last .0) ≡ after u .0
+      first : (v : ℕ) → t ≡ v + 1 → Even w (by t scale (halfAt r w src)) (after v .0)
+      first v e =
+          even-as (stepped t (g .below) scale (halfAt r w src) (after t .0) (newest .vector))
+          (ap (λ (c : Float). S.backwardStep ieee w (stepOf J t) c (after t .0)) (one-over ∙ ap (div binary64 (ieee .𝟙)) (newest .entry))
+          ∙ ap (λ (k : ℕ). S.backwardStep ieee k (stepOf J t) (div binary64 (ieee .𝟙) (after t .1)) (after t .0)) (sym (of .window))
+          ∙ sym (vector-at J v (of .vertices) (g .below) e))
+
+      second : BackwardPair plan w each t last → Even w (by last one (by t scale (halfAt r w src))) (after u .0)
       second p =
           let one-now : one ≡ div binary64 (ieee .𝟙) (after last .1) =
           unit
           ∙ sym
           (ap (div binary64 (ieee .𝟙)) (entry-at J last (of .vertices) (g .below) (p .next))
           ∙ unscaled (J .manner) each 0 t (after last .0) (of .manner) (p .blocks) (p .due)) in
-          ap (λ (s : Step Float). S.backwardStep ieee w s one (after last .0)) (said last last-below)
-          ∙ ap (λ (c : Float). S.backwardStep ieee w (stepOf J last) c (after last .0)) one-now
+          even-as (stepped last last-below one (by t scale (halfAt r w src)) (after last .0) (first last (p .next)))
+          (ap (λ (c : Float). S.backwardStep ieee w (stepOf J last) c (after last .0)) one-now
           ∙ ap (λ (k : ℕ). S.backwardStep ieee k (stepOf J last) (div binary64 (ieee .𝟙) (after last .1)) (after last .0)) (sym (of .window))
-          ∙ sym (vector-at J u (of .vertices) last-below next)
+          ∙ sym (vector-at J u (of .vertices) last-below next))
 
-      made : through (backwardBy plan (drop (scales + n) r) w) t last scale one (held r w src) ≡ after u .0
+      made : Even w half (after u .0)
       made =
           ⊎-elim
-          (λ e. through-one (backwardBy plan (drop (scales + n) r) w) t last scale one (held r w src) e ∙ first u (omega arith))
-          (λ p. through-two (backwardBy plan (drop (scales + n) r) w) t last scale one (held r w src) (λ e. omega (arith, p .next))
-          ∙ ap (backwardBy plan (drop (scales + n) r) w last one) (first last (p .next)) ∙ second p)
+          (λ e.
+          subst (λ (h : ℕ → Float). Even w h (after u .0)) (sym (through-one by t last scale one (halfAt r w src) e)) (first u (omega arith)))
+          (λ p.
+          subst (λ (h : ℕ → Float). Even w h (after u .0)) (sym (through-two by t last scale one (halfAt r w src) (λ e. omega (arith, p .next))))
+          (second p))
           turn
 
-      vector : held r₂ w dst ≡ after u .0
-      vector = wrote-same r r₂ w dst wrote fits ∙ made
+      vector : Even w (halfAt r₂ w dst) (after u .0)
+      vector = even-ext made (wrote-half r r₂ w dst wrote fits half refl)
 
-      kept-vector : (v : ℕ) → u ≤ v → v < n → 0 < backwardPlace plan v → held r₂ w (backwardPlace plan v) ≡ S.backward ieee J v
+      kept-vector : (v : ℕ) → u ≤ v → v < n → 0 < backwardPlace plan v → Even w (halfAt r₂ w (backwardPlace plan v)) (S.backward ieee J v)
       kept-vector v c d p =
           dite (decLt v t)
           (λ x.
           let e : v ≡ u = ⊎-elim (λ e. omega arith) (λ pair. new x pair) turn in
           let p′ : 0 < backwardPlace plan u = rw e at p in
-          rw e (ap (λ (q : ℕ). held r₂ w q) (sym (target .keeps p′)) ∙ vector ∙ sym (backward-is J u)))
+          rw e (kept-as J u r₂ w (target .keeps p′) vector))
           (λ x.
           let q = backwardPlace plan v in
           let own = target-own aim v d (λ z. omega (arith, order)) p in
-          wrote-other r r₂ w dst wrote fits q (λ e. own (sym e)) (place-of (g .ready) q (g .ready .backward .fits v d p) .inside)
-          ∙ newest .kept .vectors v (omega arith) d p)
+          even-ext (newest .kept .vectors v (omega arith) d p)
+          (half-held r r₂ w q (wrote-other r r₂ w dst wrote fits q (λ e. own (sym e)) (place-of (g .ready) q (g .ready .backward .fits v d p) .inside))))
         where
           -- the vector between is not kept
           new : v < t → BackwardPair plan w each t last → v ≡ u
@@ -239,10 +267,11 @@ module _ {plan : List ℕ} {r₀ r : List Float} {n w scales : ℕ} {each : Bool
 
       newest-turn : NewestBackward J plan r₂ n w u dst most′
       newest-turn =
-          let manner = ap (λ (m : Manner). S.stored ieee m 0 last (held r₂ w dst)) (sym (of .manner)) in
+          let manner = ap (λ (m : Manner). S.stored ieee m 0 last (tabulate (halfAt r₂ w dst) (2 ^ (w - 1)))) (sym (of .manner)) in
+          let full : length (after u .0) ≡ 2 ^ w = full-at J u (of .vertices) last-below next ∙ ap (λ (k : ℕ). 2 ^ k) (of .window) in
           record {
             vector = vector;
-            entry = taken ∙ manner ∙ ap (S.stored ieee (J .manner) 0 last) vector ∙ sym (entry-at J u (of .vertices) last-below next);
+            entry = taken ∙ manner ∙ sym (stored-even (g .ready .wide) full vector (J .manner) 0 last) ∙ sym (entry-at J u (of .vertices) last-below next);
             kept = record { vectors = kept-vector };
           }
 
@@ -254,7 +283,5 @@ module _ {plan : List ℕ} {r₀ r : List Float} {n w scales : ℕ} {each : Bool
           ready = rw (now .same) (g .ready);
           since = since-then (g .since) now;
           free = target-free aim (λ v. v < u) (λ v q e. omega arith);
-          symmetric = rw (wrote-same r r₂ w dst wrote (place-of (g .ready) dst coming-fits .inside))
-              (through-backward (drop (scales + n) r) scale one (held r w src) (g .ready .wide) (g .ready .vertex t (g .below)) (g .ready .vertex last last-below) (g .symmetric));
           newest = newest-turn;
         }

@@ -1,31 +1,35 @@
 -- The forward sweep: its start, and a turn.
-use mathlib.Core.Path.{_≡_, refl, sym, ap, _∙_}
-use mathlib.Core.Bool.{Bool, cond}
+use mathlib.Core.Path.{_≡_, refl, sym, ap, _∙_, subst}
+use mathlib.Core.Bool.{Bool, false, cond}
 use mathlib.Core.List.{List}
 use mathlib.Core.Logic.{inl, inr, ⊎-elim, dite}
-use Prim.Native.Nat.{ℕ, suc, _+_, _≤_, _<_}
+use Prim.Native.Nat.{ℕ, suc, _+_, _-_, _^_, _≤_, _<_}
 use native.Mathlib.Numerals.{add-one}
 use native.Mathlib.Decide.{decLt}
 use native.Mathlib.Omega.{arith}
 use lib.ListN.{length, getD, drop, set, length-set}
 use lib.Seq.{getD-set-same, getD-set-other, drop-set-lt}
 use lib.Ieee.{Float, nan, binary64, div}
+use Rattle.vector.specs.Tabulate.{tabulate, tabulate-length}
 use Rattle.transfer.specs.Job.{Job, Manner, Step, block, perElement, stepOf}
 use Rattle.transfer.specs.Rounded.{ieee}
 use Rattle.transfer.specs.Sweep as S
 use Rattle.plan.specs.Layout.{stepIn, forwardPlace}
 use Rattle.sweep.specs.Place.{held, hold}
-use Rattle.symmetry.specs.Symmetric.{Symmetric, start-symmetric}
-use Rattle.vertex.specs.Frame.{Fits, moving-fits, Wrote, wrote-length, wrote-same, wrote-other, wrote-at, wrote-drop, set-held}
+use Rattle.halves.specs.Even.{Even, start-even, forward-even}
+use Rattle.halves.specs.Largest.{stored-even}
+use Rattle.half_sums.specs.Terms.{halfAt}
+use Rattle.vertex.specs.Same.{even-ext, even-as}
+use Rattle.vertex.specs.Frame.{Fits, moving-fits, half-held, Wrote, wrote-length, wrote-half, wrote-other, wrote-at, wrote-drop, set-held}
 use Rattle.vertex.specs.Ready.{Ready, PlanOf, Stepping}
-use Rattle.vertex.specs.Steady.{through-forward}
-use Rattle.vertex.specs.Through.{Through, forwardBy, through, forward-full, through-one, through-two, through-full}
+use Rattle.vertex.specs.Steady.{step-below}
+use Rattle.vertex.specs.Through.{Through, forwardBy, through, through-one, through-two}
 use Rattle.sweeps.specs.Target.{Target}
 use Rattle.sweeps.specs.Kept.{SameFrom}
 use Rattle.sweeps.specs.Turn.{ForwardPair, ForwardTurn}
 use Rattle.sweeps.specs.Going.{NewestForward, Going}
 use Rattle.sweeps.proofs.Targets.{Aimed, target-fits, target-own, target-other, target-free}
-use Rattle.sweeps.proofs.Frames.{place-of, stepping, start-full}
+use Rattle.sweeps.proofs.Frames.{place-of, stepping}
 use Rattle.sweeps.proofs.Unscaled.{unscaled}
 
 -- ---- the definition, opened
@@ -50,6 +54,10 @@ scale-is : (J : Job Float) (t : ℕ) → S.scale ieee J t ≡ div binary64 (ieee
 unfolding S.scale
 scale-is J t = refl
 
+step-full : (J : Job Float) (t : ℕ) → length (S.beforeStep ieee J (suc t) .0) ≡ 2 ^ J .window
+unfolding S.beforeStep S.sweepForward S.forwardStep
+step-full J t = tabulate-length _ (2 ^ J .window)
+
 first-vector : (J : Job Float) → S.beforeStep ieee J 0 .0 ≡ S.start ieee (J .window)
 unfolding S.beforeStep
 first-vector J = refl
@@ -61,7 +69,7 @@ first-entry J = refl
 -- ---- the start: e is the room at entry
 
 module _ {plan : List ℕ} (e : List Float) {r : List Float} {n w scales : ℕ} (g : Ready plan (length e) n w scales)
-    (made : r ≡ hold e w 0 (S.start ieee w)) where
+    (made : r ≡ hold e w 0 (tabulate (λ _. ieee .𝟙) (2 ^ (w - 1)))) where
   first-fits : Fits w scales 0
   first-fits = moving-fits w scales 0 (omega arith) (g .moving)
 
@@ -69,7 +77,7 @@ module _ {plan : List ℕ} (e : List Float) {r : List Float} {n w scales : ℕ} 
   first-inside = place-of g 0 first-fits .inside
 
   abbrev first-wrote : Wrote e r w 0
-  first-wrote = record { vector = S.start ieee w; full = start-full w; done = made }
+  first-wrote = record { vector = tabulate (λ _. ieee .𝟙) (2 ^ (w - 1)); full = tabulate-length _ (2 ^ (w - 1)); done = made }
 
   pub start-same : SameFrom e r (scales + n)
   start-same =
@@ -79,6 +87,9 @@ module _ {plan : List ℕ} (e : List Float) {r : List Float} {n w scales : ℕ} 
         tail = wrote-drop e r w 0 first-wrote first-inside (scales + n) (omega arith);
       }
 
+  first-even : Even w (halfAt r w 0) (S.start ieee w)
+  first-even = even-ext (start-even w (g .wide)) (wrote-half e r w 0 first-wrote first-inside (λ _. ieee .𝟙) refl)
+
   pub going-start : (each : Bool) {one : Float} → one ≡ ieee .𝟙 → Going plan r r n w scales each 0 0 one
   going-start each o =
       record {
@@ -86,9 +97,8 @@ module _ {plan : List ℕ} (e : List Float) {r : List Float} {n w scales : ℕ} 
         ready = rw (start-same .same) g;
         since = record { same = refl; tail = refl };
         free = record { fits = first-fits; off = λ u c d p x. omega (arith, g .forward .high u c p) };
-        symmetric = rw (wrote-same e r w 0 first-wrote first-inside) (start-symmetric w);
         newest = λ J of. record {
-          vector = wrote-same e r w 0 first-wrote first-inside ∙ ap (S.start ieee) (sym (of .window)) ∙ sym (first-vector J);
+          vector = even-as first-even (ap (S.start ieee) (sym (of .window)) ∙ sym (first-vector J));
           entry = o ∙ sym (first-entry J);
           kept = record { vectors = λ u c. absurd (omega arith); scaled = λ u c. absurd (omega arith) };
         };
@@ -145,14 +155,18 @@ module _ {plan : List ℕ} {r₀ r : List Float} {n w scales : ℕ} {each : Bool
         set-held (set r (scales + last) one) w (scales + t) p scale (omega (arith, room t b)) (omega arith)
         ∙ set-held r w (scales + last) p one (room last last-inside) (omega arith)
 
-    pub going-symmetric : Symmetric w (held r₁ w src)
-    going-symmetric = rw (places src (g .free .fits)) (g .symmetric)
-
     module _ {r₂ : List Float} {most′ : Float} (unit : one ≡ ieee .𝟙) (one-over : scale ≡ div binary64 (ieee .𝟙) most)
-        (step : r₂ ≡ hold r₁ w dst (through (forwardBy plan (drop (scales + n) r₁) w) t last scale one (held r₁ w src)))
-        (taken : most′ ≡ S.stored ieee (cond each perElement block) 3 last (held r₂ w dst)) where
+        (step : r₂ ≡ hold r₁ w dst (tabulate (through (forwardBy plan (drop (scales + n) r₁) w false) t last scale one (halfAt r₁ w src)) (2 ^ (w - 1))))
+        (taken : most′ ≡ S.stored ieee (cond each perElement block) 3 last (tabulate (halfAt r₂ w dst) (2 ^ (w - 1)))) where
+      -- the steps
+      abbrev by : ℕ → Float → (ℕ → Float) → ℕ → Float
+      by = forwardBy plan (drop (scales + n) r₁) w false
+
+      abbrev half : ℕ → Float
+      half = through by t last scale one (halfAt r₁ w src)
+
       abbrev wrote : Wrote r₁ r₂ w dst
-      wrote = record { vector = _; full = through-full (forwardBy plan (drop (scales + n) r₁) w) t last scale one (held r₁ w src) (forward-full plan (drop (scales + n) r₁) w); done = step }
+      wrote = record { vector = tabulate half (2 ^ (w - 1)); full = tabulate-length half (2 ^ (w - 1)); done = step }
 
       inside : (p : ℕ) → Fits w scales p → Fits w (length r₁) p
       inside p f = rw length-same (place-of (g .ready) p f .inside)
@@ -176,14 +190,18 @@ module _ {plan : List ℕ} {r₀ r : List Float} {n w scales : ℕ} {each : Bool
         said : (u : ℕ) → u < n → stepIn plan (drop (scales + n) r₁) u ≡ stepOf J u
         said u l = ap (λ (x : List Float). stepIn plan x u) tail₁ ∙ of .step u l
 
-        first : S.forwardStep ieee w (stepIn plan (drop (scales + n) r₁) t) scale (held r₁ w src) ≡ before (suc t) .0
+        -- a step from a half of the vector v
+        stepped : (u : ℕ) → u < n → (c : Float) (h : ℕ → Float) (v : List Float) → Even w h v → Even w (by u c h) (S.forwardStep ieee w (stepOf J u) c v)
+        stepped u l c h v e =
+            even-as (forward-even w (stepIn plan (drop (scales + n) r₁) u) c h v (g .ready .wide) (step-below (drop (scales + n) r₁) (g .ready .vertex u l)) e)
+            (ap (λ (s : Step Float). S.forwardStep ieee w s c v) (said u l))
+
+        first : Even w (by t scale (halfAt r₁ w src)) (before (suc t) .0)
         first =
-            let from : held r₁ w src ≡ before t .0 = places src (g .free .fits) ∙ newest .vector in
-            ap (λ (s : Step Float). S.forwardStep ieee w s scale (held r₁ w src)) (said t b)
-            ∙ ap (λ (x : List Float). S.forwardStep ieee w (stepOf J t) scale x) from
-            ∙ ap (λ (c : Float). S.forwardStep ieee w (stepOf J t) c (before t .0)) scale-now
+            even-as (stepped t b scale (halfAt r₁ w src) (before t .0) (even-ext (newest .vector) (half-held r r₁ w src (places src (g .free .fits)))))
+            (ap (λ (c : Float). S.forwardStep ieee w (stepOf J t) c (before t .0)) scale-now
             ∙ ap (λ (k : ℕ). S.forwardStep ieee k (stepOf J t) (div binary64 (ieee .𝟙) (before t .1)) (before t .0)) (sym (of .window))
-            ∙ sym (vector-next J t)
+            ∙ sym (vector-next J t))
 
         next-one : ForwardPair plan n w each t last → one ≡ div binary64 (ieee .𝟙) (before last .1)
         next-one p =
@@ -191,28 +209,30 @@ module _ {plan : List ℕ} {r₀ r : List Float} {n w scales : ℕ} {each : Bool
             unit
             ∙ rw e (sym (ap (div binary64 (ieee .𝟙)) (entry-next J t) ∙ unscaled (J .manner) each 3 t (before (suc t) .0) (of .manner) (p .blocks) (p .due)))
 
-        second : ForwardPair plan n w each t last
-            → S.forwardStep ieee w (stepIn plan (drop (scales + n) r₁) last) one (before (suc t) .0) ≡ before (suc last) .0
+        second : ForwardPair plan n w each t last → Even w (by last one (by t scale (halfAt r₁ w src))) (before (suc last) .0)
         second p =
             let e : suc t ≡ last = omega (arith, p .next) in
-            ap (λ (s : Step Float). S.forwardStep ieee w s one (before (suc t) .0)) (said last last-inside)
-            ∙ ap (λ (u : ℕ). S.forwardStep ieee w (stepOf J last) one (before u .0)) e
+            even-as (stepped last last-inside one (by t scale (halfAt r₁ w src)) (before (suc t) .0) first)
+            (ap (λ (u : ℕ). S.forwardStep ieee w (stepOf J last) one (before u .0)) e
             ∙ ap (λ (c : Float). S.forwardStep ieee w (stepOf J last) c (before last .0)) (next-one p)
             ∙ ap (λ (k : ℕ). S.forwardStep ieee k (stepOf J last) (div binary64 (ieee .𝟙) (before last .1)) (before last .0)) (sym (of .window))
-            ∙ sym (vector-next J last)
+            ∙ sym (vector-next J last))
 
-        made : through (forwardBy plan (drop (scales + n) r₁) w) t last scale one (held r₁ w src) ≡ before (suc last) .0
+        made : Even w half (before (suc last) .0)
         made =
             ⊎-elim
-            (λ e. through-one (forwardBy plan (drop (scales + n) r₁) w) t last scale one (held r₁ w src) e ∙ first ∙ ap (λ (u : ℕ). before (suc u) .0) (sym e))
-            (λ p. through-two (forwardBy plan (drop (scales + n) r₁) w) t last scale one (held r₁ w src) (λ e. omega (arith, p .next))
-            ∙ ap (λ (v : List Float). S.forwardStep ieee w (stepIn plan (drop (scales + n) r₁) last) one v) first ∙ second p)
+            (λ e.
+            subst (λ (h : ℕ → Float). Even w h (before (suc last) .0)) (sym (through-one by t last scale one (halfAt r₁ w src) e))
+            (even-as first (ap (λ (u : ℕ). before (suc u) .0) (sym e))))
+            (λ p.
+            subst (λ (h : ℕ → Float). Even w h (before (suc last) .0))
+            (sym (through-two by t last scale one (halfAt r₁ w src) (λ e. omega (arith, p .next)))) (second p))
             turn
 
-        vector : held r₂ w dst ≡ before (suc last) .0
-        vector = wrote-same r₁ r₂ w dst wrote (inside dst going-fits) ∙ made
+        vector : Even w (halfAt r₂ w dst) (before (suc last) .0)
+        vector = even-ext made (wrote-half r₁ r₂ w dst wrote (inside dst going-fits) half refl)
 
-        kept-vector : (u : ℕ) → u < last + 1 → 0 < forwardPlace plan u → held r₂ w (forwardPlace plan u) ≡ S.forward ieee J u
+        kept-vector : (u : ℕ) → u < last + 1 → 0 < forwardPlace plan u → Even w (halfAt r₂ w (forwardPlace plan u)) (S.forward ieee J u)
         kept-vector u c p =
             dite (decLt u last)
             (λ d.
@@ -221,11 +241,13 @@ module _ {plan : List ℕ} {r₀ r : List Float} {n w scales : ℕ} {each : Bool
             let fu = g .ready .forward .fits u l p in
             let own = target-own aimed u l (λ x. omega arith) p in
             let early : u < t = ⊎-elim (λ e. omega arith) (λ pair. passed d pair) turn in
-            wrote-other r₁ r₂ w dst wrote (inside dst going-fits) q (λ e. own (sym e)) (inside q fu) ∙ places q fu ∙ newest .kept .vectors u early p)
+            even-ext (newest .kept .vectors u early p)
+            (half-held r r₂ w q (wrote-other r₁ r₂ w dst wrote (inside dst going-fits) q (λ e. own (sym e)) (inside q fu) ∙ places q fu)))
             (λ d.
             let e : u ≡ last = omega arith in
             let p′ : 0 < forwardPlace plan last = rw e at p in
-            rw e (ap (λ (q : ℕ). held r₂ w q) (sym (target .keeps p′)) ∙ vector ∙ sym (forward-is J last)))
+            rw e
+            (even-as (subst (λ (q : ℕ). Even w (halfAt r₂ w q) (before (suc last) .0)) (target .keeps p′) vector) (sym (forward-is J last))))
           where
             -- the vector between is not kept
             passed : u < last → ForwardPair plan n w each t last → u < t
@@ -261,10 +283,11 @@ module _ {plan : List ℕ} {r₀ r : List Float} {n w scales : ℕ} {each : Bool
         newest-turn : NewestForward J plan r₂ w scales (last + 1) dst most′
         newest-turn =
             let one′ : last + 1 ≡ suc last = add-one last in
-            let manner = ap (λ (m : Manner). S.stored ieee m 3 last (held r₂ w dst)) (sym (of .manner)) in
+            let manner = ap (λ (m : Manner). S.stored ieee m 3 last (tabulate (halfAt r₂ w dst) (2 ^ (w - 1)))) (sym (of .manner)) in
+            let full : length (before (suc last) .0) ≡ 2 ^ w = step-full J last ∙ ap (λ (k : ℕ). 2 ^ k) (of .window) in
             record {
               vector = rw one′ vector;
-              entry = rw one′ (taken ∙ manner ∙ ap (S.stored ieee (J .manner) 3 last) vector ∙ sym (entry-next J last));
+              entry = rw one′ (taken ∙ manner ∙ sym (stored-even (g .ready .wide) full vector (J .manner) 3 last) ∙ sym (entry-next J last));
               kept = record { vectors = kept-vector; scaled = kept-scale };
             }
 
@@ -280,7 +303,5 @@ module _ {plan : List ℕ} {r₀ r : List Float} {n w scales : ℕ} {each : Bool
               tail = wrote-drop r₁ r₂ w dst wrote fits (scales + n) (omega (arith, going-fits)) ∙ tail₁;
             };
             free = target-free aimed (λ u. last + 1 ≤ u) (λ u q e. omega arith);
-            symmetric = rw (wrote-same r₁ r₂ w dst wrote fits)
-                (through-forward (drop (scales + n) r₁) scale one (held r₁ w src) (g .ready .wide) (g .ready .vertex t b) (g .ready .vertex last last-inside) going-symmetric);
             newest = newest-turn;
           }

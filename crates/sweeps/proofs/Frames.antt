@@ -1,17 +1,15 @@
 -- What a sweep leaves as it was, step by step; and what the steps ask of the room.
 use mathlib.Core.Path.{_≡_, refl, _∙_}
 use mathlib.Core.List.{List}
-use Prim.Native.Nat.{ℕ, _+_, _^_, _<_}
+use Prim.Native.Nat.{ℕ, _+_, _<_}
 use native.Mathlib.Omega.{arith}
 use lib.ListN.{length}
 use lib.Ieee.{Float}
-use Rattle.vector.specs.Tabulate.{tabulate-length}
 use Rattle.transfer.specs.Job.{Job}
-use Rattle.transfer.specs.Rounded.{ieee}
-use Rattle.transfer.specs.Sweep as S
 use Rattle.plan.specs.Layout.{forwardPlace}
 use Rattle.sweep.specs.Place.{Place}
-use Rattle.vertex.specs.Frame.{Fits, Wrote, wrote-length, wrote-other, wrote-drop}
+use Rattle.vertex.specs.Same.{even-ext}
+use Rattle.vertex.specs.Frame.{Fits, half-held, Wrote, wrote-length, wrote-other, wrote-drop}
 use Rattle.vertex.specs.Ready.{Ready, Stepping, Forward, tail-scale}
 use Rattle.sweeps.specs.Kept.{Since}
 
@@ -28,12 +26,6 @@ module _ {plan : List ℕ} {len n w scales : ℕ} (g : Ready plan len n w scales
         places = record { from = place-of src f; to = place-of dst d; other = other };
       }
 
--- ---- what is written to a place fills it
-
-pub start-full : (w : ℕ) → length (S.start ieee w) ≡ 2 ^ w
-unfolding S.start
-start-full w = tabulate-length _ (2 ^ w)
-
 -- ---- the backward sweep
 
 pub since-none : (plan : List ℕ) (r : List Float) (n w scales : ℕ) → Since plan r r n w scales
@@ -47,7 +39,7 @@ module _ {plan : List ℕ} {r₀ r : List Float} {n w scales : ℕ} (s : Since p
   pub since-forward : (J : Job Float) → Forward J plan r₀ w scales n → Forward J plan r w scales n
   since-forward J k =
       record {
-        vectors = λ u b p. s .forward u b p ∙ k .vectors u b p;
+        vectors = λ u b p. even-ext (k .vectors u b p) (half-held r₀ r w (forwardPlace plan u) (s .forward u b p));
         scaled = λ u b. tail-scale r₀ r scales u (s .tail) ∙ k .scaled u b;
       }
 

@@ -9,15 +9,15 @@ use Rattle.transfer.specs.Job.{Job}
 use Rattle.transfer.specs.Rounded.{ieee}
 use Rattle.transfer.specs.Sweep as S
 use Rattle.plan.specs.Layout.{backwardPlace}
-use Rattle.sweep.specs.Place.{held}
-use Rattle.symmetry.specs.Symmetric.{Symmetric}
+use Rattle.halves.specs.Even.{Even}
+use Rattle.half_sums.specs.Terms.{halfAt}
 use Rattle.vertex.specs.Ready.{Ready, PlanOf, Backward}
 use Rattle.sweeps.specs.Target.{Free}
 use Rattle.sweeps.specs.Kept.{Since}
 
--- In job J the newest vector lies at place src, and its stored largest entry is `most`.
+-- In job J the newest vector's half lies at place src, and its stored largest entry is `most`.
 pub record NewestBackward (J : Job Float) (plan : List ℕ) (r : List Float) (n w t src : ℕ) (most : Float) : Type 0 where
-  pub vector : held r w src ≡ S.afterSteps ieee J (J .last - t) .0
+  pub vector : Even w (halfAt r w src) (S.afterSteps ieee J (J .last - t) .0)
   pub entry : most ≡ S.afterSteps ieee J (J .last - t) .1
   pub kept : Backward J plan r n w t
 
@@ -27,5 +27,4 @@ pub record Coming (plan : List ℕ) (r₀ r : List Float) (n w scales : ℕ) (ea
   pub ready : Ready plan (length r) n w scales
   pub since : Since plan r₀ r n w scales
   pub free : Free (backwardPlace plan) n w scales src (λ u. u < t)
-  pub symmetric : Symmetric w (held r w src)
   pub newest : (J : Job Float) → PlanOf J plan (drop (scales + n) r₀) n w each → NewestBackward J plan r n w t src most

@@ -9,15 +9,15 @@ use Rattle.transfer.specs.Job.{Job}
 use Rattle.transfer.specs.Rounded.{ieee}
 use Rattle.transfer.specs.Sweep as S
 use Rattle.plan.specs.Layout.{forwardPlace}
-use Rattle.sweep.specs.Place.{held}
-use Rattle.symmetry.specs.Symmetric.{Symmetric}
+use Rattle.halves.specs.Even.{Even}
+use Rattle.half_sums.specs.Terms.{halfAt}
 use Rattle.vertex.specs.Ready.{Ready, PlanOf, Forward}
 use Rattle.sweeps.specs.Target.{Free}
 use Rattle.sweeps.specs.Kept.{SameFrom}
 
--- In job J the newest vector lies at place src, and its stored largest entry is `most`.
+-- In job J the newest vector's half lies at place src, and its stored largest entry is `most`.
 pub record NewestForward (J : Job Float) (plan : List ℕ) (r : List Float) (w scales t src : ℕ) (most : Float) : Type 0 where
-  pub vector : held r w src ≡ S.beforeStep ieee J t .0
+  pub vector : Even w (halfAt r w src) (S.beforeStep ieee J t .0)
   pub entry : most ≡ S.beforeStep ieee J t .1
   pub kept : Forward J plan r w scales t
 
@@ -27,5 +27,4 @@ pub record Going (plan : List ℕ) (r₀ r : List Float) (n w scales : ℕ) (eac
   pub ready : Ready plan (length r) n w scales
   pub since : SameFrom r₀ r (scales + n)
   pub free : Free (forwardPlace plan) n w scales src (λ u. t ≤ u)
-  pub symmetric : Symmetric w (held r w src)
   pub newest : (J : Job Float) → PlanOf J plan (drop (scales + n) r₀) n w each → NewestForward J plan r w scales t src most

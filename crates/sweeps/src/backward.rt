@@ -9,8 +9,8 @@ ghost use Rattle.sweeps.specs.Kept.{Since};
 ghost use Rattle.sweeps.specs.Turn.{BackwardTurn};
 use crate::target::place_for;
 use crate::target::start_at;
+use half_sums::half_stored;
 use plan::backward_place;
-use sums::stored;
 use vertex::backward_through;
 
 // The last vertex of a turn from t on. Two steps are taken in one pass where no largest entry is due between them and the vector between
@@ -37,8 +37,8 @@ fn backward_last(plan: &[usize], w: usize, each: bool, t: usize) -> usize
     t - 1
 }
 
-// Steps from the last vertex to vertex 1, the step at t giving the vector of t - 1: keeps the backward vectors that the plan has a place
-// for. In the block manner the largest entry is taken after steps with t % 4 = 0.
+// Steps from the last vertex to vertex 1, the step at t giving the vector of t - 1: keeps the lower halves of the backward vectors that the
+// plan has a place for. In the block manner the largest entry is taken after steps with t % 4 = 0.
 pub fn sweep_backward(
     room: &mut [f64],
     plan: &[usize],
@@ -63,7 +63,7 @@ pub fn sweep_backward(
         let u = last - 1;
         let dst = place_for(backward_place(plan, u), src);
         backward_through(room, factors, plan, w, t, last, scale, 1.0, src, dst);
-        most = stored(room, dst, w, each, 0, last);
+        most = half_stored(room, dst, w, each, 0, last);
         src = dst;
         t = u;
     }

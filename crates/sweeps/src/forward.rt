@@ -9,8 +9,8 @@ ghost use Rattle.sweeps.specs.Kept.{SameFrom};
 ghost use Rattle.sweeps.specs.Turn.{ForwardTurn};
 use crate::target::place_for;
 use crate::target::start_at;
+use half_sums::half_stored;
 use plan::forward_place;
-use sums::stored;
 use vertex::forward_through;
 
 // The last vertex of a turn from t on. Two steps are taken in one pass where no largest entry is due between them and the vector between
@@ -37,8 +37,8 @@ fn forward_last(plan: &[usize], n: usize, w: usize, each: bool, t: usize) -> usi
     t + 1
 }
 
-// Steps from vertex 0 to the last: stores every scale, and keeps the forward vectors that the plan has a place for. In the block manner
-// the largest entry is taken after steps with t % 4 = 3.
+// Steps from vertex 0 to the last: stores every scale, and keeps the lower halves of the forward vectors that the plan has a place for. In
+// the block manner the largest entry is taken after steps with t % 4 = 3.
 pub fn sweep_forward(
     room: &mut [f64],
     plan: &[usize],
@@ -63,8 +63,8 @@ pub fn sweep_forward(
         room[scales + last] = 1.0;
         room[scales + t] = scale;
         let dst = place_for(forward_place(plan, last), src);
-        forward_through(room, factors, plan, w, t, last, scale, 1.0, src, dst, true);
-        most = stored(room, dst, w, each, 3, last);
+        forward_through(room, factors, plan, w, t, last, scale, 1.0, false, src, dst);
+        most = half_stored(room, dst, w, each, 3, last);
         src = dst;
         t = last + 1;
     }

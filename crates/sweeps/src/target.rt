@@ -1,8 +1,9 @@
 // The places that a sweep writes.
 ghost use mathlib.Core.Path.{_≡_};
+ghost use Prim.Native.Nat.{_-_, _^_};
 ghost use lib.ListN.{length};
+ghost use Rattle.vector.specs.Tabulate.{tabulate};
 ghost use Rattle.transfer.specs.Rounded.{ieee};
-ghost use Rattle.transfer.specs.Sweep as S;
 ghost use Rattle.sweep.specs.Place.{Place, hold};
 ghost use Rattle.sweeps.specs.Target.{Target};
 use sweep::fill;
@@ -18,11 +19,11 @@ pub(crate) fn place_for(kept: usize, src: usize) -> usize
     if src == 0 { 1 } else { 0 }
 }
 
-// The start of a sweep at place p: all 1.0.
+// The half of a sweep's start at place p: all 1.0.
 pub(crate) fn start_at(room: &mut [f64], w: usize, p: usize)
     requires { ⌜ Place (length (now room)) w p ⌝ }
-    ensures { λ _. ⌜ now (room .exit) ≡ hold (now (room .entry)) w p (S.start ieee w) ⌝ }
+    ensures { λ _. ⌜ now (room .exit) ≡ hold (now (room .entry)) w p (tabulate (λ _. ieee .𝟙) (2 ^ (w - 1))) ⌝ }
 {
     let size = pow2(w);
-    fill(room, p * size, size, 1.0);
+    fill(room, p * size, size / 2, 1.0);
 }

@@ -82,10 +82,10 @@ backward-through-requires c κs =
     let g = c .before .before .before .before .before .loop .inv in
     let placed = c .before in
     let turn = c .before .before .before .backward-last .ensures in
-    (coming-step _ g turn (next placed) (target placed), coming-through _ g turn (next placed) (target placed), g .symmetric)
+    (coming-step _ g turn (next placed) (target placed), coming-through _ g turn (next placed) (target placed))
 
-stored-requires : tie.Need-stored-requires Inv-loop μ-loop
-stored-requires c κs =
+half-stored-requires : tie.Need-half-stored-requires Inv-loop μ-loop
+half-stored-requires c κs =
     let g = c .before .before .before .before .before .before .before .before .before .loop .inv in
     let placed = c .before .before .before .before .before in
     rw (c .before .before .before .backward-through .kept .0) (place-of (g .ready) _ (coming-fits _ g (c .before .before .before .before .before .before .before .backward-last .ensures) (next placed) (target placed)))
@@ -98,7 +98,7 @@ loop-again c =
     let placed = c .before .before .before .before .before .before in
     let stepped = c .before .before .before .before .backward-through in
     let g = c .before .before .before .before .before .before .before .before .before .before .loop .inv in
-    coming-turn _ g (c .before .before .before .before .before .before .before .before .backward-last .ensures) (next placed) (target placed) one-is (rw one-is) (stepped .ensures) (c .stored .ensures)
+    coming-turn _ g (c .before .before .before .before .before .before .before .before .backward-last .ensures) (next placed) (target placed) one-is (rw one-is) (stepped .ensures) (c .half-stored .ensures)
 
 same-length : tie.Need-same-length Inv-loop μ-loop
 same-length c = c .before .loop .inv .since .same ∙ c .before .before .before .before .start-at .kept .0
@@ -131,7 +131,7 @@ sweep-backward-spec =
     backward-place-requires-2
     place-for-requires-2
     backward-through-requires
-    stored-requires
+    half-stored-requires
     loop-less
     loop-again
     same-length

@@ -10,7 +10,7 @@ use Rattle.vertex.specs.Frame.{moving-fits}
 use Rattle.sweeps.specs.Target.{Target}
 use Rattle.sweeps.specs.Going.{Going}
 use Rattle.sweeps.proofs.Frames.{place-of}
-use Rattle.sweeps.proofs.ForwardTurn.{start-same, going-start, turn-inside, going-fits, going-step, going-through, going-symmetric, going-turn}
+use Rattle.sweeps.proofs.ForwardTurn.{start-same, going-start, turn-inside, going-fits, going-step, going-through, going-turn}
 use Rattle.sweeps.proofs.forward.sweep_forward.Statement.{statement}
 use Rattle.sweeps.proofs.forward.sweep_forward.Tie as tie
 
@@ -75,10 +75,10 @@ forward-through-requires c κs =
     let g = c .before .before .before .before .before .loop .inv in
     let b = c .before .before .before .before .loop-test .taken in
     let turn = c .before .before .before .forward-last .ensures in
-    (going-step g b turn (target (c .before)) _ _, going-through g b turn (target (c .before)) _ _, λ _. going-symmetric g b turn (target (c .before)) _ _)
+    (going-step g b turn (target (c .before)) _ _, going-through g b turn (target (c .before)) _ _)
 
-stored-requires : tie.Need-stored-requires Inv-loop μ-loop
-stored-requires c κs =
+half-stored-requires : tie.Need-half-stored-requires Inv-loop μ-loop
+half-stored-requires c κs =
     let at = c .before .before .before .before .before .before .before .before .before .loop in
     let stepped = c .before .before .before .forward-through in
     let same : length (stepped .last .0) ≡ length (at .room) = stepped .kept .0 ∙ simp length-set in
@@ -94,7 +94,7 @@ loop-again : tie.Need-loop-again Inv-loop μ-loop
 loop-again c =
     let g = c .before .before .before .before .before .before .before .before .before .before .loop .inv in
     let stepped = c .before .before .before .before .forward-through in
-    going-turn g (c .before .before .before .before .before .before .before .before .before .loop-test .taken) (c .before .before .before .before .before .before .before .before .forward-last .ensures) (target (c .before .before .before .before .before .before)) _ _ one-is (rw one-is) (stepped .ensures) (c .stored .ensures)
+    going-turn g (c .before .before .before .before .before .before .before .before .before .loop-test .taken) (c .before .before .before .before .before .before .before .before .forward-last .ensures) (target (c .before .before .before .before .before .before)) _ _ one-is (rw one-is) (stepped .ensures) (c .half-stored .ensures)
 
 same-length : tie.Need-same-length Inv-loop μ-loop
 same-length c = c .before .loop .inv .since .same ∙ c .before .before .before .before .start-at .kept .0
@@ -128,7 +128,7 @@ sweep-forward-spec =
     forward-place-requires
     place-for-requires
     forward-through-requires
-    stored-requires
+    half-stored-requires
     add-t
     loop-less
     loop-again

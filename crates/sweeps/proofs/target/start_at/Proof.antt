@@ -1,10 +1,15 @@
--- The filled place is the start of a sweep.
-use mathlib.Core.Path.{_∙_}
+-- Half of the place is filled.
+use mathlib.Core.Path.{_≡_, _∙_}
+use Prim.Native.Nat.{ℕ, _-_, _/_, _^_, _≤_}
 use native.Mathlib.Omega.{arith}
 use borrow.Author.Needs.{needs}
-use Rattle.sweep.specs.Constants.{start-is}
+use Rattle.vector.specs.Power.{pow-double}
+use Rattle.sweep.specs.Constants.{one-is}
 use Rattle.sweeps.proofs.target.start_at.Statement.{statement}
 use Rattle.sweeps.proofs.target.start_at.Tie as tie
+
+half : (w : ℕ) → 1 ≤ w → 2 ^ w / 2 ≡ 2 ^ (w - 1)
+half w wide = omega (arith, pow-double w wide)
 
 pow2-requires : tie.Need-pow2-requires
 pow2-requires c κs = search needs
@@ -13,13 +18,13 @@ mul-fill : tie.Need-mul-fill
 mul-fill c = rw (c .before .pow2 .ensures) (omega (arith, c .before .before .before .pre .inside))
 
 fill-requires : tie.Need-fill-requires
-fill-requires c κs = rw (c .before .pow2 .ensures) (c .before .before .before .pre .inside)
+fill-requires c κs = rw (c .before .pow2 .ensures) (omega (arith, c .before .before .before .pre .inside))
 
 same-length : tie.Need-same-length
 same-length c = search needs
 
 returns : tie.Need-returns
-returns c = c .before .before .fill .ensures ∙ rw (c .before .before .before .before .pow2 .ensures, start-is)
+returns c = c .before .before .fill .ensures ∙ rw (c .before .before .before .before .pow2 .ensures, one-is, half _ (c .before .before .before .before .before .before .pre .wide))
 
 pub start-at-spec : {M : Type 1} → statement M
 start-at-spec = tie.close (tie.spec pow2-requires mul-fill fill-requires same-length returns)
