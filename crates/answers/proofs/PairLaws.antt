@@ -1,5 +1,5 @@
 -- The sums of the pair u < v, as the code takes them, are the definition's N and Z.
-use mathlib.Core.Path.{_≡_, sym, ap, _∙_}
+use mathlib.Core.Path.{_≡_, sym, _∙_, subst}
 use mathlib.Core.Bool.{Bool}
 use mathlib.Core.List.{List}
 use Prim.Native.Nat.{ℕ, _-_, _^_, _≤_, _<_}
@@ -12,21 +12,24 @@ use Rattle.transfer.specs.Job.{Job}
 use Rattle.transfer.specs.Rounded.{ieee}
 use Rattle.transfer.specs.Sweep as S
 use Rattle.plan.specs.Layout.{forwardPlace, backwardPlace}
-use Rattle.sweep.specs.Place.{Place, held}
-use Rattle.sums.specs.Sums.{products, differ, Z-is, direct-is, propagated-is}
+use Rattle.sweep.specs.Place.{Place}
+use Rattle.halves.specs.Even.{Even}
+use Rattle.halves.specs.Odd.{Odd}
+use Rattle.half_sums.specs.Terms.{halfAt, terms, signs}
+use Rattle.half_sums.specs.Vertex.{Z-is, direct-is, propagated-is}
 use Rattle.vertex.specs.Ready.{Ready, still-none}
 use Rattle.answers.specs.declared.propagate.Hand.{Hand}
 use Rattle.answers.specs.declared.pair.PairSums.{PairSums}
 use Rattle.answers.specs.Hand.{Passed, Propagated, PairPlaces, Summed}
 use Rattle.answers.proofs.Propagation.{still-passed}
 
--- of places f and b
+-- of the halves at places f and b
 abbrev zAt : List Float → ℕ → ℕ → ℕ → Float
-zAt r w f b = sum ieee (2 ^ w) (products (held r w f) (held r w b))
+zAt r w f b = sum ieee (2 ^ w) (terms w (halfAt r w f) (halfAt r w b))
 
--- of places g and b, subtracted where bits 0 and d differ
+-- of the halves at places g and b, subtracted where bits 0 and d differ
 abbrev nAt : List Float → ℕ → ℕ → ℕ → ℕ → Float
-nAt r w d g b = signedSum ieee (2 ^ w) (differ d) (products (held r w g) (held r w b))
+nAt r w d g b = signedSum ieee (2 ^ w) (signs w d) (terms w (halfAt r w g) (halfAt r w b))
 
 -- ---- the sums over the job's vectors
 
@@ -39,18 +42,28 @@ module _ (J : Job Float) (w u v : ℕ) (window : J .window ≡ w) where
   unfolding S.N
   far l = rw (le-ltb (v - u) (J .window) (omega arith))
 
-  module _ (x b : List Float) (b-is : b ≡ S.backward ieee J v) where
-    z-sum : x ≡ S.forward ieee J v → sum ieee (2 ^ w) (products x b) ≡ S.Z ieee J v
-    z-sum e = ap (λ (k : ℕ). sum ieee (2 ^ k) (products x b)) (sym window) ∙ Z-is J x b v e b-is
+  module _ (h k : ℕ → Float) (wide : 1 ≤ w) (even : Even w k (S.backward ieee J v)) where
+    z-sum : Even w h (S.forward ieee J v) → sum ieee (2 ^ w) (terms w h k) ≡ S.Z ieee J v
+    z-sum =
+        subst
+        (λ (m : ℕ). 1 ≤ m → Even m k (S.backward ieee J v) → Even m h (S.forward ieee J v) → sum ieee (2 ^ m) (terms m h k) ≡ S.Z ieee J v) window
+        (λ a b c. Z-is J h k u v a b c) wide even
 
-    direct-sum : v - u < w → x ≡ S.forward ieee J v → signedSum ieee (2 ^ w) (differ (v - u)) (products x b) ≡ S.N ieee J u v
+    direct-sum : v - u < w → Even w h (S.forward ieee J v) → signedSum ieee (2 ^ w) (signs w (v - u)) (terms w h k) ≡ S.N ieee J u v
     direct-sum l e =
-        ap (λ (k : ℕ). signedSum ieee (2 ^ k) (differ (v - u)) (products x b)) (sym window) ∙ direct-is J x b u v e b-is ∙ sym (near l)
+        subst
+        (λ (m : ℕ). 1 ≤ m → Even m k (S.backward ieee J v) → v - u < m → Even m h (S.forward ieee J v)
+        → signedSum ieee (2 ^ m) (signs m (v - u)) (terms m h k) ≡ S.directN ieee J u v) window
+        (λ a b c d. direct-is J h k u v a b c d) wide even l e
+        ∙ sym (near l)
 
-    propagated-sum : w ≤ v - u → x ≡ S.propagated ieee J u (v - u)
-        → signedSum ieee (2 ^ w) (differ w) (products x b) ≡ S.N ieee J u v
-    propagated-sum l e =
-        ap (λ (k : ℕ). signedSum ieee (2 ^ k) (differ k) (products x b)) (sym window) ∙ propagated-is J x b u v e b-is ∙ sym (far l)
+    propagated-sum : w ≤ v - u → Odd w h (S.propagated ieee J u (v - u)) → signedSum ieee (2 ^ w) (signs w w) (terms w h k) ≡ S.N ieee J u v
+    propagated-sum l o =
+        subst
+        (λ (m : ℕ). 1 ≤ m → Even m k (S.backward ieee J v) → Odd m h (S.propagated ieee J u (v - u))
+        → signedSum ieee (2 ^ m) (signs m m) (terms m h k) ≡ S.propagatedN ieee J u v) window
+        (λ a b c. propagated-is J h k u v a b c) wide even o
+        ∙ sym (far l)
 
 -- ---- the places of v
 
@@ -67,18 +80,19 @@ module _ (plan : List ℕ) (len n w scales u v : ℕ) (ready : Ready plan len n 
 
 module _ (J : Job Float) (plan : List ℕ) (r : List Float) (n w scales u v : ℕ) (each : Bool) (pair : PairPlaces plan n w u v)
     (passed : Passed J plan r n w scales each) where
-  forward-held : held r w (forwardPlace plan v) ≡ S.forward ieee J v
-  forward-held = passed .swept .forward .vectors v (pair .inside) (pair .forward)
+  forward-half : Even w (halfAt r w (forwardPlace plan v)) (S.forward ieee J v)
+  forward-half = passed .swept .forward .vectors v (pair .inside) (pair .forward)
 
-  backward-held : held r w (backwardPlace plan v) ≡ S.backward ieee J v
-  backward-held = passed .swept .backward .vectors v (omega arith) (pair .inside) (pair .backward)
+  backward-half : Even w (halfAt r w (backwardPlace plan v)) (S.backward ieee J v)
+  backward-half = passed .swept .backward .vectors v (omega arith) (pair .inside) (pair .backward)
 
-  z-held : zAt r w (forwardPlace plan v) (backwardPlace plan v) ≡ S.Z ieee J v
-  z-held = z-sum J w u v (passed .of .window) _ _ backward-held forward-held
+  z-at : 1 ≤ w → zAt r w (forwardPlace plan v) (backwardPlace plan v) ≡ S.Z ieee J v
+  z-at wide = z-sum J w u v (passed .of .window) _ _ wide backward-half forward-half
 
 -- ---- what the code returns
 
-module _ (plan : List ℕ) (r₀ : List Float) (n w scales u v : ℕ) (hand : Hand) (s : PairSums) (pair : PairPlaces plan n w u v) where
+module _ (plan : List ℕ) (r₀ : List Float) (n w scales u v : ℕ) (hand : Hand) (s : PairSums) (ready : Ready plan (length r₀) n w scales)
+    (pair : PairPlaces plan n w u v) where
   pub summed-direct : v - u < w → hand .place < 2 → s .hand ≡ hand → s .z ≡ zAt r₀ w (forwardPlace plan v) (backwardPlace plan v)
       → s .n ≡ nAt r₀ w (v - u) (forwardPlace plan v) (backwardPlace plan v) → Summed plan r₀ r₀ n w scales u v hand s
   summed-direct l low e z m =
@@ -87,16 +101,15 @@ module _ (plan : List ℕ) (r₀ : List Float) (n w scales u v : ℕ) (hand : Ha
         still = still-none r₀ w scales;
         at-hand = λ J each passed known. rw e known;
         n-is = λ J each passed known.
-            m ∙ direct-sum J w u v (passed .of .window) _ _ (backward-held J plan r₀ n w scales u v each pair passed) l
-            (forward-held J plan r₀ n w scales u v each pair passed);
-        z-is = λ J each passed. z ∙ z-held J plan r₀ n w scales u v each pair passed;
+            m ∙ direct-sum J w u v (passed .of .window) _ _ (ready .wide) (backward-half J plan r₀ n w scales u v each pair passed) l
+            (forward-half J plan r₀ n w scales u v each pair passed);
+        z-is = λ J each passed. z ∙ z-at J plan r₀ n w scales u v each pair passed (ready .wide);
       }
 
-  pub summed-propagated : (r : List Float) (on : ℕ) → Ready plan (length r₀) n w scales → w ≤ v - u
-      → Propagated plan r₀ r n w scales u v hand on → s .hand ≡ record { vertex = u; reached = v; place = on }
-      → s .z ≡ zAt r w (forwardPlace plan v) (backwardPlace plan v) → s .n ≡ nAt r w w on (backwardPlace plan v)
-      → Summed plan r₀ r n w scales u v hand s
-  summed-propagated r on ready l g e z m =
+  pub summed-propagated : (r : List Float) (on : ℕ) → w ≤ v - u → Propagated plan r₀ r n w scales u v hand on
+      → s .hand ≡ record { vertex = u; reached = v; place = on } → s .z ≡ zAt r w (forwardPlace plan v) (backwardPlace plan v)
+      → s .n ≡ nAt r w w on (backwardPlace plan v) → Summed plan r₀ r n w scales u v hand s
+  summed-propagated r on l g e z m =
       let now : (J : Job Float) (each : Bool) → Passed J plan r₀ n w scales each → Passed J plan r n w scales each =
       λ J each passed. still-passed J plan r₀ r n w scales each ready (g .still) passed in
       record {
@@ -104,7 +117,7 @@ module _ (plan : List ℕ) (r₀ : List Float) (n w scales u v : ℕ) (hand : Ha
         still = g .still;
         at-hand = λ J each passed known. rw e (record { reached = λ _. g .reached J each passed known });
         n-is = λ J each passed known.
-            m ∙ propagated-sum J w u v (passed .of .window) _ _ (backward-held J plan r n w scales u v each pair (now J each passed)) l
-            (g .reached J each passed known .vector);
-        z-is = λ J each passed. z ∙ z-held J plan r n w scales u v each pair (now J each passed);
+            m ∙ propagated-sum J w u v (passed .of .window) _ _ (ready .wide)
+            (backward-half J plan r n w scales u v each pair (now J each passed)) l (g .reached J each passed known .vector);
+        z-is = λ J each passed. z ∙ z-at J plan r n w scales u v each pair (now J each passed) (ready .wide);
       }

@@ -1,21 +1,25 @@
 -- How a propagated vector starts and goes on by one step, at a moving place.
-use mathlib.Core.Path.{_≡_, refl, sym, ap, _∙_}
-use mathlib.Core.Bool.{Bool}
+use mathlib.Core.Path.{_≡_, refl, sym, ap, _∙_, subst}
+use mathlib.Core.Bool.{Bool, true}
 use mathlib.Core.List.{List}
 use mathlib.Core.Logic.{inl, inr, ⊎-elim}
 use Prim.Native.Nat.{ℕ, suc, _+_, _-_, _^_, _≤_, _<_}
 use native.Mathlib.Omega.{arith}
 use lib.ListN.{length, getD, drop}
 use lib.Ieee.{Float, nan}
-use Rattle.vector.specs.Tabulate.{tabulate-length}
+use Rattle.vector.specs.Tabulate.{tabulate, tabulate-length}
 use Rattle.transfer.specs.Job.{Job, Step, stepOf}
 use Rattle.transfer.specs.Rounded.{ieee}
 use Rattle.transfer.specs.Sweep as S
 use Rattle.plan.specs.Layout.{stepIn, forwardPlace}
-use Rattle.sweep.specs.Place.{Place, Places, held, hold}
-use Rattle.vertex.specs.Frame.{moving-fits, Wrote, wrote-same}
+use Rattle.sweep.specs.Place.{Place, Places, hold}
+use Rattle.halves.specs.Odd.{Odd, alternateHalf, alternate-odd, forward-odd}
+use Rattle.half_sums.specs.Terms.{halfAt}
+use Rattle.vertex.specs.Same.{odd-ext}
+use Rattle.vertex.specs.Frame.{moving-fits, Wrote, wrote-half}
 use Rattle.vertex.specs.Ready.{Ready, Readable, Stepping, Still, still-none, still-then, still-wrote, still-swept, tail-factors, tail-scale}
-use Rattle.vertex.specs.Through.{Through, forwardBy, through, forward-full, through-one, through-two, through-full}
+use Rattle.vertex.specs.Through.{Through, forwardBy, through, through-one, through-two}
+use Rattle.vertex.specs.Steady.{step-below}
 use Rattle.answers.specs.declared.propagate.Hand.{Hand}
 use Rattle.answers.specs.Hand.{Passed, Reached, AdvanceTurn, Advanced, Propagated}
 
@@ -52,13 +56,9 @@ propagated-step J u t l =
     (propagated-more J u (t - u)
     ∙ ap (λ (k : ℕ). S.forwardStep ieee (J .window) (stepOf J k) (S.scale ieee J k) (S.propagated ieee J u (t - u))) g)
 
-alternate-length : (w : ℕ) (v : List Float) → length (S.alternate ieee w v) ≡ 2 ^ w
-unfolding S.alternate
-alternate-length w v = tabulate-length _ (2 ^ w)
-
-step-same : (w w′ : ℕ) (s s′ : Step Float) (x x′ : Float) (v v′ : List Float) → w ≡ w′ → s ≡ s′ → x ≡ x′ → v ≡ v′
-    → S.forwardStep ieee w s x v ≡ S.forwardStep ieee w′ s′ x′ v′
-step-same w w′ s s′ x x′ v v′ a b c d = cc
+step-same : (w w′ : ℕ) (s s′ : Step Float) (x x′ : Float) (v : List Float) → w ≡ w′ → s ≡ s′ → x ≡ x′
+    → S.forwardStep ieee w s x v ≡ S.forwardStep ieee w′ s′ x′ v
+step-same w w′ s s′ x x′ v a b c = cc
 
 -- ---- places
 
@@ -108,40 +108,44 @@ module _ (plan : List ℕ) (r₀ r : List Float) (n w scales from at t src : ℕ
   pub advance-through : Through plan (length r) w (scales + n) (t + 1) last
   advance-through = ⊎-elim inl (λ p. inr (record { wide = p .wide; reads = readable last last-inside })) turn
 
+  -- a step from an odd half
+  abbrev onward : ℕ → Float → (ℕ → Float) → ℕ → Float
+  onward = forwardBy plan (drop (scales + n) r) w true
+
+  -- the half at src, on by the steps of the turn
+  abbrev gone : (scale then : Float) → ℕ → Float
+  gone scale then = through onward (t + 1) last scale then (halfAt r w src)
+
   module _ (r′ : List Float) (scale then : Float) (es : scale ≡ getD r (scales + (t + 1)) nan) (et : then ≡ getD r (scales + last) nan)
-      (made : r′ ≡ hold r w (1 - src) (through (forwardBy plan (drop (scales + n) r) w) (t + 1) last scale then (held r w src))) where
+      (made : r′ ≡ hold r w (1 - src) (tabulate (gone scale then) (2 ^ (w - 1)))) where
     abbrev stepped : Wrote r r′ w (1 - src)
-    stepped = record { vector = _; full = through-full (forwardBy plan (drop (scales + n) r) w) (t + 1) last scale then (held r w src) (forward-full plan (drop (scales + n) r) w); done = made }
+    stepped = record { vector = tabulate (gone scale then) (2 ^ (w - 1)); full = tabulate-length (gone scale then) (2 ^ (w - 1)); done = made }
 
     module _ (J : Job Float) (each : Bool) (u : ℕ) (passed : Passed J plan r₀ n w scales each) (before : Reached J r₀ w u from at) where
       now : Reached J r w u t src
       now = g .reached J each u passed before
 
       -- a step from what is propagated to v on to v + 1
-      step-on : (v : ℕ) (x : Float) (l : List Float) → u ≤ v → v + 1 < n → x ≡ getD r (scales + (v + 1)) nan → l ≡ S.propagated ieee J u (v - u)
-          → S.forwardStep ieee w (stepIn plan (drop (scales + n) r) (v + 1)) x l ≡ S.propagated ieee J u (v + 1 - u)
-      step-on v x l order b e h =
-          step-same w (J .window) _ (stepOf J (v + 1)) x (S.scale ieee J (v + 1)) l _ (sym (passed .of .window))
+      step-on : (v : ℕ) (x : Float) (h : ℕ → Float) → u ≤ v → v + 1 < n → x ≡ getD r (scales + (v + 1)) nan
+          → Odd w h (S.propagated ieee J u (v - u)) → Odd w (onward (v + 1) x h) (S.propagated ieee J u (v + 1 - u))
+      step-on v x h order b e o =
+          let s = stepIn plan (drop (scales + n) r) (v + 1) in
+          let same =
+          step-same w (J .window) s (stepOf J (v + 1)) x (S.scale ieee J (v + 1)) (S.propagated ieee J u (v - u)) (sym (passed .of .window))
           (ap (λ (y : List Float). stepIn plan y (v + 1)) (tail-factors r₀ r scales n (g .still .tail)) ∙ passed .of .step (v + 1) b)
-          (e ∙ tail-scale r₀ r scales (v + 1) (g .still .tail) ∙ passed .swept .forward .scaled (v + 1) b)
-          h
-          ∙ sym (propagated-step J u v order)
+          (e ∙ tail-scale r₀ r scales (v + 1) (g .still .tail) ∙ passed .swept .forward .scaled (v + 1) b) in
+          subst (Odd w (onward (v + 1) x h)) (same ∙ sym (propagated-step J u v order))
+          (forward-odd w s x h (S.propagated ieee J u (v - u)) (ready .wide) (step-below (drop (scales + n) r) (ready .vertex (v + 1) b)) o)
 
-      first : S.forwardStep ieee w (stepIn plan (drop (scales + n) r) (t + 1)) scale (held r w src) ≡ S.propagated ieee J u (t + 1 - u)
-      first = step-on t scale (held r w src) (now .order) next-inside es (now .vector)
+      first : Odd w (onward (t + 1) scale (halfAt r w src)) (S.propagated ieee J u (t + 1 - u))
+      first = step-on t scale (halfAt r w src) (now .order) next-inside es (now .vector)
 
-      gone : through (forwardBy plan (drop (scales + n) r) w) (t + 1) last scale then (held r w src) ≡ S.propagated ieee J u (last - u)
-      gone =
-          ⊎-elim
-          (λ e. through-one (forwardBy plan (drop (scales + n) r) w) (t + 1) last scale then (held r w src) e ∙ first ∙ ap (λ (v : ℕ). S.propagated ieee J u (v - u)) (sym e))
-          (λ p.
-          through-two (forwardBy plan (drop (scales + n) r) w) (t + 1) last scale then (held r w src) (λ e. omega (arith, p .next))
-          ∙ second (p .next)) turn
+      gone-odd : Odd w (gone scale then) (S.propagated ieee J u (last - u))
+      gone-odd =
+          ⊎-elim (λ e. rw (through-one onward (t + 1) last scale then (halfAt r w src) e, e) first)
+          (λ p. rw (through-two onward (t + 1) last scale then (halfAt r w src) (λ e. omega (arith, p .next))) (second (p .next))) turn
         where
-          second : last ≡ t + 1 + 1
-              → S.forwardStep ieee w (stepIn plan (drop (scales + n) r) last) then
-              (S.forwardStep ieee w (stepIn plan (drop (scales + n) r) (t + 1)) scale (held r w src))
-              ≡ S.propagated ieee J u (last - u)
+          second : last ≡ t + 1 + 1 → Odd w (onward last then (onward (t + 1) scale (halfAt r w src))) (S.propagated ieee J u (last - u))
           second e =
               let b : t + 1 + 1 < n = omega (arith, last-inside) in
               rw e (step-on (t + 1) then _ (omega (arith, now .order)) b (rw e at et) first)
@@ -149,13 +153,14 @@ module _ (plan : List ℕ) (r₀ r : List Float) (n w scales from at t src : ℕ
     pub advance-turn : Advanced plan r₀ r′ n w scales from at last (1 - src)
     advance-turn =
         let p = ready-now in
+        let fits = moving-place plan (length r) n w scales (1 - src) p other .inside in
         record {
           moving = other;
           still = still-then r₀ r r′ w scales (g .still) (still-wrote plan r r′ n w scales (1 - src) p other stepped);
           reached = λ J each u passed before.
               record {
                 order = omega (arith, now J each u passed before .order, turn-inside turn order);
-                vector = wrote-same r r′ w (1 - src) stepped (moving-place plan (length r) n w scales (1 - src) p other .inside) ∙ gone J each u passed before;
+                vector = odd-ext (gone-odd J each u passed before) (wrote-half r r′ w (1 - src) stepped fits (gone scale then) refl);
               };
         }
 
@@ -184,21 +189,25 @@ module _ (plan : List ℕ) (r₀ : List Float) (n w scales u : ℕ) (ready : Rea
         other = λ e. omega arith;
       }
 
-  module _ (r₁ : List Float) (e : r₁ ≡ hold r₀ w 0 (S.alternate ieee w (held r₀ w (forwardPlace plan u)))) where
+  -- u's half with its odd entries negated
+  abbrev turned : ℕ → Float
+  turned = alternateHalf (halfAt r₀ w (forwardPlace plan u))
+
+  module _ (r₁ : List Float) (e : r₁ ≡ hold r₀ w 0 (tabulate turned (2 ^ (w - 1)))) where
     abbrev wrote : Wrote r₀ r₁ w 0
-    wrote = record { vector = _; full = alternate-length w (held r₀ w (forwardPlace plan u)); done = e }
+    wrote = record { vector = tabulate turned (2 ^ (w - 1)); full = tabulate-length turned (2 ^ (w - 1)); done = e }
 
     still-start : Still r₀ r₁ w scales
     still-start = still-wrote plan r₀ r₁ n w scales 0 ready (omega arith) wrote
 
     started : (J : Job Float) (each : Bool) → Passed J plan r₀ n w scales each → Reached J r₁ w u u 0
     started J each passed =
+        let is : S.alternate ieee w (S.forward ieee J u) ≡ S.propagated ieee J u (u - u) =
+        ap (λ (k : ℕ). S.alternate ieee k (S.forward ieee J u)) (sym (passed .of .window)) ∙ sym (propagated-start J u (u - u) (omega arith)) in
+        let odd = alternate-odd w (halfAt r₀ w (forwardPlace plan u)) (S.forward ieee J u) (ready .wide) (passed .swept .forward .vectors u inside kept) in
         record {
           order = omega arith;
-          vector = wrote-same r₀ r₁ w 0 wrote (start-places .to .inside)
-              ∙ ap (S.alternate ieee w) (passed .swept .forward .vectors u inside kept)
-              ∙ ap (λ (k : ℕ). S.alternate ieee k (S.forward ieee J u)) (sym (passed .of .window))
-              ∙ sym (propagated-start J u (u - u) (omega arith));
+          vector = subst (Odd w (halfAt r₁ w 0)) is (odd-ext odd (wrote-half r₀ r₁ w 0 wrote (start-places .to .inside) turned refl));
         }
 
     pub propagated-anew : (r : List Float) (v on : ℕ) (hand : Hand) → Advanced plan r₁ r n w scales u 0 v on

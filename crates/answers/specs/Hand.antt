@@ -10,7 +10,8 @@ use Rattle.transfer.specs.Job.{Job}
 use Rattle.transfer.specs.Rounded.{ieee}
 use Rattle.transfer.specs.Sweep as S
 use Rattle.plan.specs.Layout.{forwardPlace, backwardPlace}
-use Rattle.sweep.specs.Place.{held}
+use Rattle.halves.specs.Odd.{Odd}
+use Rattle.half_sums.specs.Terms.{halfAt}
 use Rattle.vertex.specs.Ready.{PlanOf, Swept, Still}
 use Rattle.answers.specs.declared.propagate.Hand.{Hand}
 use Rattle.answers.specs.declared.pair.PairSums.{PairSums}
@@ -20,10 +21,10 @@ pub record Passed (J : Job Float) (plan : List ℕ) (r : List Float) (n w scales
   pub of : PlanOf J plan (drop (scales + n) r) n w each
   pub swept : Swept J plan r n w scales
 
--- The propagated vector of u has reached vertex t and lies at place `at`.
+-- The propagated vector of u has reached vertex t, and its lower half lies at place `at`.
 pub record Reached (J : Job Float) (r : List Float) (w u t at : ℕ) : Type 0 where
   pub order : u ≤ t
-  pub vector : held r w at ≡ S.propagated ieee J u (t - u)
+  pub vector : Odd w (halfAt r w at) (S.propagated ieee J u (t - u))
 
 -- The steps of a turn from t on: to `last`, which is t, or the next if that is not past `to`.
 pub record AdvancePair (w t to last : ℕ) : Type 0 where

@@ -7,9 +7,9 @@ ghost use Rattle.answers.specs.Sound.{soundly};
 ghost use Rattle.answers.specs.Hand.{PairPlaces, Summed};
 use crate::propagate::Hand;
 use crate::propagate::propagate;
+use half_sums::half_sums_at;
 use plan::backward_place;
 use plan::forward_place;
-use sums::sums_at;
 
 // A pair's N and Z, and the propagated vector that is at hand after it.
 pub struct PairSums {
@@ -35,7 +35,7 @@ pub fn pair_sums(
     let f = forward_place(plan, v);
     let b = backward_place(plan, v);
     if v - u < w {
-        let direct = sums_at(room, f, f, b, w, v - u);
+        let direct = half_sums_at(room, f, f, b, w, v - u);
         return PairSums {
             hand: hand,
             n: direct.n,
@@ -43,7 +43,7 @@ pub fn pair_sums(
         };
     }
     let place = propagate(room, plan, n, w, scales, u, v, hand);
-    let far = sums_at(room, f, place, b, w, w);
+    let far = half_sums_at(room, f, place, b, w, w);
     let reached = Hand {
         vertex: u,
         reached: v,

@@ -1,11 +1,12 @@
-// A propagated vector goes on from vertex to vertex. It moves between places 0 and 1: what the sweeps kept stays.
+// A propagated vector goes on from vertex to vertex by its lower half, which is an odd one. It moves between places 0 and 1: what the sweeps
+// kept stays.
 ghost use Prim.Native.Nat.{_≤_, _<_};
 ghost use lib.ListN.{length};
 ghost use Rattle.plan.specs.Layout.{forwardPlace};
 ghost use Rattle.vertex.specs.Ready.{Ready};
 ghost use Rattle.answers.specs.Hand.{AdvanceTurn, Advanced, Propagated};
+use half_steps::half_alternate;
 use plan::forward_place;
-use sweep::alternate;
 use vertex::forward_through;
 
 // The propagated vector at hand: of which vertex, which vertex it has reached, and its place. The vertex is n where there is none.
@@ -58,9 +59,9 @@ fn advance(
             last,
             scale,
             then,
+            true,
             src,
             dst,
-            false,
         );
         src = dst;
         t = last;
@@ -89,6 +90,6 @@ pub fn propagate(
         }
     }
     let f = forward_place(plan, u);
-    alternate(room, f, 0, w);
+    half_alternate(room, f, 0, w);
     advance(room, plan, n, w, scales, u, v, 0)
 }

@@ -1,4 +1,4 @@
--- The sums over the vectors that the sweeps kept are those of the definition; a propagated pair takes the propagated vector in place of the
+-- The sums over the halves that the sweeps kept are those of the definition; a propagated pair takes the propagated vector in place of the
 -- forward one.
 use mathlib.Core.Path.{refl}
 use native.Mathlib.Omega.{arith}
@@ -17,11 +17,11 @@ backward-place-requires c κs = search needs
 sub-if1 : tie.Need-sub-if1
 sub-if1 c = search needs
 
-sub-sums-at : tie.Need-sub-sums-at
-sub-sums-at c = search needs
+sub-half-sums-at : tie.Need-sub-half-sums-at
+sub-half-sums-at c = search needs
 
-sums-at-requires : tie.Need-sums-at-requires
-sums-at-requires c κs =
+half-sums-at-requires : tie.Need-half-sums-at-requires
+half-sums-at-requires c κs =
     let s = c .before .before .before .before .before .before in
     let p = s .pre .0 in
     let f = c .before .before .before .forward-place .ensures in
@@ -41,16 +41,16 @@ returns c =
     let s = c .before .before .before .before .before .before .before in
     let f = c .before .before .before .before .forward-place .ensures in
     let b = c .before .before .before .backward-place .ensures in
-    summed-direct _ (s .args .room .now) _ _ _ _ _ _ _ (s .pre .1) (omega arith) (s .pre .2) refl (rw (f, b) at (c .sums-at .ensures .0))
-    (rw (f, b) at (c .sums-at .ensures .1))
+    summed-direct _ (s .args .room .now) _ _ _ _ _ _ _ (s .pre .0) (s .pre .1) (omega arith) (s .pre .2) refl (rw (f, b) at (c .half-sums-at .ensures .0))
+    (rw (f, b) at (c .half-sums-at .ensures .1))
 
 propagate-requires : tie.Need-propagate-requires
 propagate-requires c κs =
     let s = c .before .before .before .before .before .before in
     (s .pre .0, omega arith, s .pre .1 .inside, s .pre .1 .propagated (omega arith), s .pre .2)
 
-sums-at-requires-2 : tie.Need-sums-at-requires-2
-sums-at-requires-2 c κs =
+half-sums-at-requires-2 : tie.Need-half-sums-at-requires-2
+half-sums-at-requires-2 c κs =
     let s = c .before .before .before .before .before .before .before .before .before .before in
     let g = c .before .before .before .propagate .ensures in
     let p = still-ready _ _ _ _ _ _ (g .still) (s .pre .0) in (
@@ -70,8 +70,8 @@ returns-2 c =
     let f = c .before .before .before .before .before .before .before .before .forward-place .ensures in
     let b = c .before .before .before .before .before .before .before .backward-place .ensures in
     let g = c .before .before .before .before .propagate .ensures in
-    summed-propagated _ _ _ _ _ _ _ _ _ (s .pre .1) _ _ (s .pre .0) (omega arith) g refl (rw (f, b) at (c .sums-at2 .ensures .0))
-    (rw b at (c .sums-at2 .ensures .1))
+    summed-propagated _ _ _ _ _ _ _ _ _ (s .pre .0) (s .pre .1) _ _ (omega arith) g refl (rw (f, b) at (c .half-sums-at2 .ensures .0))
+    (rw b at (c .half-sums-at2 .ensures .1))
 
 pub pair-sums-spec : {M : Type 1} → statement M
 pair-sums-spec =
@@ -80,11 +80,11 @@ pair-sums-spec =
     forward-place-requires
     backward-place-requires
     sub-if1
-    sub-sums-at
-    sums-at-requires
+    sub-half-sums-at
+    half-sums-at-requires
     same-length
     returns
     propagate-requires
-    sums-at-requires-2
+    half-sums-at-requires-2
     same-length-2
     returns-2)

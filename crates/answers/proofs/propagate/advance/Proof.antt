@@ -1,6 +1,5 @@
 -- Any propagated vector that was at place `at` has gone on to t; it lies at place src.
-use mathlib.Core.Path.{_≡_, refl, sym}
-use mathlib.Core.Bool.{true≢false}
+use mathlib.Core.Path.{_≡_, refl}
 use Prim.Native.Nat.{_+_, _-_, _≤_}
 use native.Mathlib.Omega.{arith}
 use Rattle.answers.specs.Hand.{Advanced}
@@ -64,7 +63,6 @@ forward-through-requires c κs =
     let turn = c .before .before .before .advance-last .ensures in (
       advance-stepping _ _ _ _ _ _ _ _ _ _ (s .pre .0) (at .loop .inv .1) turn (order (c .before .before .before .before)) (s .pre .2),
       advance-through _ _ _ _ _ _ _ _ _ _ (s .pre .0) (at .loop .inv .1) turn (order (c .before .before .before .before)) (s .pre .2),
-      λ e. absurd (true≢false (sym e)),
     )
 
 loop-less : tie.Need-loop-less Inv-loop μ-loop

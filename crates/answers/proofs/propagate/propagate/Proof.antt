@@ -23,8 +23,8 @@ returns c =
 forward-place-requires : tie.Need-forward-place-requires
 forward-place-requires c κs = search needs
 
-alternate-requires : tie.Need-alternate-requires
-alternate-requires c κs =
+half-alternate-requires : tie.Need-half-alternate-requires
+half-alternate-requires c κs =
     let s = c .before .before .before .before .before .before in
     let b : s .args .u < s .args .n = omega arith in
     rw (c .before .forward-place .ensures) (start-places _ (s .args .room .now) _ _ _ _ (s .pre .0) b (s .pre .3))
@@ -32,7 +32,7 @@ alternate-requires c κs =
 advance-requires-2 : tie.Need-advance-requires-2
 advance-requires-2 c κs =
     let s = c .before .before .before .before .before .before .before .before .before .before in
-    (rw (c .before .before .before .alternate .kept .0) (s .pre .0), s .pre .1, s .pre .2, omega arith)
+    (rw (c .before .before .before .half-alternate .kept .0) (s .pre .0), s .pre .1, s .pre .2, omega arith)
 
 same-length-2 : tie.Need-same-length-2
 same-length-2 c = search needs
@@ -42,7 +42,7 @@ returns-2 c =
     let at = c .before .before .before .before .before .before in
     let s = c .before .before .before .before .before .before .before .before .before .before .before .before .before in
     let b : s .args .u < s .args .n = omega arith in
-    let e = rw (at .before .before .forward-place .ensures) at (at .alternate .ensures) in
+    let e = rw (at .before .before .forward-place .ensures) at (at .half-alternate .ensures) in
     propagated-anew _ _ _ _ _ _ (s .pre .0) b (s .pre .3) _ e _ _ _ _ (c .before .before .advance2 .ensures)
 
 pub propagate-spec : {M : Type 1} → statement M
@@ -53,7 +53,7 @@ propagate-spec =
     same-length
     returns
     forward-place-requires
-    alternate-requires
+    half-alternate-requires
     advance-requires-2
     same-length-2
     returns-2)
