@@ -1,8 +1,8 @@
--- What is known while the pairs are answered one after the other, and what follows at the end.
+-- What is known while the pairs are answered two by two, and what follows at the end.
 use mathlib.Core.Path.{_≡_, refl, sym, ap, _∙_, subst}
 use mathlib.Core.Bool.{Bool, true, false, not, true≢false}
 use mathlib.Core.List.{List}
-use mathlib.Core.Logic.{dite}
+use mathlib.Core.Logic.{_⊎_, inl, inr, dite}
 use Prim.Native.Nat.{ℕ, _+_, _-_, _≤_, _<_, min, max}
 use native.Mathlib.Decide.{ℕ-discrete, decLt}
 use native.Mathlib.Omega.{arith}
@@ -18,12 +18,19 @@ use Rattle.transfer.specs.Rounded.{ieee}
 use Rattle.transfer.specs.Sweep as S
 use Rattle.places.specs.Order.{Ordered}
 use Rattle.places.specs.Places.{later-inside}
+use Rattle.half_sums.specs.declared.sums.Source.{Source}
+use Rattle.half_sums.specs.declared.sums.Sums.{Sums}
+use Rattle.half_sums.specs.Pair.{SumsOf}
 use Rattle.vertex.specs.Ready.{Ready, PlanOf, Swept, Still, still-none, still-then}
 use Rattle.answers.specs.declared.propagate.Hand.{Hand}
-use Rattle.answers.specs.declared.pair.PairSums.{PairSums}
+use Rattle.answers.specs.declared.pairs.Step.{Step}
+use Rattle.answers.specs.declared.turn.Turn.{Turn}
 use Rattle.answers.specs.Sound.{soundly, unsound, Outcome}
 use Rattle.answers.specs.Served.{Served}
-use Rattle.answers.specs.Hand.{Passed, AtHand, PairPlaces, Summed}
+use Rattle.answers.specs.Hand.{Passed, AtHand}
+use Rattle.answers.specs.Aim.{PairPlaces, SourceOf}
+use Rattle.answers.specs.Turn.{Done, Turns}
+use Rattle.answers.specs.Two.{AnswerOf, Written, AnsweredTwo}
 use Rattle.answers.proofs.Propagation.{still-passed}
 
 -- ---- the definitions, opened
@@ -54,104 +61,146 @@ pair-places plan us vs n w i g b =
       propagated = λ l. g .propagated i b (ap not (le-ltb (later us vs i - earlier us vs i) w l));
     }
 
--- pair p has its answer in the results, and its Z is sound
-pub record Answered (J : Job Float) (us vs : List ℕ) (results : List Float) (p : ℕ) : Type 0 where
-  pub value : getD results p nan ≡ S.answer ieee J (getD us p 0) (getD vs p 0)
-  pub sound : soundly (S.Z ieee J (later us vs p)) ≡ true
+-- its answer, from its sums
+module _ (J : Job Float) (us vs : List ℕ) (r : List Float) (w p : ℕ) (s : Source) (t : Sums) (of : SourceOf J r w (earlier us vs p) (later us vs p) s)
+    (g : SumsOf r w s t) where
+  pub answer-of : soundly (t .z) ≡ true → AnswerOf J us vs p (div binary64 (t .n) (t .z))
+  answer-of e = record {
+    value = cc (of .z-of t g, of .n-of t g) ∙ sym (answer-is J (getD us p 0) (getD vs p 0));
+    sound = sym (ap soundly (of .z-of t g)) ∙ e;
+  }
 
--- the first k pairs of the order are answered
-pub record Answering (plan us vs order : List ℕ) (r₀ r results : List Float) (n w scales : ℕ) (hand : Hand) (k : ℕ) : Type 0 where
+  pub none-of-it : p < length us → soundly (t .z) ≡ false → unsound J us vs ≡ true
+  none-of-it inside e = unsound-is J us vs ∙ some-at _ (length us) p inside (ap not (sym (ap soundly (of .z-of t g)) ∙ e))
+
+-- ---- pairs that are answered
+
+-- pair p has its answer in the results
+abbrev Answered : (J : Job Float) (us vs : List ℕ) (results : List Float) (p : ℕ) → Type 0
+Answered J us vs results p = AnswerOf J us vs p (getD results p nan)
+
+-- one result more
+set-answered : (J : Job Float) (us vs : List ℕ) (results : List Float) (p : ℕ) (x : Float) → p < length results → AnswerOf J us vs p x
+    → (i : ℕ) → (Answered J us vs results i ⊎ (i ≡ p)) → Answered J us vs (set results p x) i
+set-answered J us vs results p x inside a i known = go (ℕ-discrete i p) known
+  where
+    go : Dec (i ≡ p) → (Answered J us vs results i ⊎ (i ≡ p)) → Answered J us vs (set results p x) i
+    go (yes e) k = rw (e, getD-set-same results p x nan inside) a
+    go (no e) (inl k) = rw (getD-set-other results p i x nan e) k
+    go (no e) (inr k) = absurd (e k)
+
+-- and both
+both-answered : (J : Job Float) (us vs : List ℕ) (results₀ results : List Float) (p q : ℕ) → p < length results₀ → q < length results₀
+    → Written J us vs results₀ results p q → (i : ℕ) → (Answered J us vs results₀ i ⊎ ((i ≡ p) ⊎ (i ≡ q))) → Answered J us vs results i
+both-answered J us vs results₀ results p q bp bq g i known =
+    subst (λ (l : List Float). Answered J us vs l i) (sym (g .set-both)) (go known)
+  where
+    first : (j : ℕ) → (Answered J us vs results₀ j ⊎ (j ≡ p)) → Answered J us vs (set results₀ p (g .x)) j
+    first = set-answered J us vs results₀ p (g .x) bp (g .first)
+
+    last : (j : ℕ) → (Answered J us vs (set results₀ p (g .x)) j ⊎ (j ≡ q)) → Answered J us vs (set (set results₀ p (g .x)) q (g .y)) j
+    last = set-answered J us vs (set results₀ p (g .x)) q (g .y) (rw (length-set results₀ p (g .x)) bq) (g .second)
+
+    go : (Answered J us vs results₀ i ⊎ ((i ≡ p) ⊎ (i ≡ q))) → Answered J us vs (set (set results₀ p (g .x)) q (g .y)) i
+    go (inl k) = last i (inl (first i (inl k)))
+    go (inr (inl e)) = last i (inl (first i (inr e)))
+    go (inr (inr e)) = last i (inr e)
+
+-- ---- the loop
+
+-- of the order, the first `direct` pairs and those from `directs` to `other` are answered
+pub record Answering (plan us vs order : List ℕ) (r₀ r results : List Float) (n w scales : ℕ) (hand : Hand) (directs direct other : ℕ) : Type 0 where
+  pub below : direct ≤ directs
+  pub behind : directs ≤ other
+  pub inside : other ≤ length order
   pub long : length results ≡ length us
   pub moving : hand .place < 2
   pub still : Still r₀ r w scales
   pub at-hand : (J : Job Float) (each : Bool) → Passed J plan r₀ n w scales each → AtHand J r n w hand
-  pub done : (J : Job Float) (each : Bool) → Passed J plan r₀ n w scales each → (j : ℕ) → j < k → Answered J us vs results (getD order j 0)
+  pub done : (J : Job Float) (each : Bool) → Passed J plan r₀ n w scales each → (k : ℕ) → Done directs direct other k
+      → Answered J us vs results (getD order k 0)
 
-pub answering-none : (plan us vs order : List ℕ) (r results : List Float) (n w scales : ℕ) (hand : Hand) → length results ≡ length us
-    → hand .vertex ≡ n → hand .place < 2 → Answering plan us vs order r r results n w scales hand 0
-answering-none plan us vs order r results n w scales hand l e low =
+pub answering-none : (plan us vs order : List ℕ) (r results : List Float) (n w scales : ℕ) (hand : Hand) (directs : ℕ) → directs ≤ length order
+    → length results ≡ length us → hand .vertex ≡ n → hand .place < 2 → Answering plan us vs order r r results n w scales hand directs 0 directs
+answering-none plan us vs order r results n w scales hand directs d l e low =
     record {
+      below = omega arith;
+      behind = omega arith;
+      inside = d;
       long = l;
       moving = low;
       still = still-none r w scales;
       at-hand = λ J each passed. record { reached = λ b. absurd (omega arith) };
-      done = λ J each passed j b. absurd (omega arith);
+      done = λ J each passed k b. absurd (nothing k b);
     }
+  where
+    nothing : (k : ℕ) → Done directs 0 directs k → ⊥
+    nothing k (inl b) = omega arith
+    nothing k (inr b) = omega (arith, b .0, b .1)
 
-module _ (plan us vs order : List ℕ) (r₀ r results : List Float) (n w scales : ℕ) (hand : Hand) (k : ℕ)
-    (g : Answering plan us vs order r₀ r results n w scales hand k) (ordered : Ordered order (length us)) where
+module _ (plan us vs order : List ℕ) (r₀ r results : List Float) (n w scales : ℕ) (hand : Hand) (directs direct other : ℕ)
+    (g : Answering plan us vs order r₀ r results n w scales hand directs direct other) (ordered : Ordered order (length us)) where
   -- all pairs are answered
-  pub all-answered : length us ≤ k → (J : Job Float) (each : Bool) → PlanOf J plan (drop (scales + n) r₀) n w each
+  pub all-answered : directs + length us ≤ direct + other → (J : Job Float) (each : Bool) → PlanOf J plan (drop (scales + n) r₀) n w each
       → Swept J plan r₀ n w scales → Outcome J us vs results true
   all-answered l J each of swept =
       let passed : Passed J plan r₀ n w scales each = record { of = of; swept = swept } in
+      let each-number : (k : ℕ) → k < length us → Done directs direct other k =
+      λ k b. dite (decLt k directs) (λ c. inl (omega (arith, g .below, g .inside, ordered .long)))
+      (λ c. inr (omega arith, omega (arith, g .below, g .inside, ordered .long))) in
       let each-pair : (i : ℕ) → i < length us → Answered J us vs results i =
       λ i b. let o = ordered .onto i b in
-      subst (λ (p : ℕ). Answered J us vs results p) (o .2) (g .done J each passed (o .0) (omega (arith, o .1))) in
+      subst (λ (p : ℕ). Answered J us vs results p) (o .2) (g .done J each passed (o .0) (each-number (o .0) (o .1))) in
       record {
         told = sym (ap not (unsound-is J us vs ∙ none-of _ (length us) (λ i b. ap not (each-pair i b .sound))));
         values = λ e. tabulated nan results _ (length us) (g .long) (λ i b. each-pair i b .value) ∙ sym (answers-is J us vs);
       }
 
-  -- the next pair is p
-  module _ (p : ℕ) (s : PairSums) (r₂ : List Float) (next : k < length us) (is-next : p ≡ getD order k 0)
-      (ready : Ready plan (length r₀) n w scales) (summed : Summed plan r r₂ n w scales (earlier us vs p) (later us vs p) hand s) where
-    inside : p < length us
-    inside = rw is-next (ordered .inside k next)
-
+  -- the next two
+  module _ (t : Turn) (s : Step) (r₂ results₂ : List Float) (turn : Turns directs (length order) direct other t) (ready : Ready plan (length r₀) n w scales)
+      (two : AnsweredTwo plan us vs r r₂ results results₂ n w scales (getD order (t .first) 0) (getD order (t .second) 0) hand s) where
     now : (J : Job Float) (each : Bool) → Passed J plan r₀ n w scales each → Passed J plan r n w scales each
     now J each passed = still-passed J plan r₀ r n w scales each ready (g .still) passed
 
     pub still-next : Still r₀ r₂ w scales
-    still-next = still-then r₀ r r₂ w scales (g .still) (summed .still)
+    still-next = still-then r₀ r r₂ w scales (g .still) (two .still)
 
-    -- its Z is not sound
-    pub one-unsound : soundly (s .z) ≡ false → (J : Job Float) (each : Bool) → PlanOf J plan (drop (scales + n) r₀) n w each
-        → Swept J plan r₀ n w scales → Outcome J us vs results false
-    one-unsound e J each of swept =
-        let z = summed .z-is J each (now J each (record { of = of; swept = swept })) in
+    -- some Z is not sound
+    pub two-unsound : s .sound ≡ false → (J : Job Float) (each : Bool) → PlanOf J plan (drop (scales + n) r₀) n w each
+        → Swept J plan r₀ n w scales → Outcome J us vs results₂ false
+    two-unsound e J each of swept =
+        let passed : Passed J plan r₀ n w scales each = record { of = of; swept = swept } in
         record {
-          told = sym (ap not (unsound-is J us vs ∙ some-at _ (length us) p inside (ap not (sym (ap soundly z) ∙ e))));
+          told = sym (ap not (two .unanswered J each (now J each passed) (g .at-hand J each passed) e));
           values = λ f. absurd (true≢false (sym f));
         }
 
-    abbrev written : List Float
-    written = set results p (div binary64 (s .n) (s .z))
-
-    -- it is answered
-    pub one-more : soundly (s .z) ≡ true → Answering plan us vs order r₀ r₂ written n w scales (s .hand) (k + 1)
-    one-more e =
+    -- they are answered
+    pub two-more : s .sound ≡ true → Answering plan us vs order r₀ r₂ results₂ n w scales (s .hand) directs (t .direct) (t .other)
+    two-more e =
         record {
-          long = length-set results p (div binary64 (s .n) (s .z)) ∙ g .long;
-          moving = summed .moving;
+          below = turn .below;
+          behind = turn .behind;
+          inside = turn .inside;
+          long = two .long ∙ g .long;
+          moving = two .moving;
           still = still-next;
-          at-hand = λ J each passed. summed .at-hand J each (now J each passed) (g .at-hand J each passed);
-          done = λ J each passed j b. dite (decLt j k) (λ l. old J each passed j l) (λ l. last J each passed j (omega arith));
+          at-hand = λ J each passed. two .answered J each (now J each passed) (g .at-hand J each passed) e .0;
+          done = λ J each passed k b. more J each passed k (turn .covered k b);
         }
       where
-        mine : (J : Job Float) (each : Bool) → Passed J plan r₀ n w scales each → Answered J us vs written p
-        mine J each passed =
-            let z = summed .z-is J each (now J each passed) in
-            let m = summed .n-is J each (now J each passed) (g .at-hand J each passed) in
-            record {
-              value = getD-set-same results p (div binary64 (s .n) (s .z)) nan (rw (g .long) inside)
-                  ∙ cc (z, m) ∙ sym (answer-is J (getD us p 0) (getD vs p 0));
-              sound = sym (ap soundly z) ∙ e;
-            }
+        within : (k : ℕ) → k < length order → getD order k 0 < length results
+        within k b = rw (g .long) (ordered .inside k (rw (← ordered .long) b))
 
-        last : (J : Job Float) (each : Bool) → Passed J plan r₀ n w scales each → (j : ℕ) → j ≡ k
-            → Answered J us vs written (getD order j 0)
-        last J each passed j x = rw (x, ← is-next) (mine J each passed)
+        known : (J : Job Float) (each : Bool) → Passed J plan r₀ n w scales each → (k : ℕ)
+            → (Done directs direct other k ⊎ ((k ≡ t .first) ⊎ (k ≡ t .second)))
+            → Answered J us vs results (getD order k 0) ⊎ ((getD order k 0 ≡ getD order (t .first) 0) ⊎ (getD order k 0 ≡ getD order (t .second) 0))
+        known J each passed k (inl b) = inl (g .done J each passed k b)
+        known J each passed k (inr (inl x)) = inr (inl (ap (λ (j : ℕ). getD order j 0) x))
+        known J each passed k (inr (inr x)) = inr (inr (ap (λ (j : ℕ). getD order j 0) x))
 
-        old : (J : Job Float) (each : Bool) → Passed J plan r₀ n w scales each → (j : ℕ) → j < k
-            → Answered J us vs written (getD order j 0)
-        old J each passed j l = go (ℕ-discrete (getD order j 0) p)
-          where
-            go : Dec (getD order j 0 ≡ p) → Answered J us vs written (getD order j 0)
-            go (yes x) = rw x (mine J each passed)
-            go (no x) =
-                let before = g .done J each passed j l in
-                record {
-                  value = getD-set-other results p (getD order j 0) (div binary64 (s .n) (s .z)) nan x ∙ before .value;
-                  sound = before .sound;
-                }
+        more : (J : Job Float) (each : Bool) → Passed J plan r₀ n w scales each → (k : ℕ)
+            → (Done directs direct other k ⊎ ((k ≡ t .first) ⊎ (k ≡ t .second))) → Answered J us vs results₂ (getD order k 0)
+        more J each passed k c =
+            both-answered J us vs results results₂ _ _ (within (t .first) (turn .first)) (within (t .second) (turn .second))
+            (two .answered J each (now J each passed) (g .at-hand J each passed) e .1) _ (known J each passed k c)

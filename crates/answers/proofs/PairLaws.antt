@@ -1,4 +1,4 @@
--- The sums of the pair u < v, as the code takes them, are the definition's N and Z.
+-- What is summed where a pair's sums are read is the definition's N and Z.
 use mathlib.Core.Path.{_≡_, sym, _∙_, subst}
 use mathlib.Core.Bool.{Bool}
 use mathlib.Core.List.{List}
@@ -16,12 +16,15 @@ use Rattle.sweep.specs.Place.{Place}
 use Rattle.halves.specs.Even.{Even}
 use Rattle.halves.specs.Odd.{Odd}
 use Rattle.half_sums.specs.Terms.{halfAt, terms, signs}
+use Rattle.half_sums.specs.declared.sums.Source.{Source}
+use Rattle.half_sums.specs.Pair.{Sourced, SumsOf}
 use Rattle.half_sums.specs.Vertex.{Z-is, direct-is, propagated-is}
 use Rattle.vertex.specs.Ready.{Ready, still-none}
 use Rattle.answers.specs.declared.propagate.Hand.{Hand}
-use Rattle.answers.specs.declared.pair.PairSums.{PairSums}
-use Rattle.answers.specs.Hand.{Passed, Propagated, PairPlaces, Summed}
-use Rattle.answers.proofs.Propagation.{still-passed}
+use Rattle.answers.specs.declared.pair.Aim.{Aim}
+use Rattle.answers.specs.Hand.{Passed, Propagated}
+use Rattle.answers.specs.Aim.{PairPlaces, SourceOf, DirectSource, Aimed}
+use Rattle.answers.proofs.Propagation.{still-passed, still-ready, moving-place}
 
 -- of the halves at places f and b
 abbrev zAt : List Float → ℕ → ℕ → ℕ → Float
@@ -34,9 +37,9 @@ nAt r w d g b = signedSum ieee (2 ^ w) (signs w d) (terms w (halfAt r w g) (half
 -- ---- the sums over the job's vectors
 
 module _ (J : Job Float) (w u v : ℕ) (window : J .window ≡ w) where
-  near : v - u < w → S.N ieee J u v ≡ S.directN ieee J u v
+  nearer : v - u < w → S.N ieee J u v ≡ S.directN ieee J u v
   unfolding S.N
-  near l = rw (lt-ltb (v - u) (J .window) (omega arith))
+  nearer l = rw (lt-ltb (v - u) (J .window) (omega arith))
 
   far : w ≤ v - u → S.N ieee J u v ≡ S.propagatedN ieee J u v
   unfolding S.N
@@ -55,7 +58,7 @@ module _ (J : Job Float) (w u v : ℕ) (window : J .window ≡ w) where
         (λ (m : ℕ). 1 ≤ m → Even m k (S.backward ieee J v) → v - u < m → Even m h (S.forward ieee J v)
         → signedSum ieee (2 ^ m) (signs m (v - u)) (terms m h k) ≡ S.directN ieee J u v) window
         (λ a b c d. direct-is J h k u v a b c d) wide even l e
-        ∙ sym (near l)
+        ∙ sym (nearer l)
 
     propagated-sum : w ≤ v - u → Odd w h (S.propagated ieee J u (v - u)) → signedSum ieee (2 ^ w) (signs w w) (terms w h k) ≡ S.N ieee J u v
     propagated-sum l o =
@@ -89,35 +92,64 @@ module _ (J : Job Float) (plan : List ℕ) (r : List Float) (n w scales u v : �
   z-at : 1 ≤ w → zAt r w (forwardPlace plan v) (backwardPlace plan v) ≡ S.Z ieee J v
   z-at wide = z-sum J w u v (passed .of .window) _ _ wide backward-half forward-half
 
+-- ---- a direct pair
+
+module _ (plan : List ℕ) (r : List Float) (n w scales u v : ℕ) (s : Source) (ready : Ready plan (length r) n w scales) (pair : PairPlaces plan n w u v)
+    (near : v - u < w) (d : DirectSource plan u v s) where
+  pub direct-sourced : Sourced (length r) w s
+  direct-sourced = record {
+    forward = rw (d .forward) (forward-at plan (length r) n w scales u v ready pair);
+    other = rw (d .other) (forward-at plan (length r) n w scales u v ready pair);
+    backward = rw (d .backward) (backward-at plan (length r) n w scales u v ready pair);
+    some = rw (d .bit) (omega (arith, pair .order));
+    small = rw (d .bit) (omega (arith, ready .narrow));
+  }
+
+  pub direct-of : (J : Job Float) (each : Bool) → Passed J plan r n w scales each → SourceOf J r w u v s
+  direct-of J each passed = record {
+    z-of = λ t g. rw (d .forward, d .backward) at (g .z-is) ∙ z-at J plan r n w scales u v each pair passed (ready .wide);
+    n-of = λ t g. rw (d .other, d .backward, d .bit) at (g .n-is)
+        ∙ direct-sum J w u v (passed .of .window) _ _ (ready .wide) (backward-half J plan r n w scales u v each pair passed) near
+        (forward-half J plan r n w scales u v each pair passed);
+  }
+
 -- ---- what the code returns
 
-module _ (plan : List ℕ) (r₀ : List Float) (n w scales u v : ℕ) (hand : Hand) (s : PairSums) (ready : Ready plan (length r₀) n w scales)
-    (pair : PairPlaces plan n w u v) where
-  pub summed-direct : v - u < w → hand .place < 2 → s .hand ≡ hand → s .z ≡ zAt r₀ w (forwardPlace plan v) (backwardPlace plan v)
-      → s .n ≡ nAt r₀ w (v - u) (forwardPlace plan v) (backwardPlace plan v) → Summed plan r₀ r₀ n w scales u v hand s
-  summed-direct l low e z m =
+module _ (plan : List ℕ) (r₀ : List Float) (n w scales u v : ℕ) (hand : Hand) (s : Source) (ready : Ready plan (length r₀) n w scales)
+    (pair : PairPlaces plan n w u v) (d : DirectSource plan u v s) where
+  pub aimed-direct : v - u < w → hand .place < 2 → (a : Aim) → a .source ≡ s → a .hand ≡ hand → Aimed plan r₀ r₀ n w scales u v hand a
+  aimed-direct l low a es eh =
       record {
-        moving = rw e low;
+        moving = rw eh low;
         still = still-none r₀ w scales;
-        at-hand = λ J each passed known. rw e known;
-        n-is = λ J each passed known.
-            m ∙ direct-sum J w u v (passed .of .window) _ _ (ready .wide) (backward-half J plan r₀ n w scales u v each pair passed) l
-            (forward-half J plan r₀ n w scales u v each pair passed);
-        z-is = λ J each passed. z ∙ z-at J plan r₀ n w scales u v each pair passed (ready .wide);
+        sourced = rw es (direct-sourced plan r₀ n w scales u v s ready pair l d);
+        at-hand = λ J each passed known. rw eh known;
+        source-of = λ J each passed known. rw es (direct-of plan r₀ n w scales u v s ready pair l d J each passed);
       }
 
-  pub summed-propagated : (r : List Float) (on : ℕ) → w ≤ v - u → Propagated plan r₀ r n w scales u v hand on
-      → s .hand ≡ record { vertex = u; reached = v; place = on } → s .z ≡ zAt r w (forwardPlace plan v) (backwardPlace plan v)
-      → s .n ≡ nAt r w w on (backwardPlace plan v) → Summed plan r₀ r n w scales u v hand s
-  summed-propagated r on l g e z m =
+  -- the propagated vector is read in place of the forward one, with the window's bit
+  pub aimed-far : (r : List Float) (on : ℕ) → w ≤ v - u → Propagated plan r₀ r n w scales u v hand on → (a : Aim)
+      → a .source ≡ record { f = s .f; g = on; b = s .b; d = w } → a .hand ≡ record { vertex = u; reached = v; place = on }
+      → Aimed plan r₀ r n w scales u v hand a
+  aimed-far r on l g a es eh =
+      let p = still-ready plan r₀ r n w scales (g .still) ready in
       let now : (J : Job Float) (each : Bool) → Passed J plan r₀ n w scales each → Passed J plan r n w scales each =
       λ J each passed. still-passed J plan r₀ r n w scales each ready (g .still) passed in
       record {
-        moving = rw e (g .moving);
+        moving = rw eh (g .moving);
         still = g .still;
-        at-hand = λ J each passed known. rw e (record { reached = λ _. g .reached J each passed known });
-        n-is = λ J each passed known.
-            m ∙ propagated-sum J w u v (passed .of .window) _ _ (ready .wide)
-            (backward-half J plan r n w scales u v each pair (now J each passed)) l (g .reached J each passed known .vector);
-        z-is = λ J each passed. z ∙ z-at J plan r n w scales u v each pair (now J each passed) (ready .wide);
+        sourced = rw es (record {
+          forward = rw (d .forward) (forward-at plan (length r) n w scales u v p pair);
+          other = moving-place _ _ _ _ _ _ p (g .moving);
+          backward = rw (d .backward) (backward-at plan (length r) n w scales u v p pair);
+          some = ready .wide;
+          small = omega (arith, ready .narrow);
+        });
+        at-hand = λ J each passed known. rw eh (record { reached = λ _. g .reached J each passed known });
+        source-of = λ J each passed known. rw es (record {
+          z-of = λ t h. rw (d .forward, d .backward) at (h .z-is) ∙ z-at J plan r n w scales u v each pair (now J each passed) (ready .wide);
+          n-of = λ t h. rw (d .backward) at (h .n-is)
+              ∙ propagated-sum J w u v (passed .of .window) _ _ (ready .wide)
+              (backward-half J plan r n w scales u v each pair (now J each passed)) l (g .reached J each passed known .vector);
+        });
       }

@@ -9,12 +9,10 @@ use lib.Ieee.{Float}
 use Rattle.transfer.specs.Job.{Job}
 use Rattle.transfer.specs.Rounded.{ieee}
 use Rattle.transfer.specs.Sweep as S
-use Rattle.plan.specs.Layout.{forwardPlace, backwardPlace}
 use Rattle.halves.specs.Odd.{Odd}
 use Rattle.half_sums.specs.Terms.{halfAt}
 use Rattle.vertex.specs.Ready.{PlanOf, Swept, Still}
 use Rattle.answers.specs.declared.propagate.Hand.{Hand}
-use Rattle.answers.specs.declared.pair.PairSums.{PairSums}
 
 -- The plan is of job J, and both its sweeps have passed the room.
 pub record Passed (J : Job Float) (plan : List ℕ) (r : List Float) (n w scales : ℕ) (each : Bool) : Type 0 where
@@ -50,19 +48,3 @@ pub record Propagated (plan : List ℕ) (r₀ r : List Float) (n w scales u v : 
   pub moving : on < 2
   pub still : Still r₀ r w scales
   pub reached : (J : Job Float) (each : Bool) → Passed J plan r₀ n w scales each → AtHand J r₀ n w hand → Reached J r w u v on
-
--- The pair u < v has the places that it needs.
-pub record PairPlaces (plan : List ℕ) (n w u v : ℕ) : Type 0 where
-  pub order : u < v
-  pub inside : v < n
-  pub forward : 0 < forwardPlace plan v
-  pub backward : 0 < backwardPlace plan v
-  pub propagated : w ≤ v - u → 0 < forwardPlace plan u
-
--- The sums are N and Z of the pair u < v, and the vector at hand is still known.
-pub record Summed (plan : List ℕ) (r₀ r : List Float) (n w scales u v : ℕ) (hand : Hand) (s : PairSums) : Type 0 where
-  pub moving : s .hand .place < 2
-  pub still : Still r₀ r w scales
-  pub at-hand : (J : Job Float) (each : Bool) → Passed J plan r₀ n w scales each → AtHand J r₀ n w hand → AtHand J r n w (s .hand)
-  pub n-is : (J : Job Float) (each : Bool) → Passed J plan r₀ n w scales each → AtHand J r₀ n w hand → s .n ≡ S.N ieee J u v
-  pub z-is : (J : Job Float) (each : Bool) → Passed J plan r₀ n w scales each → s .z ≡ S.Z ieee J v

@@ -2,5 +2,6 @@
 mod pair;
 mod pairs;
 mod propagate;
+mod turn;
 
 pub use pairs::answer_pairs;

@@ -1,25 +1,40 @@
-// One pair: its two sums, and whether its Z gives an answer.
+// One pair: where its sums are read, and whether its Z gives an answer.
 ghost use mathlib.Core.Path.{_≡_};
 ghost use Prim.Native.Nat.{_<_};
 ghost use lib.ListN.{length};
+ghost use Rattle.plan.specs.Layout.{Holds};
 ghost use Rattle.vertex.specs.Ready.{Ready};
 ghost use Rattle.answers.specs.Sound.{soundly};
-ghost use Rattle.answers.specs.Hand.{PairPlaces, Summed};
+ghost use Rattle.answers.specs.Aim.{PairPlaces, DirectSource, Aimed};
 use crate::propagate::Hand;
 use crate::propagate::propagate;
-use half_sums::half_sums_at;
+use half_sums::Source;
 use plan::backward_place;
 use plan::forward_place;
 
-// A pair's N and Z, and the propagated vector that is at hand after it.
-pub struct PairSums {
+// Where a pair's sums are read, and the propagated vector that is at hand.
+pub struct Aim {
+    pub source: Source,
     pub hand: Hand,
-    pub n: f64,
-    pub z: f64,
 }
 
-// N and Z of the pair u < v, in one pass. A pair nearer than the window is direct; at the window or farther it is propagated.
-pub fn pair_sums(
+// Where the sums of the direct pair u < v are read.
+pub fn direct_source(plan: &[usize], n: usize, w: usize, u: usize, v: usize) -> Source
+    requires { ⌜ Holds (now plan) n × PairPlaces (now plan) n w u v ⌝ }
+    ensures { λ r. ⌜ DirectSource (now (plan .entry)) u v r ⌝ }
+{
+    let f = forward_place(plan, v);
+    let b = backward_place(plan, v);
+    Source {
+        f: f,
+        g: f,
+        b: b,
+        d: v - u,
+    }
+}
+
+// Where the sums of the pair u < v are read. A pair nearer than the window is direct; at the window or farther it is propagated.
+pub fn aim_at(
     room: &mut [f64],
     plan: &[usize],
     n: usize,
@@ -28,31 +43,32 @@ pub fn pair_sums(
     u: usize,
     v: usize,
     hand: Hand,
-) -> PairSums
+) -> Aim
     requires { ⌜ Ready (now plan) (length (now room)) n w scales × PairPlaces (now plan) n w u v × (hand .place < 2) ⌝ }
-    ensures { λ r. ⌜ Summed (now (plan .entry)) (now (room .entry)) (now (room .exit)) n w scales u v hand r ⌝ }
+    ensures { λ r. ⌜ Aimed (now (plan .entry)) (now (room .entry)) (now (room .exit)) n w scales u v hand r ⌝ }
 {
-    let f = forward_place(plan, v);
-    let b = backward_place(plan, v);
+    let direct = direct_source(plan, n, w, u, v);
     if v - u < w {
-        let direct = half_sums_at(room, f, f, b, w, v - u);
-        return PairSums {
+        return Aim {
+            source: direct,
             hand: hand,
-            n: direct.n,
-            z: direct.z,
         };
     }
     let place = propagate(room, plan, n, w, scales, u, v, hand);
-    let far = half_sums_at(room, f, place, b, w, w);
     let reached = Hand {
         vertex: u,
         reached: v,
         place: place,
     };
-    PairSums {
+    let far = Source {
+        f: direct.f,
+        g: place,
+        b: direct.b,
+        d: w,
+    };
+    Aim {
+        source: far,
         hand: reached,
-        n: far.n,
-        z: far.z,
     }
 }
 

@@ -1,21 +1,100 @@
-// All pairs, one after the other. A propagated vector that is at hand goes on from pair to pair.
+// All pairs, two at a time. A propagated vector that is at hand goes on from pair to pair.
 ghost use mathlib.Core.Path.{_≡_};
 ghost use mathlib.Core.Bool.{Bool};
-ghost use Prim.Native.Nat.{_+_};
+ghost use Prim.Native.Nat.{_+_, _<_};
 ghost use lib.Ieee.{Float};
 ghost use lib.ListN.{length, drop};
 ghost use Rattle.transfer.specs.Job.{Job};
+ghost use Rattle.plan.specs.Layout.{Holds};
 ghost use Rattle.places.specs.Order.{Ordered};
 ghost use Rattle.vertex.specs.Ready.{Ready, PlanOf, Swept, Still};
 ghost use Rattle.answers.specs.Served.{Served};
 ghost use Rattle.answers.specs.Sound.{Outcome};
+ghost use Rattle.answers.specs.Aim.{Second, SecondSource};
+ghost use Rattle.answers.specs.Two.{AnsweredTwo};
+use crate::pair::aim_at;
+use crate::pair::direct_source;
 use crate::pair::is_sound;
-use crate::pair::pair_sums;
 use crate::propagate::Hand;
+use crate::turn::Turn;
+use crate::turn::direct_pairs;
+use crate::turn::next_turn;
+use half_sums::Source;
+use half_sums::half_sums_of_two;
 use places::earlier;
 use places::later;
 
-// The answers of all pairs, taken in the order given; false at the first pair whose Z is not finite and above zero. The results are then
+// The propagated vector that is at hand after two pairs, and whether their Z are finite and above zero.
+pub struct Step {
+    pub hand: Hand,
+    pub sound: bool,
+}
+
+// Where the sums of pair q are read, which is pair p, whose sums are read at `first`, or a direct pair.
+fn second_source(
+    plan: &[usize],
+    us: &[usize],
+    vs: &[usize],
+    n: usize,
+    w: usize,
+    p: usize,
+    q: usize,
+    first: Source,
+) -> Source
+    requires { ⌜ Holds (now plan) n × Served (now plan) (now us) (now vs) n w × (q < length (now us)) ⌝ }
+    ensures { λ r. ⌜ SecondSource (now (plan .entry)) (now (us .entry)) (now (vs .entry)) p q first r ⌝ }
+{
+    if q == p {
+        return first;
+    }
+    let a = us[q];
+    let b = vs[q];
+    direct_source(plan, n, w, earlier(a, b), later(a, b))
+}
+
+// The pairs p and q in one pass, q being p or a direct pair. Where a Z is not finite and above zero, nothing is written.
+fn answer_two(
+    room: &mut [f64],
+    plan: &[usize],
+    n: usize,
+    w: usize,
+    scales: usize,
+    us: &[usize],
+    vs: &[usize],
+    p: usize,
+    q: usize,
+    hand: Hand,
+    results: &mut [f64],
+) -> Step
+    requires { ⌜ Ready (now plan) (length (now room)) n w scales × Served (now plan) (now us) (now vs) n w
+        × (p < length (now us)) × (q < length (now us)) × Second (now us) (now vs) w p q × (hand .place < 2) × (length (now results) ≡ length (now us)) ⌝ }
+    ensures { λ r. ⌜ AnsweredTwo (now (plan .entry)) (now (us .entry)) (now (vs .entry)) (now (room .entry)) (now (room .exit))
+        (now (results .entry)) (now (results .exit)) n w scales p q hand r ⌝ }
+{
+    let a = us[p];
+    let b = vs[p];
+    let aim = aim_at(room, plan, n, w, scales, earlier(a, b), later(a, b), hand);
+    let source = aim.source;
+    let other = second_source(plan, us, vs, n, w, p, q, source);
+    let sums = half_sums_of_two(room, w, source, other);
+    let x = sums.first;
+    let y = sums.second;
+    if !is_sound(x.z) {
+        return Step { hand, sound: false };
+    }
+    if !is_sound(y.z) {
+        return Step { hand, sound: false };
+    }
+    results[p] = x.n / x.z;
+    results[q] = y.n / y.z;
+    let reached = aim.hand;
+    Step {
+        hand: reached,
+        sound: true,
+    }
+}
+
+// The answers of all pairs, taken by the order given; false at the first pairs whose Z are not finite and above zero. The results are then
 // not all written.
 pub fn answer_pairs(
     room: &mut [f64],
@@ -35,23 +114,41 @@ pub fn answer_pairs(
         → Swept J (now (plan .entry)) (now (room .entry)) n w scales
         → Outcome J (now (us .entry)) (now (vs .entry)) (now (results .exit)) r) ⌝ }
 {
+    let directs = direct_pairs(us, vs, order, n, w);
+    let all = order.len();
     let mut hand = Hand {
         vertex: n,
         reached: 0,
         place: 0,
     };
-    let mut k = 0usize;
-    while k < order.len() {
-        let p = order[k];
-        let a = us[p];
-        let b = vs[p];
-        let sums = pair_sums(room, plan, n, w, scales, earlier(a, b), later(a, b), hand);
-        if !is_sound(sums.z) {
+    let mut direct = 0usize;
+    let mut other = directs;
+    while direct + other < directs + all {
+        let Turn {
+            first,
+            second,
+            direct: direct2,
+            other: other2,
+        } = next_turn(directs, all, direct, other);
+        let step = answer_two(
+            room,
+            plan,
+            n,
+            w,
+            scales,
+            us,
+            vs,
+            order[first],
+            order[second],
+            hand,
+            results,
+        );
+        if !step.sound {
             return false;
         }
-        results[p] = sums.n / sums.z;
-        hand = sums.hand;
-        k += 1;
+        hand = step.hand;
+        direct = direct2;
+        other = other2;
     }
     true
 }

@@ -1,2 +1,4 @@
 pub mod Terms
+pub mod Pair
 pub mod Vertex
+pub mod Stored

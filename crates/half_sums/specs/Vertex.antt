@@ -1,7 +1,8 @@
 -- The sums by halves are the definition's Z and N once the halves are those of the job's vectors.
-use mathlib.Core.Path.{_≡_, sym, _∙_}
-use Prim.Native.Nat.{ℕ, _-_, _^_, _≤_, _<_, min}
-use native.Mathlib.Nat.{min-le-left}
+use mathlib.Core.Path.{_≡_, refl, sym, _∙_}
+use mathlib.Core.Bool.{Bool, true, false, not, Bool·beq}
+use Prim.Native.Nat.{ℕ, _-_, _/_, _^_, _≤_, _<_, min}
+use native.Mathlib.Nat.{min-le-left, div-eq-of-lt}
 use native.Mathlib.Omega.{arith}
 use lib.Ieee.{Float, binary64}
 use lib.Ieee.Fits.{mul-fits}
@@ -10,16 +11,23 @@ use Rattle.transfer.specs.Arithmetic.{sum, signedSum}
 use Rattle.transfer.specs.Job.{Job}
 use Rattle.transfer.specs.Rounded.{ieee}
 use Rattle.transfer.specs.Sweep as S
-use Rattle.sums.specs.Sums.{high-clear}
 use Rattle.halves.specs.Alike.{same}
 use Rattle.halves.specs.Terms.{like, signed-same}
 use Rattle.halves.specs.Half.{thereAndBack}
 use Rattle.halves.specs.Even.{Even}
 use Rattle.halves.specs.Odd.{Odd}
-use Rattle.halves.specs.Sums.{Z-halves, direct-halves, propagated-halves}
+use Rattle.halves.specs.Sums.{differ, Z-halves, direct-halves, propagated-halves}
 use Rattle.half_sums.specs.Terms.{terms, signs}
 
--- a half's indexes are below 2 ^ w: bit w of them is clear, and the terms are signed by bit 0
+-- an index of the vector is below 2 ^ w: its bit w is clear
+high-clear : (w j : ℕ) → j < 2 ^ w → differ w j ≡ bit 0 j
+high-clear w j h = let z : j / 2 ^ w ≡ 0 = div-eq-of-lt h in rw z (flip (bit 0 j))
+  where
+    flip : (b : Bool) → not (Bool·beq b false) ≡ b
+    flip true = refl
+    flip false = refl
+
+-- so the terms are signed by bit 0
 pub signs-window : (w : ℕ) (h k : ℕ → Float) → signedSum ieee (2 ^ w) (signs w w) (terms w h k) ≡ signedSum ieee (2 ^ w) (thereAndBack w (bit 0)) (terms w h k)
 signs-window w h k =
     signed-same (2 ^ w) (signs w w) (thereAndBack w (bit 0)) (terms w h k) (terms w h k) (λ j _. mul-fits binary64 (h _) (k _))
