@@ -1,16 +1,18 @@
 //! Copperhook's time beside the original's: the same jobs, in one run, both built for release.
 //!
-//!     rust/bench/run [--quick | --width N | --checks | --totals [--width N]]
+//!     rust/bench/run [--quick | --width N | --checks | --totals [--width N] | --growth]
 //!
 //! proves what is needed, builds the archive and runs this. Without an option, widths 4 to 20, the checks and the totals are measured. `--quick`
 //! stops at width 10, and for the totals at 8; `--width N` measures one width alone, from 1 to 24, and tells how much memory a job's room is;
-//! `--checks` measures what a call costs before its sweeps, `--totals` the totals alone, of one width from 4 to 20 where it is told.
+//! `--checks` measures what a call costs before its sweeps, `--totals` the totals alone, of one width from 4 to 20 where it is told; `--growth`
+//! how the time grows with the window, the vertices, the pairs and the betas.
 //!
 //! The original's plan and work memory are made once, outside the timed loop, as its callers do. Ours checks and plans in every call and
 //! clears its room. The original takes the exponentials of the couplings inside, ours is lent factors: the last column adds to ours the time
 //! of these exponentials. Each job's bits are compared first. A time is the least of several rounds, in which the sides take turns.
 mod checks;
 mod clock;
+mod growth;
 mod ours;
 mod ratios;
 mod totals;
@@ -54,7 +56,7 @@ fn strip_of_entries(kind: Kind, w: usize, periodic: bool, entries: usize, least:
     Some(Strip { kind, w, l, periodic })
 }
 
-/// A strip with its standard pairs and couplings of either sign, as each side takes it.
+/// A strip with pairs and couplings of either sign, as each side takes it.
 struct Job {
     strip: Strip,
     raw: Vec<(usize, usize, f64)>,
@@ -66,10 +68,15 @@ struct Job {
 }
 
 impl Job {
+    /// With the standard pairs.
     fn new(strip: Strip) -> Job {
+        let pairs = strip.pairs().iter().map(|p| (p.1, p.2)).collect();
+        Job::with_pairs(strip, pairs)
+    }
+
+    fn with_pairs(strip: Strip, pairs: Vec<(usize, usize)>) -> Job {
         let raw = strip.raw_edges();
         let graph = Graph::new(strip.n(), &raw);
-        let pairs: Vec<(usize, usize)> = strip.pairs().iter().map(|p| (p.1, p.2)).collect();
         let lists = Lists::new(strip.n(), &raw, &pairs);
         let mut rng = Rng::new(7);
         let couplings: Vec<f64> = graph
@@ -209,6 +216,7 @@ fn main() {
         ["--checks"] => checks::print_checks(),
         ["--totals"] => totals::print_totals(totals::WIDTHS),
         ["--totals", "--width", w] => totals::print_totals(one_of(totals::WIDTHS, w)),
+        ["--growth"] => growth::print_growth(),
         ["--width", w] => print_sheet(one_of(1..=24, w), &Rounds { least: 3, ..rounds }, true),
         _ => usage(),
     }
@@ -223,7 +231,7 @@ fn one_of(widths: RangeInclusive<usize>, word: &str) -> RangeInclusive<usize> {
 }
 
 fn usage() -> ! {
-    eprintln!("usage: rust/bench/run [--quick | --width N | --checks | --totals [--width N]]");
+    eprintln!("usage: rust/bench/run [--quick | --width N | --checks | --totals [--width N] | --growth]");
     eprintln!("N is from 1 to 24, of totals from 4 to 20");
     std::process::exit(2);
 }

@@ -110,6 +110,10 @@ impl Job {
         Job::of(strip, entry, betas, by)
     }
 
+    pub fn sampling(strip: Strip, betas: Vec<f64>, by: Sampling) -> Job {
+        Job::of(strip, Entry::Sample, betas, by)
+    }
+
     fn of(strip: Strip, entry: Entry, betas: Vec<f64>, by: Sampling) -> Job {
         let raw = edges_of(&strip, entry);
         let mut graph = Graph::new(strip.n(), &raw);
