@@ -12,7 +12,9 @@ pub fn print_checks() {
     println!("our checks and plan together, as what a call of one sample takes beyond the sample.");
     println!("Then all of one call from the edges on: the original's graph, plan, work memory and correlations; our correlations.");
     println!();
-    println!("| strip | graph and plan | room | ratio | refused by 13 | ratio | checks and plan | ratio | original, all | ours, all | ratio |");
+    println!(
+        "| strip | graph and plan | room | ratio | refused by 13 | ratio | checks and plan | ratio | original, all | ours, all | ratio |"
+    );
     println!("|---|---|---|---|---|---|---|---|---|---|---|");
     for (w, l) in [(4, 256), (6, 170), (8, 128), (16, 64)] {
         for kind in KINDS {

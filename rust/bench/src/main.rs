@@ -1,15 +1,20 @@
 //! Copperhook's time beside the original's: the same jobs, in one run, both built for release.
 //!
-//!     rust/bench/run [--quick | --width N | --checks | --totals]
+//!     rust/bench/run [--quick | --width N | --checks | --totals [--width N] | --growth | --limits]
 //!
-//! proves what is needed, builds the archive and runs this. `--quick` stops at width 10; `--width N` measures one width alone, from 1 to 24,
-//! and tells how much memory a job's room is; `--checks` measures what a call costs before its sweeps, `--totals` the totals alone.
+//! proves what is needed, builds the archive and runs this. Without an option, widths 4 to 20, the checks and the totals are measured. `--quick`
+//! stops at width 10, and for the totals at 8; `--width N` measures one width alone, from 1 to 24, and tells how much memory a job's room is;
+//! `--checks` measures what a call costs before its sweeps, `--totals` the totals alone, of one width from 4 to 20 where it is told; `--growth`
+//! how the time grows with the window, the vertices, the pairs and the betas; `--limits` how far the sweeps are from a copy of as much memory,
+//! and the sums from the adder's latency.
 //!
 //! The original's plan and work memory are made once, outside the timed loop, as its callers do. Ours checks and plans in every call and
 //! clears its room. The original takes the exponentials of the couplings inside, ours is lent factors: the last column adds to ours the time
 //! of these exponentials. Each job's bits are compared first. A time is the least of several rounds, in which the sides take turns.
 mod checks;
 mod clock;
+mod growth;
+mod limits;
 mod ours;
 mod ratios;
 mod totals;
@@ -40,20 +45,20 @@ const MANNERS: [Manner; 2] = [BLOCK, EACH];
 /// About how many entries a sweep steps over: a call then takes up to some hundred milliseconds.
 const ENTRIES: usize = 40_000_000;
 
-/// The strip of this width with as many columns as give so many entries, three at least, and 1,024 vertices at most.
-fn strip_of_entries(kind: Kind, w: usize, periodic: bool, entries: usize) -> Option<Strip> {
-    if kind == Kind::Honey && periodic && w % 2 != 0 {
+/// The strip of this width with as many columns as give so many entries, `least` at least, and 1,024 vertices at most.
+fn strip_of_entries(kind: Kind, w: usize, periodic: bool, entries: usize, least: usize) -> Option<Strip> {
+    if kind == Kind::Honey && periodic && w % 2 == 1 {
         return None;
     }
     let window = if kind == Kind::Tri && periodic { w + 1 } else { w };
     if window > 24 {
         return None;
     }
-    let l = (entries / (w << window)).clamp(3, 1024 / w);
+    let l = (entries / (w << window)).clamp(least, 1024 / w);
     Some(Strip { kind, w, l, periodic })
 }
 
-/// A strip with its standard pairs and couplings of either sign, as each side takes it.
+/// A strip with pairs and couplings of either sign, as each side takes it.
 struct Job {
     strip: Strip,
     raw: Vec<(usize, usize, f64)>,
@@ -65,10 +70,15 @@ struct Job {
 }
 
 impl Job {
+    /// With the standard pairs.
     fn new(strip: Strip) -> Job {
+        let pairs = strip.pairs().iter().map(|p| (p.1, p.2)).collect();
+        Job::with_pairs(strip, pairs)
+    }
+
+    fn with_pairs(strip: Strip, pairs: Vec<(usize, usize)>) -> Job {
         let raw = strip.raw_edges();
         let graph = Graph::new(strip.n(), &raw);
-        let pairs: Vec<(usize, usize)> = strip.pairs().iter().map(|p| (p.1, p.2)).collect();
         let lists = Lists::new(strip.n(), &raw, &pairs);
         let mut rng = Rng::new(7);
         let couplings: Vec<f64> = graph
@@ -76,7 +86,7 @@ impl Job {
             .iter()
             .map(|m| {
                 let size = m * (0.25 + 0.5 * rng.uniform());
-                let minus = rng.next_u64() % 2 != 0;
+                let minus = rng.next_u64() % 2 == 1;
                 if minus {
                     -size
                 } else {
@@ -167,7 +177,7 @@ fn print_sheet(widths: RangeInclusive<usize>, rounds: &Rounds, tell_room: bool) 
     for w in widths {
         for kind in KINDS {
             for periodic in [false, true] {
-                let Some(strip) = strip_of_entries(kind, w, periodic, ENTRIES) else { continue };
+                let Some(strip) = strip_of_entries(kind, w, periodic, ENTRIES, 3) else { continue };
                 let job = Job::new(strip);
                 if tell_room {
                     println!("room: {} doubles, {:.1} MB", job.room(), 8e-6 * job.room() as f64);
@@ -198,7 +208,7 @@ fn main() {
         [] => {
             print_sheet(4..=20, &rounds, false);
             checks::print_checks();
-            totals::print_totals(4..=12);
+            totals::print_totals(totals::WIDTHS);
         }
         ["--quick"] => {
             print_sheet(4..=10, &rounds, false);
@@ -206,16 +216,25 @@ fn main() {
             totals::print_totals(4..=8);
         }
         ["--checks"] => checks::print_checks(),
-        ["--totals"] => totals::print_totals(4..=12),
-        ["--width", w] => match w.parse::<usize>() {
-            Ok(w) if (1..=24).contains(&w) => print_sheet(w..=w, &Rounds { least: 3, ..rounds }, true),
-            _ => usage(),
-        },
+        ["--totals"] => totals::print_totals(totals::WIDTHS),
+        ["--totals", "--width", w] => totals::print_totals(one_of(totals::WIDTHS, w)),
+        ["--growth"] => growth::print_growth(),
+        ["--limits"] => limits::print_limits(),
+        ["--width", w] => print_sheet(one_of(1..=24, w), &Rounds { least: 3, ..rounds }, true),
+        _ => usage(),
+    }
+}
+
+/// The width that the word says, alone.
+fn one_of(widths: RangeInclusive<usize>, word: &str) -> RangeInclusive<usize> {
+    match word.parse() {
+        Ok(w) if widths.contains(&w) => w..=w,
         _ => usage(),
     }
 }
 
 fn usage() -> ! {
-    eprintln!("usage: rust/bench/run [--quick | --width N | --checks | --totals], N from 1 to 24");
+    eprintln!("usage: rust/bench/run [--quick | --width N | --checks | --totals [--width N] | --growth | --limits]");
+    eprintln!("N is from 1 to 24, of totals from 4 to 20");
     std::process::exit(2);
 }

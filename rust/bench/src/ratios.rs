@@ -12,7 +12,7 @@ pub struct Ratios {
 impl Ratios {
     pub fn add(&mut self, ratio: f64, s: &Strip) {
         self.ratios.push(ratio);
-        if self.worst.as_ref().map_or(true, |w| ratio > w.0) {
+        if self.worst.as_ref().is_none_or(|w| ratio > w.0) {
             self.worst = Some((ratio, format!("{} {} {} x {}", s.kind.name(), s.bc(), s.w, s.l)));
         }
     }

@@ -6,16 +6,17 @@
 use crate::clock::{least_times, stay_on_this_processor, Rounds};
 use crate::ours::Lists;
 use crate::ratios::Ratios;
-use crate::{strip_of_entries, Manner, KINDS, MANNERS};
+use crate::{strip_of_entries, Manner, Times, KINDS, MANNERS};
 use copperhook::{Refusal, Sampling};
 use oracle::glass::{exhaustive, sample, Acc, Plan};
 use oracle::lattice::{Graph, Strip};
 use std::hint::black_box;
 use std::ops::RangeInclusive;
 
+/// The widths that are measured.
+pub const WIDTHS: RangeInclusive<usize> = 4..=20;
 const BETAS: [f64; 2] = [0.3, 0.7];
-const SAMPLES: Sampling = Sampling { seed: 7, from: 0, to: 4, samples: 8 };
-/// The free edges of a sparse strip: 32 configurations.
+/// The most free edges of a sparse strip: 32 configurations, and as many are drawn.
 const SPARSE: usize = 5;
 /// About how many entries the sweep of a configuration of a long strip steps over.
 const ENTRIES: usize = 400_000;
@@ -31,27 +32,59 @@ enum Entry {
 const ENTRIES_NAMED: [(Entry, &str); 3] =
     [(Entry::Exhaustive, "exhaustive"), (Entry::Sparse, "exhaustive, sparse"), (Entry::Sample, "sample")];
 
-/// A strip with its standard pairs, as each side takes it.
-struct Job {
+/// A strip with its standard pairs and its betas, as each side takes it.
+pub struct Job {
     entry: Entry,
     strip: Strip,
     graph: Graph,
     pairs: Vec<(usize, usize)>,
     lists: Lists,
+    betas: Vec<f64>,
+    /// Of a sampling alone.
+    by: Sampling,
     couplings: Vec<f64>,
     factors: Vec<f64>,
 }
 
-/// How many free edges an enumeration has at most: 10 at width 4, 6 at width 12, so that a call takes up to some hundred milliseconds.
+/// How many free edges an enumeration has at most: 10 at width 4, 6 at width 12, 1 from width 18 on, so that a call stays below about a second.
 fn most_free(w: usize) -> usize {
-    10 - (w.clamp(4, 12) - 4) / 2
+    if w <= 12 {
+        10 - (w - 4) / 2
+    } else {
+        19usize.saturating_sub(w).max(1)
+    }
+}
+
+fn free_if_sparse(w: usize) -> usize {
+    most_free(w).min(SPARSE)
+}
+
+/// As many configurations as a sparse strip has, in four chunks where there are as many.
+fn drawn(w: usize) -> Sampling {
+    let configurations = 1 << free_if_sparse(w);
+    let chunks = configurations.min(4);
+    Sampling { seed: 7, from: 0, to: chunks as u64, samples: configurations / chunks }
+}
+
+/// One alone where two would take a call beyond a second.
+fn betas_of(window: usize) -> Vec<f64> {
+    let from = usize::from(window >= 20);
+    BETAS[from..].to_vec()
 }
 
 /// The longest strip with so few free edges, of two columns at least.
 fn enumerated(strip: &Strip) -> Strip {
     let of_length = |l| Strip { l, ..strip.clone() };
     let fits = |l: &usize| of_length(*l).graph().cyclomatic() <= most_free(strip.w);
-    of_length((2..40).take_while(fits).last().unwrap_or(2))
+    with_free_edges(of_length((2..40).take_while(fits).last().unwrap_or(2)))
+}
+
+/// The strip, or where it has fewer free edges than a sparse one takes, the next longer one that has them: a honeycomb of two columns is a tree.
+fn with_free_edges(mut strip: Strip) -> Strip {
+    while strip.graph().cyclomatic() < free_if_sparse(strip.w) {
+        strip.l += 1;
+    }
+    strip
 }
 
 /// The strip's edges, all of magnitude 1.0; for an enumeration those past the free ones that it takes get magnitude zero.
@@ -59,10 +92,11 @@ fn edges_of(strip: &Strip, entry: Entry) -> Vec<(usize, usize, f64)> {
     let mut raw = strip.raw_edges();
     let tree = Graph::new(strip.n(), &raw).spanning_forest();
     let free: Vec<usize> = (0..tree.len()).filter(|&e| !tree[e]).collect();
+    let sparse = free_if_sparse(strip.w);
     // the sparse ones are spread over the strip
     let stays: Vec<usize> = match entry {
         Entry::Exhaustive => free.iter().copied().take(most_free(strip.w)).collect(),
-        Entry::Sparse => (0..SPARSE).map(|i| free[i * free.len() / SPARSE]).collect(),
+        Entry::Sparse => (0..sparse).map(|i| free[i * free.len() / sparse]).collect(),
         Entry::Sample => free.clone(),
     };
     free.iter().filter(|e| !stays.contains(e)).for_each(|&e| raw[e].2 = 0.0);
@@ -71,39 +105,56 @@ fn edges_of(strip: &Strip, entry: Entry) -> Vec<(usize, usize, f64)> {
 
 impl Job {
     fn new(strip: &Strip, entry: Entry) -> Job {
-        let strip = if entry == Entry::Exhaustive { enumerated(strip) } else { strip.clone() };
+        let strip = if entry == Entry::Exhaustive { enumerated(strip) } else { with_free_edges(strip.clone()) };
+        let (betas, by) = (betas_of(strip.graph().win), drawn(strip.w));
+        Job::of(strip, entry, betas, by)
+    }
+
+    pub fn sampling(strip: Strip, betas: Vec<f64>, by: Sampling) -> Job {
+        Job::of(strip, Entry::Sample, betas, by)
+    }
+
+    fn of(strip: Strip, entry: Entry, betas: Vec<f64>, by: Sampling) -> Job {
         let raw = edges_of(&strip, entry);
         let mut graph = Graph::new(strip.n(), &raw);
         graph.win = strip.graph().win;
         let pairs: Vec<(usize, usize)> = strip.pairs().iter().map(|p| (p.1, p.2)).collect();
         let lists = Lists::new(strip.n(), &raw, &pairs).with_floor(graph.win);
-        let couplings: Vec<f64> = BETAS.iter().flat_map(|beta| graph.mag.iter().map(move |m| beta * m)).collect();
+        let couplings: Vec<f64> = betas.iter().flat_map(|beta| graph.mag.iter().map(move |m| beta * m)).collect();
         let factors = couplings.iter().flat_map(|x| [x.exp(), (-x).exp()]).collect();
-        Job { entry, strip, graph, pairs, lists, couplings, factors }
+        Job { entry, strip, graph, pairs, lists, betas, by, couplings, factors }
+    }
+
+    fn configurations(&self) -> usize {
+        match self.entry {
+            Entry::Exhaustive | Entry::Sparse => 1 << self.graph.cyclomatic(),
+            Entry::Sample => (self.by.to - self.by.from) as usize * self.by.samples,
+        }
     }
 
     fn original(&self, plan: &Plan) -> Acc {
         match self.entry {
-            Entry::Exhaustive | Entry::Sparse => exhaustive(&self.graph, plan, &BETAS, 1),
-            Entry::Sample => sample(&self.graph, plan, &BETAS, SAMPLES.seed, SAMPLES.from, SAMPLES.to, SAMPLES.samples, 1),
+            Entry::Exhaustive | Entry::Sparse => exhaustive(&self.graph, plan, &self.betas, 1),
+            Entry::Sample => sample(&self.graph, plan, &self.betas, self.by.seed, self.by.from, self.by.to, self.by.samples, 1),
         }
     }
 
     fn ours(&self, manner: Manner, squares: &mut [f64], fourths: &mut [f64], work: &mut [f64]) -> Result<usize, Refusal> {
         let (job, factors) = (self.lists.job(), black_box(&self.factors[..]));
         match self.entry {
-            Entry::Exhaustive | Entry::Sparse => job.exhaustive(&BETAS, factors, manner.ours, squares, fourths, work),
-            Entry::Sample => job.sample(&BETAS, factors, manner.ours, &SAMPLES, squares, fourths, work),
+            Entry::Exhaustive | Entry::Sparse => job.exhaustive(&self.betas, factors, manner.ours, squares, fourths, work),
+            Entry::Sample => job.sample(&self.betas, factors, manner.ours, &self.by, squares, fourths, work),
         }
     }
 }
 
-/// Seconds of one call of the original, of ours, and of the exponentials that ours is lent.
-fn measure(job: &Job, manner: Manner) -> Vec<f64> {
+/// Seconds of one call of the original, of ours, and of the exponentials that ours is lent. The caller stays on one processor.
+pub fn measure(job: &Job, manner: Manner) -> Times {
     std::env::set_var("FDK_SLOW", manner.slow);
     let plan = Plan::new(&job.graph, &job.pairs);
     let mut work = vec![0.0; job.lists.room().expect("the room of this strip is refused")];
-    let (mut squares, mut fourths) = (vec![0.0; BETAS.len() * job.pairs.len()], vec![0.0; BETAS.len() * job.pairs.len()]);
+    let totals = job.betas.len() * job.pairs.len();
+    let (mut squares, mut fourths) = (vec![0.0; totals], vec![0.0; totals]);
 
     let theirs = job.original(&plan);
     let count = job.ours(manner, &mut squares, &mut fourths, &mut work).expect("this strip is refused");
@@ -113,7 +164,7 @@ fn measure(job: &Job, manner: Manner) -> Vec<f64> {
     }
 
     let mut factors = job.factors.clone();
-    least_times(
+    let times = least_times(
         &Rounds { least: 3, round: 0.003, total: 0.3 },
         &mut [
             &mut || drop(black_box(job.original(black_box(&plan)))),
@@ -127,13 +178,14 @@ fn measure(job: &Job, manner: Manner) -> Vec<f64> {
                 black_box(&mut factors);
             },
         ],
-    )
+    );
+    Times { original: times[0], ours: times[1], exponentials: times[2] }
 }
 
-fn print_job(job: &Job, manner: Manner, times: &[f64]) {
+fn print_job(job: &Job, manner: Manner, times: &Times) {
     let s = &job.strip;
     println!(
-        "| {} | {} | {} | {} | {} | {} | {} | {} | {} | {} | {:.3} | {:.3} | {:.3} | {:.3} |",
+        "| {} | {} | {} | {} | {} | {} | {} | {} | {} | {} | {} | {} | {:.3} | {:.3} | {:.3} | {:.3} |",
         ENTRIES_NAMED[job.entry as usize].1,
         s.kind.name(),
         s.bc(),
@@ -143,33 +195,34 @@ fn print_job(job: &Job, manner: Manner, times: &[f64]) {
         s.n(),
         job.graph.cyclomatic(),
         job.pairs.len(),
+        job.betas.len(),
+        job.configurations(),
         manner.name,
-        1e3 * times[0],
-        1e3 * times[1],
-        times[1] / times[0],
-        (times[1] + times[2]) / times[0],
+        1e3 * times.original,
+        1e3 * times.ours,
+        times.ours / times.original,
+        (times.ours + times.exponentials) / times.original,
     );
 }
 
 pub fn print_totals(widths: RangeInclusive<usize>) {
     stay_on_this_processor();
     println!();
-    println!("Totals of {} betas: of all configurations of short strips, of all of long strips with {SPARSE} free edges, and of drawn ones of long strips.", BETAS.len());
+    println!("Totals: of all configurations of short strips, of all of long strips with {SPARSE} free edges or fewer, and of drawn ones of long strips.");
     println!();
-    println!(
-        "| entry | kind | boundary | width | columns | window | vertices | free edges | pairs | manner | original, ms | ours, ms | ratio | with exp |"
-    );
-    println!("|---|---|---|---|---|---|---|---|---|---|---|---|---|---|");
+    print!("| entry | kind | boundary | width | columns | window | vertices | free edges | pairs | betas | configurations | manner |");
+    println!(" original, ms | ours, ms | ratio | with exp |");
+    println!("|---|---|---|---|---|---|---|---|---|---|---|---|---|---|---|---|");
     let mut ratios: [[Ratios; 2]; 3] = Default::default();
     for w in widths {
         for (kind, periodic) in KINDS.into_iter().flat_map(|kind| [(kind, false), (kind, true)]) {
-            let Some(strip) = strip_of_entries(kind, w, periodic, ENTRIES) else { continue };
+            let Some(strip) = strip_of_entries(kind, w, periodic, ENTRIES, 2) else { continue };
             for (e, (entry, _)) in ENTRIES_NAMED.into_iter().enumerate() {
                 let job = Job::new(&strip, entry);
                 for (m, manner) in MANNERS.into_iter().enumerate() {
                     let times = measure(&job, manner);
                     print_job(&job, manner, &times);
-                    ratios[e][m].add(times[1] / times[0], &job.strip);
+                    ratios[e][m].add(times.ours / times.original, &job.strip);
                 }
             }
         }
