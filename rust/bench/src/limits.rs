@@ -57,7 +57,8 @@ fn copy_time(doubles: usize) -> f64 {
     least_times(&Rounds { least: 9, round: 0.003, total: 0.2 }, &mut [&mut there_and_back])[0] / 2.0
 }
 
-/// The original sums Z once for a vertex and N for each pair, ours both side by side for each pair: a term waits for one addition either way.
+/// The original sums Z once for a vertex and N for each pair, one after the other; ours sums Z and N of two pairs side by side, so that four
+/// terms wait for one addition.
 fn print_sums() {
     let pairs = limits::PAIRS;
     println!();
