@@ -12,7 +12,7 @@ ghost use Rattle.sweep.specs.Place.{Places};
 ghost use Rattle.halves.specs.Half.{forwardHalf, turnOf};
 ghost use Rattle.half_steps.specs.Rule.{downFrom, forwardHalfRule};
 use crate::few::store_few;
-use crate::few::turned;
+use halves::turned;
 use runs::run_bit;
 use sweep::pattern_of;
 use sweep::pow2;
@@ -131,8 +131,8 @@ pub fn half_forward(
     let size = pow2(w);
     let s = src * size;
     let o = dst * size;
-    let y = turned(em, odd);
-    let u = turned(ep, odd);
+    let y = turned(odd, em);
+    let u = turned(odd, ep);
     if w > 2 {
         forward_runs(room, s, o, w - 2, ep, y, em, u, bits, count, up, down);
         return;

@@ -14,7 +14,7 @@ ghost use Rattle.runs.specs.Rule.{inFour};
 ghost use Rattle.half_runs.specs.Rule.{fromEnd, endWeights};
 ghost use Rattle.half_stride_forward.specs.Rule.{halfTwice};
 use half_runs::opposed;
-use half_runs::turned;
+use halves::turned;
 use runs::Four;
 use runs::four_at;
 use runs::runs_of;
