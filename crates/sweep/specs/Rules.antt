@@ -1,13 +1,13 @@
--- Weights in turn: at an even and at an odd place.
+-- Laws of weights in turn and of the forward rule: at an even and at an odd place, and from a place on.
 use mathlib.Core.Path.{_≡_}
 use mathlib.Core.List.{List}
 use mathlib.Core.Logic.{_⊎_, inl, inr, dite}
-use Prim.Native.Nat.{ℕ, _+_, _*_, _/_, _%_}
+use Prim.Native.Nat.{ℕ, _+_, _*_, _/_, _%_, _<_}
 use native.Mathlib.Decide.{decLt}
 use native.Mathlib.Omega.{arith}
 use lib.ListN.{getD}
 use lib.Ieee.{Float, nan}
-use Rattle.sweep.specs.Rule.{inTurn}
+use Rattle.sweep.specs.Rule.{inTurn, blend, forwardRule}
 
 module _ (p q : Float) (i : ℕ) where
   pub turn-even : i % 2 ≡ 0 → inTurn p q i ≡ p
@@ -28,3 +28,29 @@ turn-pick t m low i = go (mod-two i)
     go : ((i % 2 ≡ 0) ⊎ (i % 2 ≡ 1)) → inTurn (getD t m nan) (getD t (m + low) nan) i ≡ getD t (m + low * (i % 2)) nan
     go (inl z) = let e : m + low * 0 ≡ m = omega arith in rw (turn-even _ _ i z, z, e)
     go (inr z) = let e : m + low * 1 ≡ m + low = omega arith in rw (turn-odd _ _ i z, z, e)
+
+module _ (x y u z : Float) (p q a b : ℕ → Float) where
+  pub rule-even : (j k : ℕ) → j ≡ 2 * k → forwardRule x y u z p q a b j ≡ blend x y (p k) (a k) (b k)
+  unfolding forwardRule
+  rule-even j k h =
+      let r : j / 1 % 2 ≡ 0 = omega arith in
+      let s : j / 2 ≡ k = omega arith in
+      rw (r, s)
+
+  pub rule-odd : (j k : ℕ) → j ≡ 2 * k + 1 → forwardRule x y u z p q a b j ≡ blend u z (q k) (a k) (b k)
+  unfolding forwardRule
+  rule-odd j k h =
+      let r : j / 1 % 2 ≡ 1 = omega arith in
+      let s : j / 2 ≡ k = omega arith in
+      rw (r, s)
+
+  -- the rule from place 2 k on is the rule over the weights and entries from k on
+  pub rule-from : (p′ q′ a′ b′ : ℕ → Float) (k n j : ℕ) → j < 2 * n → ((i : ℕ) → i < n → p′ i ≡ p (k + i)) → ((i : ℕ) → i < n → q′ i ≡ q (k + i))
+      → ((i : ℕ) → i < n → a′ i ≡ a (k + i)) → ((i : ℕ) → i < n → b′ i ≡ b (k + i))
+      → forwardRule x y u z p′ q′ a′ b′ j ≡ forwardRule x y u z p q a b (2 * k + j)
+  unfolding forwardRule
+  rule-from p′ q′ a′ b′ k n j h ep eq ea eb =
+      let r : (2 * k + j) / 1 % 2 ≡ j / 1 % 2 = omega arith in
+      let s : (2 * k + j) / 2 ≡ k + j / 2 = omega arith in
+      let l : j / 2 < n = omega arith in
+      rw (r, s, ep (j / 2) l, eq (j / 2) l, ea (j / 2) l, eb (j / 2) l)
