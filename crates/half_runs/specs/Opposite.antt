@@ -13,8 +13,8 @@ use Rattle.sweep.specs.Step.{patternBy}
 use Rattle.sweep.specs.Rule.{weights, inTurn}
 use Rattle.sweep.specs.Rules.{turn-even, turn-odd}
 use Rattle.runs.specs.declared.Four.{Four}
-use Rattle.runs.specs.Picks.{pick-lower}
-use Rattle.runs.specs.AtRun.{Runs, AtRun, run-size, run-even, run-inside, first-16}
+use Rattle.runs.specs.AtRun.{Runs, TwoRuns, AtRun, run-size, run-even, run-inside, run-16}
+use Rattle.runs.specs.RunWeights.{run-weight}
 use Rattle.half_runs.specs.Rule.{endWeights, Opposed}
 
 -- by turns, from the other end
@@ -28,54 +28,47 @@ turn-back p q n i ev b =
 multiples : (c t x n : ℕ) → c ≡ t + x + 1 → c * n ≡ t * n + x * n + n
 multiples c t x n h = rw h (omega arith)
 
-module _ {l : List ℕ} {n : ℕ} {l′ : List ℕ} {n′ g h e end quarter size one top low two k : ℕ}
-    (r : Runs l n l′ n′ g h e end quarter size one top low two) (a : AtRun e end k) (under : k < end) where
+module _ {l : List ℕ} {n : ℕ} {l′ : List ℕ} {n′ g h e end quarter size one low two k : ℕ}
+    (r : TwoRuns l n l′ n′ g h e end quarter size one low two) (a : AtRun e end k) (under : k < end) where
   -- the runs of all places
-  all : Runs l n l′ n′ h h e quarter quarter size one top low two
+  all : Runs l n h e quarter size one
   all =
+      let f = r .first in
       record {
-        few = r .few;
-        few′ = r .few′;
-        first = r .first;
-        second = r .second;
-        some = r .some;
-        inside = omega (arith, r .inside, r .within);
-        within = omega arith;
+        few = f .few;
+        sparse = f .sparse;
+        some = f .some;
+        inside = omega (arith, f .inside, r .within);
         ends = r .whole;
-        whole = r .whole;
-        length = r .length;
-        odd = r .odd;
-        upper = r .upper;
-        odd′ = r .odd′;
-        next′ = r .next′;
+        length = f .length;
+        odd = f .odd;
       }
 
   -- it is one of them
   pub opposite : AtRun e quarter (quarter - k - size)
   opposite =
       let c = 2 ^ (h - e) in
-      let t : h - e + e ≡ h = omega (arith, r .inside, r .within) in
+      let t : h - e + e ≡ h = omega (arith, all .inside) in
       let p : 2 ^ h ≡ c * 2 ^ e = rw t at (pow-add 2 (h - e) e) in
       let z = run-inside r a under in
-      let b : a .number < c = lt-of-mul-lt-mul-right (2 ^ e) (omega (arith, a .begins, r .length, r .whole, run-size r)) in
+      let b : a .number < c = lt-of-mul-lt-mul-right (2 ^ e) (omega (arith, a .begins, r .first .length, r .whole, run-size all)) in
       let f = multiples c (c - a .number - 1) (a .number) (2 ^ e) (omega arith) in
-      record { number = c - a .number - 1; begins = omega (arith, a .begins, r .length, r .whole); within = omega arith }
+      record { number = c - a .number - 1; begins = omega (arith, a .begins, r .first .length, r .whole); within = omega arith }
 
   opposite-under : quarter - k - size < quarter
-  opposite-under = omega (arith, run-inside r a under, run-size r)
+  opposite-under = omega (arith, run-inside r a under, run-size all)
 
   -- the patterns of both are indexes of tables
   pub opposed-16 : (m t : ℕ) → m ≡ patternBy l n k → t ≡ patternBy l n (quarter - k - size) → (m + one < 16) × (t + one < 16)
-  opposed-16 m t p q = (omega (arith, first-16 r a under m p), omega (arith, first-16 all opposite opposite-under t q))
+  opposed-16 m t p q = (run-16 (r .first) a under m p, run-16 all opposite opposite-under t q)
 
   -- the weights of the run, and those of its opposite from the end
   module _ (table : List Float) (f : Four) (i m t : ℕ) (b : i < size) (o : Opposed table m t one f) where
     pub run-is : m ≡ patternBy l n k → inTurn (f .first) (f .third) i ≡ weights l n table (k + i)
-    run-is p = rw (o .first, o .third) (pick-lower (a .number) one (r .first) (r .some) (a .begins) p (r .odd) table i (rw (r .length) at b))
+    run-is p = rw (o .first, o .third) (run-weight (r .first) a m p table i b)
 
     pub opposite-is : t ≡ patternBy l n (quarter - k - size) → inTurn (f .second) (f .fourth) i ≡ endWeights h l n table (k + i)
     opposite-is p =
         let z : quarter - k - size + (size - 1 - i) ≡ 2 ^ h - 1 - (k + i) = omega (arith, run-inside r a under, r .whole) in
-        let c : size - 1 - i < 2 ^ e = omega (arith, r .length) in
-        rw (o .second, o .fourth, ← turn-back (getD table t nan) (getD table (t + one) nan) size i (run-even r) b, ← z)
-        (pick-lower (opposite .number) one (r .first) (r .some) (opposite .begins) p (r .odd) table (size - 1 - i) c)
+        rw (o .second, o .fourth, ← turn-back (getD table t nan) (getD table (t + one) nan) size i (run-even all) b, ← z)
+        (run-weight all opposite t p table (size - 1 - i) (omega arith))

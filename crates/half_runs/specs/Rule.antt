@@ -1,4 +1,4 @@
--- Entries and weights that are counted from the end.
+-- Weights that are counted from the end, and those of a run and its opposite.
 use mathlib.Core.Path.{_≡_}
 use mathlib.Core.List.{List}
 use Prim.Native.Nat.{ℕ, _+_, _-_, _^_}
@@ -6,10 +6,6 @@ use lib.ListN.{getD}
 use lib.Ieee.{Float, nan}
 use Rattle.sweep.specs.Rule.{weights}
 use Rattle.runs.specs.declared.Four.{Four}
-
--- the n entries of d from index at on, counted from their end
-abbrev pub fromEnd : List Float → (at n : ℕ) → ℕ → Float
-fromEnd d at n i = getD d (at + (n - 1 - i)) nan
 
 -- the weights that a table gives to the patterns of the places below 2 ^ h, counted from their end
 abbrev pub endWeights : ℕ → List ℕ → ℕ → List Float → ℕ → Float

@@ -1,8 +1,6 @@
 // The runs of two steps of a half vector: a run goes with its opposite, which lies as far from the end of the half's first part as the run
 // from its front.
-ghost use mathlib.Core.Path.{_≡_};
 ghost use Prim.Native.Nat.{_+_, _<_};
-ghost use Rattle.halves.specs.Half.{turnOf};
 ghost use Rattle.half_runs.specs.Rule.{Opposed};
 use runs::Four;
 
@@ -18,11 +16,4 @@ pub fn opposed(table: &[f64; 16], m: usize, t: usize, one: usize) -> Four
         third: table[m + one],
         fourth: table[t],
     }
-}
-
-// A coefficient of the entries from the end of a half, which is even or odd.
-pub fn turned(odd: bool, x: f64) -> f64
-    ensures { λ r. ⌜ r ≡ turnOf odd x ⌝ }
-{
-    if odd { -x } else { x }
 }

@@ -10,9 +10,9 @@ use Rattle.vector.specs.Part.{Apart, apart-within}
 use Rattle.sweep.specs.Step.{patternBy}
 use Rattle.sweep.specs.Rule.{entries, weights, inTurn, mix, backwardRule}
 use Rattle.sweep.specs.Rules.{turn-even, turn-odd}
-use Rattle.runs.specs.AtRun.{AtRun}
+use Rattle.runs.specs.AtRun.{Runs, AtRun, run-ends}
+use Rattle.runs.specs.RunWeights.{run-weight}
 use Rattle.half_steps.specs.Ends.{ends, ends-one, ends-run, ends-apart}
-use Rattle.half_steps.proofs.Runs.{Runs, run-ends, run-weight}
 
 -- a turn of a run, at an even i: two pairs
 module _ (x y p₀ q₀ p₁ q₁ : Float) (s lo hi n : ℕ) (d v : List Float) (i : ℕ)
@@ -124,6 +124,6 @@ module _ {l : List ℕ} {n g e end size one k : ℕ} (r : Runs l n g e end size 
         let odd : (i : ℕ) → i < size → getD v (src + 2 * k + (2 * i + 1)) nan ≡ getD d (src + (2 * (k + i) + 1)) nan =
         λ i c. let t : src + 2 * k + (2 * i + 1) ≡ src + (2 * (k + i) + 1) = omega arith in rw t (kept (2 * (k + i) + 1) (omega arith)) in
         let same : (x y : Float) (i : ℕ) → i < size → run x y i ≡ step x y (k + i) =
-        λ x y i c. rw (run-weight r at under m p up i c, run-weight r at under m p down i c, even i c, odd i c) in
+        λ x y i c. rw (run-weight r at m p up i c, run-weight r at m p down i c, even i c, odd i c) in
         w′ ∙ ap (λ (t : List Float). ends t (dst + k) (past - k) (run ep em) (run em ep) size) w
         ∙ ends-run d dst past (step ep em) (step em ep) (run ep em) (run em ep) k size (omega arith) (omega (arith, f .to)) (same ep em) (same em ep)

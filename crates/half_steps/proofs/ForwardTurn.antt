@@ -9,12 +9,10 @@ use lib.Ieee.{Float, nan}
 use Rattle.vector.specs.Tabulate.{tabulate}
 use Rattle.vector.specs.Part.{Apart, apart-within, put, fill-two, fill-run, read-apart}
 use Rattle.sweep.specs.Step.{patternBy}
-use Rattle.sweep.specs.Rule.{entries, weights, inTurn, blend}
-use Rattle.sweep.specs.Rules.{turn-even, turn-odd}
-use Rattle.runs.specs.AtRun.{AtRun}
-use Rattle.half_steps.specs.Rule.{downFrom, forwardHalfRule}
-use Rattle.half_steps.specs.Rules.{rule-even, rule-odd, rule-from}
-use Rattle.half_steps.proofs.Runs.{Runs, run-ends, run-weight}
+use Rattle.sweep.specs.Rule.{entries, fromEnd, weights, inTurn, blend, forwardRule}
+use Rattle.sweep.specs.Rules.{turn-even, turn-odd, rule-even, rule-odd, rule-from}
+use Rattle.runs.specs.AtRun.{Runs, AtRun, run-ends}
+use Rattle.runs.specs.RunWeights.{run-weight}
 
 down-index : (b n j : ℕ) → n ≤ b + 1 → j < n → b - j ≡ b + 1 - n + (n - 1 - j)
 down-index b n j h l = omega arith
@@ -22,7 +20,7 @@ down-index b n j h l = omega arith
 -- a turn of a run, at an even i: two pairs
 module _ (x y z u p₀ q₀ p₁ q₁ : Float) (a b o n : ℕ) (d v : List Float) where
   abbrev rule : ℕ → Float
-  rule = forwardHalfRule x y z u (inTurn p₀ p₁) (inTurn q₀ q₁) (entries d a) (downFrom d b)
+  rule = forwardRule x y z u (inTurn p₀ p₁) (inTurn q₀ q₁) (entries d a) (fromEnd d (b + 1 - n) n)
 
   pub run-turn : (i : ℕ) → n ≤ b + 1 → Apart (length d) a n o (2 * n) → Apart (length d) (b + 1 - n) n o (2 * n)
       → v ≡ put d o (tabulate rule (2 * i)) → i + 1 < n → i % 2 ≡ 0
@@ -35,7 +33,7 @@ module _ (x y z u p₀ q₀ p₁ q₁ : Float) (a b o n : ℕ) (d v : List Float
   run-turn i deep fa fb e h ev =
       let at-a : (j : ℕ) → j < n → getD v (a + j) nan ≡ getD d (a + j) nan =
       λ j l. rw e (read-apart d o rule (2 * i) a n (2 * n) j nan fa (omega arith) l) in
-      let at-b : (j : ℕ) → j < n → getD v (b - j) nan ≡ getD d (b - j) nan =
+      let at-b : (j : ℕ) → j < n → getD v (b - j) nan ≡ getD d (b + 1 - n + (n - 1 - j)) nan =
       λ j l. rw (e, down-index b n j deep l) (read-apart d o rule (2 * i) (b + 1 - n) n (2 * n) (n - 1 - j) nan fb (omega arith) (omega arith)) in
       let o′ : (i + 1) % 2 ≡ 1 = omega arith in
       let e0 : blend x y p₀ (getD v (a + i) nan) (getD v (b - i) nan) ≡ rule (2 * i) =
@@ -61,9 +59,9 @@ last-index : (src h end k size : ℕ) → end ≡ h → k + size ≤ end → 0 <
     → (size ≤ src + 2 * end - 1 - k + 1) × (src + 2 * end - 1 - k + 1 - size ≡ src + (2 * h - k - size))
 last-index src h end k size e l s = (omega arith, omega arith)
 
-mirror-index : (src h end k i : ℕ) → end ≡ h → k + i < end
-    → (src + 2 * end - 1 - k - i ≡ src + (2 * h - 1 - (k + i))) × (src + 2 * h - 1 - (k + i) ≡ src + (2 * h - 1 - (k + i)))
-mirror-index src h end k i e l = (omega arith, omega arith)
+-- from the end of the run, and of the half
+mirror-index : (src h k size i : ℕ) → k + size ≤ h → i < size → src + (2 * h - k - size) + (size - 1 - i) ≡ src + (2 * h - 1 - (k + i))
+mirror-index src h k size i l b = omega arith
 
 module _ {l : List ℕ} {n g e end size one k : ℕ} (r : Runs l n g e end size one) (at : AtRun e end k) (under : k < end) where
   -- a run reads apart from what it writes
@@ -83,12 +81,12 @@ module _ {l : List ℕ} {n g e end size one k : ℕ} (r : Runs l n g e end size 
   -- a run is the step's next entries
   module _ (x y z u : Float) (up down : List Float) (m src dst : ℕ) (d v : List Float) where
     abbrev step : ℕ → Float
-    step = forwardHalfRule x y z u (weights l n up) (weights l n down) (entries d src) (downFrom d (src + 2 * 2 ^ g - 1))
+    step = forwardRule x y z u (weights l n up) (weights l n down) (entries d src) (fromEnd d src (2 * 2 ^ g))
 
     abbrev run : ℕ → Float
     run =
-        forwardHalfRule x y z u (inTurn (getD up m nan) (getD up (m + one) nan)) (inTurn (getD down m nan) (getD down (m + one) nan))
-        (entries v (src + k)) (downFrom v (src + 2 * end - 1 - k))
+        forwardRule x y z u (inTurn (getD up m nan) (getD up (m + one) nan)) (inTurn (getD down m nan) (getD down (m + one) nan))
+        (entries v (src + k)) (fromEnd v (src + 2 * end - 1 - k + 1 - size) size)
 
     pub runs-turn : (v′ : List Float) → Apart (length d) src (2 * 2 ^ g) dst (2 * 2 ^ g) → m ≡ patternBy l n k
         → v ≡ put d dst (tabulate step (2 * k)) → v′ ≡ put v (dst + 2 * k) (tabulate run (2 * size)) → v′ ≡ put d dst (tabulate step (2 * (k + size)))
@@ -98,10 +96,10 @@ module _ {l : List ℕ} {n g e end size one k : ℕ} (r : Runs l n g e end size 
         let kept : (i : ℕ) → i < 2 * 2 ^ g → getD v (src + i) nan ≡ getD d (src + i) nan =
         λ i c. rw w (read-apart d dst step (2 * k) src (2 * 2 ^ g) (2 * 2 ^ g) i nan f (omega arith) c) in
         let front : (i : ℕ) → i < size → getD v (src + k + i) nan ≡ getD d (src + (k + i)) nan = λ i c. rw add-assoc (kept (k + i) (omega arith)) in
-        let back : (i : ℕ) → i < size → getD v (src + 2 * end - 1 - k - i) nan ≡ getD d (src + 2 * 2 ^ g - 1 - (k + i)) nan =
-        λ i c. let t = mirror-index src (2 ^ g) end k i q (omega arith) in rw (t .0, t .1) (kept (2 * 2 ^ g - 1 - (k + i)) (omega arith)) in
+        let back : (i : ℕ) → i < size → getD v (src + 2 * end - 1 - k + 1 - size + (size - 1 - i)) nan ≡ getD d (src + (2 * 2 ^ g - 1 - (k + i))) nan =
+        λ i c. rw (last-index src (2 ^ g) end k size q fits (omega arith) .1, mirror-index src (2 ^ g) k size i (omega arith) c) (kept (2 * 2 ^ g - 1 - (k + i)) (omega arith)) in
         let same : (j : ℕ) → j < 2 * size → run j ≡ step (2 * k + j) =
-        λ j c. rule-from x y z u _ _ _ _ _ _ _ _ k size j c (run-weight r at under m p up) (run-weight r at under m p down) front back in
+        λ j c. rule-from x y z u _ _ _ _ _ _ _ _ k size j c (run-weight r at m p up) (run-weight r at m p down) front back in
         let t : 2 * (k + size) ≡ 2 * k + 2 * size = omega arith in
         w′ ∙ ap (λ (s : List Float). put s (dst + 2 * k) (tabulate run (2 * size))) w
         ∙ rw t (fill-run d dst step run (2 * k) (2 * size) (omega (arith, f .to)) same)

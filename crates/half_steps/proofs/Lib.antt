@@ -1,5 +1,4 @@
 mod Halves
-mod Runs
 mod FewTurn
 mod ForwardTurn
 mod BackwardTurn

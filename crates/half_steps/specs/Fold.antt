@@ -1,5 +1,5 @@
 -- The backward step from half to half, in every window.
-use mathlib.Core.Path.{_≡_, sym, _∙_}
+use mathlib.Core.Path.{_≡_}
 use mathlib.Core.List.{List}
 use mathlib.Core.Logic.{dite}
 use Prim.Native.Nat.{ℕ, _+_, _*_, _-_, _^_, _≤_, _<_, min}
@@ -13,7 +13,7 @@ use Rattle.transfer.specs.Sweep as S
 use Rattle.symmetry.specs.Flip.{Below}
 use Rattle.symmetry.specs.Entries.{lower}
 use Rattle.halves.specs.Half.{thereAndBack, there, backwardHalf}
-use Rattle.halves.specs.Even.{Even, backward-even, backward-even-one}
+use Rattle.halves.specs.Even.{Even, even-ext, backward-even, backward-even-one}
 
 -- backward, from the half there and back: in a window of 1 its one entry stands for both of the pair
 abbrev pub backwardFold : ℕ → Step Float → Float → (ℕ → Float) → ℕ → Float
@@ -43,8 +43,5 @@ fold-even w s sc h v wide low even =
     dite (decLt w 2)
     (λ l.
     let e : w ≡ 1 = omega arith in
-    same (backward-even-one w s sc h v wide low even e) (λ j b. fold-one w s sc h j b e))
-    (λ l. same (backward-even w s sc h v wide low even (omega arith)) (λ j b. fold-wide w s sc h j b (omega arith)))
-  where
-    same : {f g : ℕ → Float} {u : List Float} → Even w f u → ((j : ℕ) → j < 2 ^ (w - 1) → g j ≡ f j) → Even w g u
-    same e p = record { low = λ j b. e .low j b ∙ sym (p j b); high = λ j b. e .high j b ∙ sym (p j b) }
+    even-ext (backward-even-one w s sc h v wide low even e) (λ j b. fold-one w s sc h j b e))
+    (λ l. even-ext (backward-even w s sc h v wide low even (omega arith)) (λ j b. fold-wide w s sc h j b (omega arith)))

@@ -9,11 +9,10 @@ use lib.Ieee.{Float, nan}
 use Rattle.vector.specs.Tabulate.{tabulate, tabulate-ext}
 use Rattle.transfer.specs.Job.{Step}
 use Rattle.sweep.specs.Step.{Tables, Tabled}
-use Rattle.sweep.specs.Rule.{entries, weights, inTurn, blend}
+use Rattle.sweep.specs.Rule.{entries, fromEnd, weights, inTurn, blend, forwardRule}
 use Rattle.sweep.specs.Tabled.{up-weight, down-weight}
 use Rattle.runs.specs.Patterns.{pattern-zero}
 use Rattle.halves.specs.Half.{forwardHalf}
-use Rattle.half_steps.specs.Rule.{downFrom, forwardHalfRule}
 
 module _ (s : Step Float) (sc : Float) (t : Tables) (a : Tabled s sc t) (w : ℕ) (turn : Float → Float) (d : List Float) (src : ℕ) where
   abbrev half : ℕ
@@ -24,15 +23,14 @@ module _ (s : Step Float) (sc : Float) (t : Tables) (a : Tabled s sc t) (w : ℕ
 
   abbrev made : ℕ → Float
   made =
-      forwardHalfRule (t .ep) (turn (t .em)) (t .em) (turn (t .ep)) (weights (t .bits) (t .count) (t .up)) (weights (t .bits) (t .count) (t .down))
-      (entries d src) (downFrom d (src + half - 1))
+      forwardRule (t .ep) (turn (t .em)) (t .em) (turn (t .ep)) (weights (t .bits) (t .count) (t .up)) (weights (t .bits) (t .count) (t .down))
+      (entries d src) (fromEnd d src half)
 
   entry : (j : ℕ) → j < half → made j ≡ whole j
-  unfolding forwardHalf forwardHalfRule blend
+  unfolding forwardHalf forwardRule blend
   entry j b =
       let k = j / 2 in
-      let i : src + half - 1 - k ≡ src + (half - 1 - k) = omega arith in
-      rw (a .plus, a .minus, up-weight s sc t a k, down-weight s sc t a k, i)
+      rw (a .plus, a .minus, up-weight s sc t a k, down-weight s sc t a k)
 
   -- what the runs leave
   pub forward-is : tabulate made half ≡ tabulate whole half
@@ -45,10 +43,10 @@ module _ (s : Step Float) (sc : Float) (t : Tables) (a : Tabled s sc t) (w : ℕ
       (blend (t .em) (turn (t .ep)) (getD (t .down) 0 nan) (getD d src nan) (getD d (src + half - 1) nan))
 
   few-entry : half ≤ 2 → (j : ℕ) → j < half → few j ≡ made j
-  unfolding inTurn forwardHalfRule
+  unfolding inTurn forwardRule
   few-entry l j b =
       let k : j / 2 ≡ 0 = omega arith in
-      let i : src + half - 1 - 0 ≡ src + half - 1 = omega arith in
+      let i : src + (half - 1 - 0) ≡ src + half - 1 = omega arith in
       rw (k, pattern-zero (t .bits) (t .count), add-zero src, i)
 
   pub few-is : half ≤ 2 → tabulate few half ≡ tabulate whole half

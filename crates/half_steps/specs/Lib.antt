@@ -1,6 +1,4 @@
--- One step on halves: the rules that the contracts cite, and that they are those of the laws of halves.
-pub mod Rule
-pub mod Rules
+-- One step on halves: the definitions that the contracts cite, and that the rules over the tables are those of the laws of halves.
 pub mod Ends
 pub mod Fold
 pub mod ForwardIs

@@ -1,18 +1,10 @@
-// The coefficients of an odd half, and the halves of the windows 1 and 2.
+// The halves of the windows 1 and 2.
 ghost use mathlib.Core.Path.{_≡_};
 ghost use Prim.Native.Nat.{_+_, _≤_};
 ghost use lib.ListN.{length};
 ghost use Rattle.vector.specs.Tabulate.{tabulate};
 ghost use Rattle.vector.specs.Part.{put};
 ghost use Rattle.sweep.specs.Rule.{inTurn};
-ghost use Rattle.halves.specs.Half.{turnOf};
-
-// x, and its negative for an odd half.
-pub(crate) fn turned(x: f64, odd: bool) -> f64
-    ensures { λ r. ⌜ r ≡ turnOf odd x ⌝ }
-{
-    if odd { -x } else { x }
-}
 
 // The one entry of a half, or its two.
 pub(crate) fn store_few(v: &mut [f64], dst: usize, half: usize, a: f64, b: f64)

@@ -7,12 +7,11 @@ ghost use Rattle.vector.specs.Tabulate.{tabulate};
 ghost use Rattle.vector.specs.Part.{Apart, put};
 ghost use Rattle.transfer.specs.Job.{Step};
 ghost use Rattle.sweep.specs.Step.{Rising, Tabled, tables};
-ghost use Rattle.sweep.specs.Rule.{entries, weights, inTurn};
+ghost use Rattle.sweep.specs.Rule.{entries, fromEnd, weights, inTurn, forwardRule};
 ghost use Rattle.sweep.specs.Place.{Places};
 ghost use Rattle.halves.specs.Half.{forwardHalf, turnOf};
-ghost use Rattle.half_steps.specs.Rule.{downFrom, forwardHalfRule};
 use crate::few::store_few;
-use crate::few::turned;
+use halves::turned;
 use runs::run_bit;
 use sweep::pattern_of;
 use sweep::pow2;
@@ -37,7 +36,7 @@ fn forward_run(
     requires { ⌜ (n % 2 ≡ 0) × (n ≤ b + 1) × Apart (length (now v)) a n o (2 * n) × Apart (length (now v)) (b + 1 - n) n o (2 * n) ⌝ }
     ensures { λ _. ⌜ now (v .exit) ≡ put (now (v .entry)) o
         (tabulate
-        (forwardHalfRule x y z u (inTurn p0 p1) (inTurn q0 q1) (entries (now (v .entry)) a) (downFrom (now (v .entry)) b))
+        (forwardRule x y z u (inTurn p0 p1) (inTurn q0 q1) (entries (now (v .entry)) a) (fromEnd (now (v .entry)) (b + 1 - n) n))
         (2 * n)) ⌝ }
 {
     let mut i = 0usize;
@@ -72,8 +71,8 @@ fn forward_runs(
     requires { ⌜ (1 ≤ g) × (g < 23) × Apart (length (now v)) src (2 * 2 ^ g) dst (2 * 2 ^ g) × Rising (now bits) n (g + 1) ⌝ }
     ensures { λ _. ⌜ now (v .exit) ≡ put (now (v .entry)) dst
         (tabulate
-        (forwardHalfRule x y z u (weights (now (bits .entry)) n (now (up .entry))) (weights (now (bits .entry)) n (now (down .entry)))
-        (entries (now (v .entry)) src) (downFrom (now (v .entry)) (src + 2 * 2 ^ g - 1)))
+        (forwardRule x y z u (weights (now (bits .entry)) n (now (up .entry))) (weights (now (bits .entry)) n (now (down .entry)))
+        (entries (now (v .entry)) src) (fromEnd (now (v .entry)) src (2 * 2 ^ g)))
         (2 * 2 ^ g)) ⌝ }
 {
     let end = pow2(g);
@@ -131,8 +130,8 @@ pub fn half_forward(
     let size = pow2(w);
     let s = src * size;
     let o = dst * size;
-    let y = turned(em, odd);
-    let u = turned(ep, odd);
+    let y = turned(odd, em);
+    let u = turned(odd, ep);
     if w > 2 {
         forward_runs(room, s, o, w - 2, ep, y, em, u, bits, count, up, down);
         return;

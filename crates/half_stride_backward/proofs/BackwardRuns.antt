@@ -10,7 +10,7 @@ use Rattle.sweep.specs.Step.{patternBy}
 use Rattle.sweep.specs.Rule.{entries, weights, backwardRule}
 use Rattle.runs.specs.declared.Four.{Four}
 use Rattle.runs.specs.Rule.{inFour, Picked}
-use Rattle.runs.specs.AtRun.{Runs, AtRun, run-ends}
+use Rattle.runs.specs.AtRun.{TwoRuns, AtRun, run-ends}
 use Rattle.runs.specs.RunWeights.{second-is}
 use Rattle.half_runs.specs.Rule.{endWeights, Opposed}
 use Rattle.half_runs.specs.Opposite.{run-is, opposite-is}
@@ -37,13 +37,13 @@ stepped x y z u l n up down l′ n′ up′ down′ h src dst d k =
     (frontStep x y z u l n up down l′ n′ up′ down′ h src d) (endStep x y z u l n up down l′ n′ up′ down′ h src d)
     (endStep y x z u l n up down l′ n′ up′ down′ h src d) (frontStep y x z u l n up down l′ n′ up′ down′ h src d) k
 
-module _ {l : List ℕ} {n : ℕ} {l′ : List ℕ} {n′ part h e end quarter size one top low two k : ℕ}
-    (r : Runs l n l′ n′ part h e end quarter size one top low two) (a : AtRun e end k) (under : k < end) (twice : quarter ≡ 2 * end) where
+module _ {l : List ℕ} {n : ℕ} {l′ : List ℕ} {n′ part h e end quarter size one low two k : ℕ}
+    (r : TwoRuns l n l′ n′ part h e end quarter size one low two) (a : AtRun e end k) (under : k < end) (twice : quarter ≡ 2 * end) where
   -- the targets of a run lie one behind the other
   pub run-targets : (len src dst : ℕ) → Apart len src (2 * 2 ^ h) dst (2 * 2 ^ h)
       → Parts len (dst + k) (dst + (quarter - k - size)) (dst + quarter + k) (dst + quarter + (quarter - k - size)) size
   run-targets len src dst f =
-      let ends = run-ends r a under in
+      let ends = run-ends (r .first) a under in
       let w = r .whole in
       let t = f .to in
       record { first = omega arith; second = omega arith; third = omega arith; last = omega arith }
@@ -53,7 +53,7 @@ module _ {l : List ℕ} {n : ℕ} {l′ : List ℕ} {n′ part h e end quarter s
       → Apart len (src + 4 * k) (4 * size) (dst + k) size × Apart len (src + 4 * k) (4 * size) (dst + (quarter - k - size)) size
       × Apart len (src + 4 * k) (4 * size) (dst + quarter + k) size × Apart len (src + 4 * k) (4 * size) (dst + quarter + (quarter - k - size)) size
   run-apart len src dst f =
-      let ends = run-ends r a under in
+      let ends = run-ends (r .first) a under in
       let w = r .whole in (
         apart-within (src + 4 * k) (4 * size) (dst + k) size f (omega arith) (omega arith) (omega arith) (omega arith),
         apart-within (src + 4 * k) (4 * size) (dst + (quarter - k - size)) size f (omega arith) (omega arith) (omega arith) (omega arith),
@@ -71,7 +71,7 @@ module _ {l : List ℕ} {n : ℕ} {l′ : List ℕ} {n′ part h e end quarter s
 
     module _ (filled : v ≡ so-far k) where
       ends : k + size ≤ end
-      ends = run-ends r a under
+      ends = run-ends (r .first) a under
 
       parts : Parts (length d) dst (dst + (2 ^ h - k)) (dst + 2 ^ h) (dst + 2 ^ h + (2 ^ h - k)) k
       parts =
@@ -98,7 +98,7 @@ module _ {l : List ℕ} {n : ℕ} {l′ : List ℕ} {n′ part h e end quarter s
           ≡ backwardRule z u (weights l′ n′ up′) (weights l′ n′ down′) (entries d src) j′
       later z u j j′ b e =
           rw e
-          (backward-same z u _ _ _ _ _ _ j (2 * k + j) (second-is r a under up′ f j m′ b at-2k fs) (second-is r a under down′ g j m′ b at-2k gs)
+          (backward-same z u _ _ _ _ _ _ j (2 * k + j) (second-is r a up′ f j m′ b at-2k fs) (second-is r a down′ g j m′ b at-2k gs)
           (kept (2 * j) _ _ (omega arith) (omega arith) (omega arith)) (kept (2 * j + 1) _ _ (omega arith) (omega arith) (omega arith)))
 
       front-same : (x y : Float) (i : ℕ) → i < size

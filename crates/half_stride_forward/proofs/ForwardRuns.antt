@@ -8,14 +8,15 @@ use lib.Ieee.{Float, nan}
 use Rattle.vector.specs.Tabulate.{tabulate}
 use Rattle.vector.specs.Part.{Apart, apart-within, put, fill-run, read-apart}
 use Rattle.sweep.specs.Step.{patternBy}
-use Rattle.sweep.specs.Rule.{entries, weights, inTurn}
+use Rattle.sweep.specs.Rule.{entries, fromEnd, weights, inTurn, forwardRule}
+use Rattle.sweep.specs.Rules.{rule-from}
 use Rattle.runs.specs.declared.Four.{Four}
 use Rattle.runs.specs.Rule.{Picked}
 use Rattle.runs.specs.RunWeights.{second-is}
-use Rattle.runs.specs.AtRun.{Runs, AtRun, run-ends}
-use Rattle.half_runs.specs.Rule.{fromEnd, endWeights, Opposed}
+use Rattle.runs.specs.AtRun.{TwoRuns, AtRun, run-ends}
+use Rattle.half_runs.specs.Rule.{endWeights, Opposed}
 use Rattle.half_runs.specs.Opposite.{run-is, opposite-is}
-use Rattle.half_stride_forward.specs.Rule.{halfRule, halfTwice, half-from}
+use Rattle.half_stride_forward.specs.Rule.{halfTwice}
 use Rattle.half_stride_forward.proofs.ForwardTurn.{runRule}
 
 -- what both steps make from the half at src of d
@@ -26,14 +27,14 @@ stepRule x y u z x₂ y₂ u₂ z₂ l n up down l′ n′ up′ down′ h src d
     (weights l′ n′ up′) (weights l′ n′ down′)
     (entries d src) (fromEnd d src (2 * 2 ^ h)) (entries d (src + 2 ^ h)) (fromEnd d src (2 ^ h))
 
-module _ {l : List ℕ} {n : ℕ} {l′ : List ℕ} {n′ part h e end quarter size one top low two k : ℕ}
-    (r : Runs l n l′ n′ part h e end quarter size one top low two) (a : AtRun e end k) (under : k < end) (twice : quarter ≡ 2 * end) where
+module _ {l : List ℕ} {n : ℕ} {l′ : List ℕ} {n′ part h e end quarter size one low two k : ℕ}
+    (r : TwoRuns l n l′ n′ part h e end quarter size one low two) (a : AtRun e end k) (under : k < end) (twice : quarter ≡ 2 * end) where
   -- a run reads apart from what it writes
   pub run-apart : (len src dst : ℕ) → Apart len src (2 * 2 ^ h) dst (2 * 2 ^ h)
       → Apart len (src + k) size (dst + 4 * k) (4 * size) × Apart len (src + quarter + (quarter - k - size)) size (dst + 4 * k) (4 * size)
       × Apart len (src + quarter + k) size (dst + 4 * k) (4 * size) × Apart len (src + (quarter - k - size)) size (dst + 4 * k) (4 * size)
   run-apart len src dst f =
-      let ends = run-ends r a under in
+      let ends = run-ends (r .first) a under in
       let w = r .whole in (
         apart-within (src + k) size (dst + 4 * k) (4 * size) f (omega arith) (omega arith) (omega arith) (omega arith),
         apart-within (src + quarter + (quarter - k - size)) size (dst + 4 * k) (4 * size) f (omega arith) (omega arith) (omega arith) (omega arith),
@@ -59,29 +60,29 @@ module _ {l : List ℕ} {n : ℕ} {l′ : List ℕ} {n′ part h e end quarter s
           rw (w, w′, filled) (read-apart d dst step (4 * k) src (2 * 2 ^ h) (2 * 2 ^ h) o nan off (omega (arith, r .whole)) b)
 
       ends : k + size ≤ end
-      ends = run-ends r a under
+      ends = run-ends (r .first) a under
 
       front-run : (i : ℕ) → i < 2 * size
-          → halfRule x y u z (inTurn (p .first) (p .third)) (inTurn (q .first) (q .third)) (entries v (src + k))
+          → forwardRule x y u z (inTurn (p .first) (p .third)) (inTurn (q .first) (q .third)) (entries v (src + k))
           (fromEnd v (src + quarter + (quarter - k - size)) size) i
-          ≡ halfRule x y u z (weights l n up) (weights l n down) (entries d src) (fromEnd d src (2 * 2 ^ h)) (2 * k + i)
+          ≡ forwardRule x y u z (weights l n up) (weights l n down) (entries d src) (fromEnd d src (2 * 2 ^ h)) (2 * k + i)
       front-run i b =
           let fits = ends in
           let w = r .whole in
-          half-from x y u z _ _ _ _ _ _ _ _ k size i b (λ j c. run-is r a under up p j m t c ps at-k) (λ j c. run-is r a under down q j m t c qs at-k)
+          rule-from x y u z _ _ _ _ _ _ _ _ k size i b (λ j c. run-is r a under up p j m t c ps at-k) (λ j c. run-is r a under down q j m t c qs at-k)
           (λ j c. kept (k + j) (src + k + j) (src + (k + j)) (omega arith) (omega arith) (omega arith))
           (λ j c.
           kept (2 * 2 ^ h - 1 - (k + j)) (src + quarter + (quarter - k - size) + (size - 1 - j)) (src + (2 * 2 ^ h - 1 - (k + j)))
           (omega arith) (omega arith) (omega arith))
 
       back-run : (i : ℕ) → i < 2 * size
-          → halfRule u z x y (inTurn (q .second) (q .fourth)) (inTurn (p .second) (p .fourth)) (fromEnd v (src + (quarter - k - size)) size)
+          → forwardRule u z x y (inTurn (q .second) (q .fourth)) (inTurn (p .second) (p .fourth)) (fromEnd v (src + (quarter - k - size)) size)
           (entries v (src + quarter + k)) i
-          ≡ halfRule u z x y (endWeights h l n down) (endWeights h l n up) (fromEnd d src (2 ^ h)) (entries d (src + 2 ^ h)) (2 * k + i)
+          ≡ forwardRule u z x y (endWeights h l n down) (endWeights h l n up) (fromEnd d src (2 ^ h)) (entries d (src + 2 ^ h)) (2 * k + i)
       back-run i b =
           let fits = ends in
           let w = r .whole in
-          half-from u z x y _ _ _ _ _ _ _ _ k size i b (λ j c. opposite-is r a under down q j m t c qs at-t) (λ j c. opposite-is r a under up p j m t c ps at-t)
+          rule-from u z x y _ _ _ _ _ _ _ _ k size i b (λ j c. opposite-is r a under down q j m t c qs at-t) (λ j c. opposite-is r a under up p j m t c ps at-t)
           (λ j c.
           kept (2 ^ h - 1 - (k + j)) (src + (quarter - k - size) + (size - 1 - j)) (src + (2 ^ h - 1 - (k + j))) (omega arith) (omega arith) (omega arith))
           (λ j c. kept (2 ^ h + (k + j)) (src + quarter + k + j) (src + 2 ^ h + (k + j)) (omega arith) (omega arith) (omega arith))
@@ -90,8 +91,8 @@ module _ {l : List ℕ} {n : ℕ} {l′ : List ℕ} {n′ part h e end quarter s
       same j b =
           let e : 4 * k + j ≡ 2 * (2 * k) + j = omega arith in
           rw e
-          (half-from x₂ y₂ u₂ z₂ _ _ _ _ _ _ _ _ (2 * k) (2 * size) j (omega arith)
-          (λ i c. second-is r a under up′ f i m′ c at-2k fs) (λ i c. second-is r a under down′ g i m′ c at-2k gs) front-run back-run)
+          (rule-from x₂ y₂ u₂ z₂ _ _ _ _ _ _ _ _ (2 * k) (2 * size) j (omega arith)
+          (λ i c. second-is r a up′ f i m′ c at-2k fs) (λ i c. second-is r a down′ g i m′ c at-2k gs) front-run back-run)
 
       pub runs-turn : (v′ : List Float) → v′ ≡ put v (dst + 4 * k) (tabulate run (4 * size)) → v′ ≡ put d dst (tabulate step (4 * (k + size)))
       runs-turn v′ w =

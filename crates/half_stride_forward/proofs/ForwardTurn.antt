@@ -7,11 +7,10 @@ use lib.ListN.{length, getD, set}
 use lib.Ieee.{Float, nan}
 use Rattle.vector.specs.Tabulate.{tabulate}
 use Rattle.vector.specs.Part.{Apart, put, fill-two, read-apart}
-use Rattle.sweep.specs.Rule.{entries, inTurn, blend}
+use Rattle.sweep.specs.Rule.{entries, fromEnd, inTurn, blend}
 use Rattle.sweep.specs.Rules.{turn-even, turn-odd}
 use Rattle.runs.specs.declared.Four.{Four}
 use Rattle.runs.specs.Rule.{inFour}
-use Rattle.half_runs.specs.Rule.{fromEnd}
 use Rattle.half_stride_forward.specs.Rule.{halfTwice}
 use Rattle.runs.specs.InFour.{four-0, four-1, four-2, four-3}
 use Rattle.half_stride_forward.proofs.Rules.{At, twice-0, twice-1, twice-2, twice-3}

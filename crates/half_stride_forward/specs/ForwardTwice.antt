@@ -10,12 +10,13 @@ use lib.Ieee.{Float, nan}
 use Rattle.vector.specs.Tabulate.{tabulate, tabulate-ext}
 use Rattle.transfer.specs.Job.{Step}
 use Rattle.sweep.specs.Step.{Tables, Tabled}
-use Rattle.sweep.specs.Rule.{entries, weights, blend}
+use Rattle.sweep.specs.Rule.{entries, fromEnd, weights, blend, forwardRule}
+use Rattle.sweep.specs.Rules.{rule-even, rule-odd}
 use Rattle.sweep.specs.Tabled.{up-weight, down-weight}
 use Rattle.halves.specs.Half.{forwardHalf, forwardHalf-even, forwardHalf-odd}
 use Rattle.runs.specs.Quarter.{half-is}
-use Rattle.half_runs.specs.Rule.{fromEnd, endWeights}
-use Rattle.half_stride_forward.specs.Rule.{halfRule, halfTwice, half-even, half-odd}
+use Rattle.half_runs.specs.Rule.{endWeights}
+use Rattle.half_stride_forward.specs.Rule.{halfTwice}
 
 -- ---- one step by its tables t, from the half h
 
@@ -53,12 +54,12 @@ module _ (s : Step Float) (sc : Float) (t : Tables) (a : Tabled s sc t) (s′ : 
   -- its front, and its end
   abbrev front : ℕ → Float
   front =
-      halfRule (t .ep) (turn (t .em)) (t .em) (turn (t .ep)) (weights (t .bits) (t .count) (t .up)) (weights (t .bits) (t .count) (t .down))
+      forwardRule (t .ep) (turn (t .em)) (t .em) (turn (t .ep)) (weights (t .bits) (t .count) (t .up)) (weights (t .bits) (t .count) (t .down))
       (entries d src) (fromEnd d src (2 * quarter))
 
   abbrev back : ℕ → Float
   back =
-      halfRule (t .em) (turn (t .ep)) (t .ep) (turn (t .em)) (endWeights (w - 2) (t .bits) (t .count) (t .down)) (endWeights (w - 2) (t .bits) (t .count) (t .up))
+      forwardRule (t .em) (turn (t .ep)) (t .ep) (turn (t .em)) (endWeights (w - 2) (t .bits) (t .count) (t .down)) (endWeights (w - 2) (t .bits) (t .count) (t .up))
       (fromEnd d src quarter) (entries d (src + quarter))
 
   abbrev pub made : ℕ → Float
@@ -72,8 +73,8 @@ module _ (s : Step Float) (sc : Float) (t : Tables) (a : Tabled s sc t) (s′ : 
   front-is : (j : ℕ) → front j ≡ once j
   front-is =
       by-parity (λ j. front j ≡ once j)
-      (λ k. half-even _ _ _ _ _ _ _ _ (2 * k) k refl ∙ rw (← half) (sym (even-is s sc t a w turn (entries d src) (2 * k) k refl)))
-      (λ k. half-odd _ _ _ _ _ _ _ _ (2 * k + 1) k refl ∙ rw (← half) (sym (odd-is s sc t a w turn (entries d src) (2 * k + 1) k refl)))
+      (λ k. rule-even _ _ _ _ _ _ _ _ (2 * k) k refl ∙ rw (← half) (sym (even-is s sc t a w turn (entries d src) (2 * k) k refl)))
+      (λ k. rule-odd _ _ _ _ _ _ _ _ (2 * k + 1) k refl ∙ rw (← half) (sym (odd-is s sc t a w turn (entries d src) (2 * k + 1) k refl)))
 
   -- the entry opposite to place k of the first quarter stands in the second
   across : (k : ℕ) → k < quarter → getD d (src + quarter + k) nan ≡ entries d src (2 ^ (w - 1) - 1 - (quarter - 1 - k))
@@ -83,10 +84,10 @@ module _ (s : Step Float) (sc : Float) (t : Tables) (a : Tabled s sc t) (s′ : 
   back-is =
       by-parity (λ j. j < 2 * quarter → back j ≡ once (2 ^ (w - 1) - 1 - j))
       (λ k b.
-      half-even _ _ _ _ _ _ _ _ (2 * k) k refl
+      rule-even _ _ _ _ _ _ _ _ (2 * k) k refl
       ∙ rw (across k (omega arith)) (sym (odd-is s sc t a w turn (entries d src) (2 ^ (w - 1) - 1 - 2 * k) (quarter - 1 - k) (omega (arith, half)))))
       (λ k b.
-      half-odd _ _ _ _ _ _ _ _ (2 * k + 1) k refl
+      rule-odd _ _ _ _ _ _ _ _ (2 * k + 1) k refl
       ∙ rw (across k (omega arith)) (sym (even-is s sc t a w turn (entries d src) (2 ^ (w - 1) - 1 - (2 * k + 1)) (quarter - 1 - k) (omega (arith, half)))))
 
   -- the second over it
@@ -94,9 +95,9 @@ module _ (s : Step Float) (sc : Float) (t : Tables) (a : Tabled s sc t) (s′ : 
   entry =
       by-parity (λ j. j < 2 * quarter → made j ≡ forwardHalf w s′ sc′ turn once j)
       (λ k b.
-      half-even _ _ _ _ _ _ _ _ (2 * k) k refl ∙ rw (front-is k, back-is k (omega arith)) (sym (even-is s′ sc′ t′ a′ w turn once (2 * k) k refl)))
+      rule-even _ _ _ _ _ _ _ _ (2 * k) k refl ∙ rw (front-is k, back-is k (omega arith)) (sym (even-is s′ sc′ t′ a′ w turn once (2 * k) k refl)))
       (λ k b.
-      half-odd _ _ _ _ _ _ _ _ (2 * k + 1) k refl ∙ rw (front-is k, back-is k (omega arith)) (sym (odd-is s′ sc′ t′ a′ w turn once (2 * k + 1) k refl)))
+      rule-odd _ _ _ _ _ _ _ _ (2 * k + 1) k refl ∙ rw (front-is k, back-is k (omega arith)) (sym (odd-is s′ sc′ t′ a′ w turn once (2 * k + 1) k refl)))
 
   pub forward-twice-is : tabulate made (2 * quarter) ≡ tabulate (forwardHalf w s′ sc′ turn once) (2 ^ (w - 1))
   forward-twice-is = rw half (tabulate-ext made (forwardHalf w s′ sc′ turn once) (2 * quarter) entry)

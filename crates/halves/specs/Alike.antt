@@ -9,7 +9,7 @@ use native.Mathlib.Omega.{arith}
 use borrow.Author.Tests.{lt-ltb, le-ltb}
 use lib.Dec.{ltb}
 use lib.IntN.{ℤ, pos}
-use lib.Ieee.{Float, nan, inf, fin, Format, binary32, binary64, up, down, unlike, round, neg, sum, add, sub, mul}
+use lib.Ieee.{Float, nan, inf, fin, Format, binary32, binary64, up, down, unlike, round, neg, sum, add, mul}
 use lib.Ieee.Fits.{up-pos, down-pos}
 use lib.Ieee.Scale.{round-same}
 use Rattle.symmetry.specs.Commute.{and-true, and-false, sum-commutes, product-commutes}
@@ -106,11 +106,6 @@ second-term f (fin u (suc n) c) (zeros {s} {t} {d} {e}) = rw (add-nought f u n c
 -- a sum
 pub alike-add : (f : Format) {x y z t : Float} → Alike x z → Alike y t → Alike (add f x y) (add f z t)
 alike-add f {x} {y} {z} {t} p q = alike-trans (second-term f x q) (rw (sum-commutes f x t, sum-commutes f z t) (second-term f t p))
-
--- a difference
-pub alike-sub : (f : Format) {x y z t : Float} → Alike x z → Alike y t → Alike (sub f x y) (sub f z t)
-unfolding sub
-alike-sub f p q = alike-add f p (alike-neg q)
 
 -- numbers of unlike signs: one less itself is +0 either way
 unlike-neg : (f : Format) (s t : Bool) (a b c : ℕ) → 0 < c

@@ -30,6 +30,10 @@ even-symmetric {w} {h} {v} wide e = record { flipped = by-halves w wide _ (λ j 
     high : (j : ℕ) → j < 2 ^ (w - 1) → S.at ieee v (2 ^ w - 1 - (2 ^ w - 1 - j)) ≡ S.at ieee v (2 ^ w - 1 - j)
     high j b = let i : 2 ^ w - 1 - (2 ^ w - 1 - j) ≡ j = omega (arith, pow-double w wide) in rw i (e .low j b ∙ sym (e .high j b))
 
+-- it reads only the half's own numbers
+pub even-ext : {w : ℕ} {h g : ℕ → Float} {v : List Float} → Even w h v → ((j : ℕ) → j < 2 ^ (w - 1) → g j ≡ h j) → Even w g v
+even-ext e same = record { low = λ j b. e .low j b ∙ sym (same j b); high = λ j b. e .high j b ∙ sym (same j b) }
+
 -- every entry of the whole stands in the half, read there and back
 pub even-entry : {w : ℕ} {h : ℕ → Float} {v : List Float} → 1 ≤ w → Even w h v → (j : ℕ) → j < 2 ^ w → S.at ieee v j ≡ thereAndBack w h j
 even-entry {w} {h} wide e =

@@ -45,11 +45,6 @@ signed-same (suc n) m k f g p q =
     same-next (sum-running n m f (λ j b. p j (omega arith))) (q n (omega arith))
     ∙ ap (λ a. cond (k n) (sub binary64 a (g n)) (add binary64 a (g n))) (signed-same n m k f g (λ j b. p j (omega arith)) (λ j b. q j (omega arith)))
 
--- of terms that are alike, with the same signs
-pub signed-forgets : (n : ℕ) (m : ℕ → Bool) (f g : ℕ → Float) → ((j : ℕ) → j < n → T (fits binary64 (f j)))
-    → ((j : ℕ) → j < n → Alike (f j) (g j)) → signedSum ieee n m f ≡ signedSum ieee n m g
-signed-forgets n m f g p q = signed-same n m m f g p (λ j b. like (q j b))
-
 -- sums of terms that are the same
 pub sum-same : (n : ℕ) (f g : ℕ → Float) → ((j : ℕ) → j < n → f j ≡ g j) → sum ieee n f ≡ sum ieee n g
 unfolding sum

@@ -1,4 +1,4 @@
--- The runs of two steps: the definitions that the contracts cite, and what a loop over the runs knows.
+-- The runs of a step, or of two: the definitions that the contracts cite, and what a loop over the runs knows.
 pub mod Quarter
 pub mod Rule
 pub mod InFour

@@ -9,7 +9,7 @@ use lib.Ieee.{Float, nan}
 use Rattle.sweep.specs.Step.{patternBy}
 use Rattle.sweep.specs.Rule.{weights, inTurn}
 use Rattle.sweep.specs.Rules.{turn-pick}
-use Rattle.runs.specs.Rule.{Sparse, inFour, upperWeights}
+use Rattle.runs.specs.Rule.{Sparse, inFour}
 use Rattle.runs.specs.Patterns.{pattern-add, pattern-zero, pattern-one, pattern-two}
 
 -- a bit x of k, times c
@@ -27,17 +27,8 @@ module _ {l : List ℕ} {n e k m : ℕ} (number one : ℕ) (s : Sparse l n 1 e) 
       let y : patternBy l n (i % 2) ≡ patternBy l n 1 * (i % 2) = rw c at (digit l n 1 (i % 2) (omega arith)) in
       rw (at, odd, begins) (pattern-add l n number e i b ∙ rw (pattern-one i s some b, y))
 
-  module _ (table : List Float) (i : ℕ) (b : i < 2 ^ e) where
-    pub pick-lower : inTurn (getD table m nan) (getD table (m + one) nan) i ≡ weights l n table (k + i)
-    pick-lower = rw (turn-pick table m one i, run-one i b)
-
-    pub pick-upper : (h top : ℕ) → top ≡ patternBy l n (2 ^ h) → k + i < 2 ^ h
-        → inTurn (getD table (m + top) nan) (getD table (m + top + one) nan) i ≡ upperWeights h l n table (k + i)
-    pick-upper h top t c =
-        let o : 1 * 2 ^ h ≡ 2 ^ h = omega arith in
-        let g : patternBy l n (2 ^ h + (k + i)) ≡ m + top + one * (i % 2) =
-        rw o at (pattern-add l n 1 h (k + i) c) ∙ rw (run-one i b, ← t) (omega arith) in
-        rw (turn-pick table (m + top) one i, g)
+  pub pick-lower : (table : List Float) (i : ℕ) → i < 2 ^ e → inTurn (getD table m nan) (getD table (m + one) nan) i ≡ weights l n table (k + i)
+  pick-lower table i b = rw (turn-pick table m one i, run-one i b)
 
 -- a run of the second step
 module _ {l : List ℕ} {n e k m : ℕ} (number low two : ℕ) (s : Sparse l n 2 (e + 1)) (some : 1 ≤ e) (begins : k ≡ number * 2 ^ e)

@@ -5,16 +5,12 @@ use mathlib.Core.Logic.{_⊎_}
 use Prim.Native.Nat.{ℕ, _+_, _/_, _^_, _≤_, _<_}
 use lib.ListN.{getD}
 use lib.Ieee.{Float, nan}
-use Rattle.sweep.specs.Rule.{weights, inTurn}
+use Rattle.sweep.specs.Rule.{inTurn}
 use Rattle.runs.specs.declared.Four.{Four}
 
 -- p₀, p₁, p₂ and p₃ by turns
 unfoldable pub inFour : (p₀ p₁ p₂ p₃ : Float) → ℕ → Float
 inFour p₀ p₁ p₂ p₃ k = inTurn (inTurn p₀ p₂ (k / 2)) (inTurn p₁ p₃ (k / 2)) k
-
--- the weights that a table gives to the patterns of 2 ^ h + k
-abbrev pub upperWeights : ℕ → List ℕ → ℕ → List Float → ℕ → Float
-upperWeights h bits n table k = weights bits n table (2 ^ h + k)
 
 -- none of the first n bits is from b up to e: within 2 ^ e indexes the pattern sees the lowest b bits alone
 pub record Sparse (l : List ℕ) (n b e : ℕ) : Type 0 where

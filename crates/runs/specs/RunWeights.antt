@@ -2,29 +2,25 @@
 use mathlib.Core.Path.{_≡_}
 use mathlib.Core.List.{List}
 use Prim.Native.Nat.{ℕ, _+_, _*_, _<_}
-use lib.Ieee.{Float}
+use lib.ListN.{getD}
+use lib.Ieee.{Float, nan}
 use Rattle.sweep.specs.Step.{patternBy}
 use Rattle.sweep.specs.Rule.{weights, inTurn}
 use Rattle.runs.specs.declared.Four.{Four}
-use Rattle.runs.specs.Rule.{inFour, upperWeights, Picked}
-use Rattle.runs.specs.Picks.{pick-lower, pick-upper, pick-two}
-use Rattle.runs.specs.AtRun.{Runs, AtRun, run-place}
+use Rattle.runs.specs.Rule.{inFour, Picked}
+use Rattle.runs.specs.Picks.{pick-lower, pick-two}
+use Rattle.runs.specs.AtRun.{Runs, TwoRuns, AtRun}
 
-module _ {l : List ℕ} {n : ℕ} {l′ : List ℕ} {n′ g h e end quarter size one top low two k : ℕ}
-    (r : Runs l n l′ n′ g h e end quarter size one top low two) (a : AtRun e end k) (under : k < end) where
-  -- the weights of the run
-  module _ (table : List Float) (f : Four) (i m : ℕ) (b : i < size) where
-    pub lower-is : m ≡ patternBy l n k → Picked table m top one f → inTurn (f .first) (f .third) i ≡ weights l n table (k + i)
-    lower-is p t = rw (t .first, t .third) (pick-lower (a .number) one (r .first) (r .some) (a .begins) p (r .odd) table i (rw (r .length) at b))
+module _ {l : List ℕ} {n g e end size one k : ℕ} (r : Runs l n g e end size one) (a : AtRun e end k) where
+  pub run-weight : (m : ℕ) → m ≡ patternBy l n k → (table : List Float) (i : ℕ) → i < size
+      → inTurn (getD table m nan) (getD table (m + one) nan) i ≡ weights l n table (k + i)
+  run-weight m p table i b = pick-lower (a .number) one (r .sparse) (r .some) (a .begins) p (r .odd) table i (rw (r .length) at b)
 
-    pub upper-is : m ≡ patternBy l n k → Picked table m top one f → inTurn (f .second) (f .fourth) i ≡ upperWeights h l n table (k + i)
-    upper-is p t =
-        rw (t .second, t .fourth)
-        (pick-upper (a .number) one (r .first) (r .some) (a .begins) p (r .odd) table i (rw (r .length) at b) h top
-        (rw (r .whole) at (r .upper)) (run-place r a under i b))
-
+-- and of the second step's
+module _ {l : List ℕ} {n : ℕ} {l′ : List ℕ} {n′ g h e end quarter size one low two k : ℕ}
+    (r : TwoRuns l n l′ n′ g h e end quarter size one low two) (a : AtRun e end k) where
   pub second-is : (table : List Float) (f : Four) (j m : ℕ) → j < 2 * size → m ≡ patternBy l′ n′ (2 * k) → Picked table m low two f
       → inFour (f .first) (f .second) (f .third) (f .fourth) j ≡ weights l′ n′ table (2 * k + j)
   second-is table f j m b p t =
       rw (t .first, t .second, t .third, t .fourth)
-      (pick-two (a .number) low two (r .second) (r .some) (a .begins) p (r .odd′) (r .next′) table j (rw (r .length) at b))
+      (pick-two (a .number) low two (r .second) (r .first .some) (a .begins) p (r .odd′) (r .next′) table j (rw (r .first .length) at b))

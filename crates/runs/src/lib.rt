@@ -1,4 +1,4 @@
-// The runs of two steps: indexes in which the patterns of both change with the lowest bit alone.
+// The runs of a step, or of two: indexes in which the patterns change with the lowest bits alone.
 ghost use Prim.Native.Nat.{_+_, _<_, _≤_};
 ghost use Rattle.runs.specs.Rule.{Picked, Sparse};
 

@@ -1,5 +1,1 @@
-mod Patterns
 mod TableTurn
-mod ForwardTurn
-mod BackwardTurn
-mod AlternateTurn

@@ -6,5 +6,3 @@ pub mod Place
 pub mod Pattern
 pub mod Rules
 pub mod Tabled
-pub mod ForwardIs
-pub mod BackwardIs

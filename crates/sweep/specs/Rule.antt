@@ -1,7 +1,7 @@
--- The rules by which the inner loops of a step fill a vector, over any weights and entries: a block and a whole step are cases of one rule.
+-- The rules by which the inner loops of a step fill a vector, over any weights and entries: a run and a whole step are cases of one rule.
 use mathlib.Core.Bool.{cond}
 use mathlib.Core.List.{List}
-use Prim.Native.Nat.{ℕ, _+_, _*_, _/_}
+use Prim.Native.Nat.{ℕ, _+_, _*_, _-_, _/_}
 use lib.ListN.{getD}
 use lib.Ieee.{Float, nan, binary64, add, mul}
 use Rattle.vector.specs.Bits.{bit}
@@ -10,6 +10,10 @@ use Rattle.sweep.specs.Step.{patternBy}
 -- the entries of d from index at on
 abbrev pub entries : List Float → ℕ → ℕ → Float
 entries d at i = getD d (at + i) nan
+
+-- the n entries of d from index at on, counted from their end
+abbrev pub fromEnd : List Float → (at n : ℕ) → ℕ → Float
+fromEnd d at n i = getD d (at + (n - 1 - i)) nan
 
 -- the weight that a table gives to the pattern of k
 abbrev pub weights : List ℕ → ℕ → List Float → ℕ → Float
@@ -23,10 +27,9 @@ inTurn p q i = cond (bit 0 i) q p
 unfoldable pub blend : (x y p a b : Float) → Float
 blend x y p a b = mul binary64 (add binary64 (mul binary64 x a) (mul binary64 y b)) p
 
--- Forward: from the entries a and b, with the weights p for spin up and q for spin down.
-unfoldable pub forwardRule : (x y : Float) (p q a b : ℕ → Float) → ℕ → Float
-unfolding blend
-forwardRule x y p q a b j = let k = j / 2 in cond (bit 0 j) (blend y x (q k) (a k) (b k)) (blend x y (p k) (a k) (b k))
+-- Forward: from the entries a and b, at even places with the coefficients x and y and the weights p, at odd ones with u, z and q.
+unfoldable pub forwardRule : (x y u z : Float) (p q a b : ℕ → Float) → ℕ → Float
+forwardRule x y u z p q a b j = let k = j / 2 in cond (bit 0 j) (blend u z (q k) (a k) (b k)) (blend x y (p k) (a k) (b k))
 
 -- x (s p) + y (t q), each operation rounded once
 unfoldable pub mix : (x y p q s t : Float) → Float

@@ -1,4 +1,4 @@
--- Laws of the rules: at an even and at an odd place, and from a place on.
+-- Laws of weights in turn and of the forward rule: at an even and at an odd place, and from a place on.
 use mathlib.Core.Path.{_≡_}
 use mathlib.Core.List.{List}
 use mathlib.Core.Logic.{_⊎_, inl, inr, dite}
@@ -21,7 +21,7 @@ module _ (p q : Float) (i : ℕ) where
 mod-two : (i : ℕ) → (i % 2 ≡ 0) ⊎ (i % 2 ≡ 1)
 mod-two i = dite (decLt (i % 2) 1) (λ h. inl (omega arith)) (λ h. inr (omega arith))
 
--- the two entries of a table that a block uses
+-- the two entries of a table that a run uses
 pub turn-pick : (t : List Float) (m low i : ℕ) → inTurn (getD t m nan) (getD t (m + low) nan) i ≡ getD t (m + low * (i % 2)) nan
 turn-pick t m low i = go (mod-two i)
   where
@@ -29,22 +29,15 @@ turn-pick t m low i = go (mod-two i)
     go (inl z) = let e : m + low * 0 ≡ m = omega arith in rw (turn-even _ _ i z, z, e)
     go (inr z) = let e : m + low * 1 ≡ m + low = omega arith in rw (turn-odd _ _ i z, z, e)
 
-pub turn-same : (p : Float) (i : ℕ) → inTurn p p i ≡ p
-turn-same p i = go (mod-two i)
-  where
-    go : ((i % 2 ≡ 0) ⊎ (i % 2 ≡ 1)) → inTurn p p i ≡ p
-    go (inl z) = turn-even p p i z
-    go (inr z) = turn-odd p p i z
-
-module _ (x y : Float) (p q a b : ℕ → Float) where
-  pub rule-even : (j k : ℕ) → j ≡ 2 * k → forwardRule x y p q a b j ≡ blend x y (p k) (a k) (b k)
+module _ (x y u z : Float) (p q a b : ℕ → Float) where
+  pub rule-even : (j k : ℕ) → j ≡ 2 * k → forwardRule x y u z p q a b j ≡ blend x y (p k) (a k) (b k)
   unfolding forwardRule
   rule-even j k h =
       let r : j / 1 % 2 ≡ 0 = omega arith in
       let s : j / 2 ≡ k = omega arith in
       rw (r, s)
 
-  pub rule-odd : (j k : ℕ) → j ≡ 2 * k + 1 → forwardRule x y p q a b j ≡ blend y x (q k) (a k) (b k)
+  pub rule-odd : (j k : ℕ) → j ≡ 2 * k + 1 → forwardRule x y u z p q a b j ≡ blend u z (q k) (a k) (b k)
   unfolding forwardRule
   rule-odd j k h =
       let r : j / 1 % 2 ≡ 1 = omega arith in
@@ -54,7 +47,7 @@ module _ (x y : Float) (p q a b : ℕ → Float) where
   -- the rule from place 2 k on is the rule over the weights and entries from k on
   pub rule-from : (p′ q′ a′ b′ : ℕ → Float) (k n j : ℕ) → j < 2 * n → ((i : ℕ) → i < n → p′ i ≡ p (k + i)) → ((i : ℕ) → i < n → q′ i ≡ q (k + i))
       → ((i : ℕ) → i < n → a′ i ≡ a (k + i)) → ((i : ℕ) → i < n → b′ i ≡ b (k + i))
-      → forwardRule x y p′ q′ a′ b′ j ≡ forwardRule x y p q a b (2 * k + j)
+      → forwardRule x y u z p′ q′ a′ b′ j ≡ forwardRule x y u z p q a b (2 * k + j)
   unfolding forwardRule
   rule-from p′ q′ a′ b′ k n j h ep eq ea eb =
       let r : (2 * k + j) / 1 % 2 ≡ j / 1 % 2 = omega arith in

@@ -9,7 +9,7 @@ ghost use lib.ListN.{length};
 ghost use Rattle.transfer.specs.Rounded.{ieee};
 ghost use Rattle.transfer.specs.Sweep as S;
 ghost use Rattle.sweep.specs.Step.{nearEdges, leftEdge, Filled};
-use crate::blocks::pow2;
+use crate::pattern::pow2;
 
 // f over x where b is 1, else f times x.
 fn weighed(f: f64, x: f64, b: usize) -> f64

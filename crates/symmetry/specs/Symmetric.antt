@@ -27,11 +27,6 @@ symmetric-by w f e =
           tabulate-at f (2 ^ w) (2 ^ w - 1 - j) (ieee .𝟘) (omega arith) ∙ e j b ∙ sym (tabulate-at f (2 ^ w) j (ieee .𝟘) b);
     }
 
--- the rule of such a list does not change
-pub rule-flips : (w : ℕ) (f : ℕ → Float) → Symmetric w (tabulate f (2 ^ w)) → (j : ℕ) → j < 2 ^ w → f (2 ^ w - 1 - j) ≡ f j
-rule-flips w f s j b =
-    sym (tabulate-at f (2 ^ w) (2 ^ w - 1 - j) (ieee .𝟘) (omega arith)) ∙ s .flipped j b ∙ tabulate-at f (2 ^ w) j (ieee .𝟘) b
-
 pub start-symmetric : (w : ℕ) → Symmetric w (S.start ieee w)
 unfolding S.start
 start-symmetric w = symmetric-by w (λ j. ieee .𝟙) (λ j b. refl)

@@ -1,15 +1,13 @@
 -- What is said of a half reads only its own numbers.
-use mathlib.Core.Path.{_≡_, sym, _∙_, subst}
+use mathlib.Core.Path.{_≡_, subst}
 use mathlib.Core.List.{List}
 use Prim.Native.Nat.{ℕ, _-_, _^_, _<_}
 use lib.Ieee.{Float}
 use Rattle.halves.specs.Even.{Even}
+pub use Rattle.halves.specs.Even.{even-ext}
 use Rattle.halves.specs.Odd.{Odd}
 
 module _ {w : ℕ} {h g : ℕ → Float} {v : List Float} where
-  pub even-ext : Even w h v → ((j : ℕ) → j < 2 ^ (w - 1) → g j ≡ h j) → Even w g v
-  even-ext e same = record { low = λ j b. e .low j b ∙ sym (same j b); high = λ j b. e .high j b ∙ sym (same j b) }
-
   pub odd-ext : Odd w h v → ((j : ℕ) → j < 2 ^ (w - 1) → g j ≡ h j) → Odd w g v
   odd-ext o same = record { low = λ j b. rw (same j b) (o .low j b); high = λ j b. rw (same j b) (o .high j b) }
 

@@ -5,8 +5,7 @@ use native.Mathlib.Omega.{arith}
 use lib.ListN.{length}
 use Rattle.vector.specs.Power.{pow-double}
 use Rattle.vector.specs.Part.{Apart}
-use Rattle.sweep.specs.Step.{patternBy}
-use Rattle.runs.specs.AtRun.{readable, Runs, AtRun, first-run, next-run, run-size, run-even, run-ends, second-16}
+use Rattle.runs.specs.AtRun.{readable, TwoRuns, AtRun, first-run, next-run, run-size, run-even, run-ends, second-16}
 use Rattle.half_runs.specs.Opposite.{opposed-16}
 use Rattle.half_stride_backward.specs.Inward.{inward-none}
 use Rattle.half_stride_backward.proofs.BackwardRuns.{stepped, run-targets, run-apart, runs-turn}
@@ -17,7 +16,7 @@ use Rattle.half_stride_backward.proofs.backward_runs.Tie as tie
 abbrev Inv-loop : tie.InvT-loop
 Inv-loop v₀ src dst h x y bits n up down z u bits2 n2 up2 down2 end quarter e size one low two o k₀ v k =
     (length v ≡ length v₀) × Apart (length v₀) src (2 * 2 ^ h) dst (2 * 2 ^ h)
-    × Runs bits n bits2 n2 (h - 1) h e end quarter size one (patternBy bits n quarter) low two × AtRun e end k
+    × TwoRuns bits n bits2 n2 (h - 1) h e end quarter size one low two × AtRun e end k
     × (v ≡ stepped x y z u bits n up down bits2 n2 up2 down2 h src dst v₀ k) × (quarter ≡ 2 * end)
 
 abbrev μ-loop : tie.MeasureT-loop
@@ -32,7 +31,7 @@ room : (c : tie.In-loop Inv-loop μ-loop)
     × (at .before .before .before .before .before .before .pow22 .result ≡ 2 * at .before .before .before .before .before .before .before .pow2 .result) × (at .before .before .before .before .before .before .pow22 .result ≡ 2 ^ a .h)
 room c =
     let i = c .before .loop .inv in
-    omega (arith, i .1, i .2 .whole, i .5, run-ends (i .2) (i .3) (c .loop-test .taken), c .before .before .before .before .before .before .before .before .before .before)
+    omega (arith, i .1, i .2 .whole, i .5, run-ends (i .2 .first) (i .3) (c .loop-test .taken), c .before .before .before .before .before .before .before .before .before .before)
 
 sub-pow2 : tie.Need-sub-pow2 Inv-loop μ-loop
 sub-pow2 c = search needs
@@ -71,18 +70,19 @@ loop-holds c =
       refl,
       s .pre .2,
       record {
-        few = s .pre .3 .few;
+        first = record {
+          few = s .pre .3 .few;
+          sparse = runs .2;
+          some = runs .0;
+          inside = runs .1;
+          ends = c .before .before .before .before .before .before .pow2 .ensures;
+          length = c .before .before .before .pow23 .ensures;
+          odd = c .before .before .pattern-of .ensures .0;
+        };
         few′ = s .pre .4 .few;
-        first = runs .2;
         second = runs .3;
-        some = runs .0;
-        inside = runs .1;
         within = omega arith;
-        ends = c .before .before .before .before .before .before .pow2 .ensures;
         whole = c .before .before .before .before .before .pow22 .ensures;
-        length = c .before .before .before .pow23 .ensures;
-        odd = c .before .before .pattern-of .ensures .0;
-        upper = refl;
         odd′ = c .before .pattern-of2 .ensures .0;
         next′ = c .pattern-of3 .ensures .0;
       },
@@ -158,7 +158,7 @@ backward-run-requires c κs =
     let under = turn .loop-test .taken in
     let g = run-targets (i .2) (i .3) under (i .5) _ _ _ (i .1) in
     let f = run-apart (i .2) (i .3) under (i .5) _ _ _ (i .1) in
-    (run-even (i .2), rw (i .0) g, rw (i .0) (f .0), rw (i .0) (f .1), rw (i .0) (f .2), rw (i .0) (f .3))
+    (run-even (i .2 .first), rw (i .0) g, rw (i .0) (f .0), rw (i .0) (f .1), rw (i .0) (f .2), rw (i .0) (f .3))
 
 add-k : tie.Need-add-k Inv-loop μ-loop
 add-k c = omega (arith, room (c .before .before .before .before .before .before .before .before .before .before .before))
@@ -166,7 +166,7 @@ add-k c = omega (arith, room (c .before .before .before .before .before .before 
 loop-less : tie.Need-loop-less Inv-loop μ-loop
 loop-less c =
     let turn = c .before .before .before .before .before .before .before .before .before .before .before in
-    omega (arith, run-size (turn .before .loop .inv .2), turn .loop-test .taken)
+    omega (arith, run-size (turn .before .loop .inv .2 .first), turn .loop-test .taken)
 
 loop-again : tie.Need-loop-again Inv-loop μ-loop
 loop-again c =
@@ -179,7 +179,7 @@ loop-again c =
       run .kept .0 ∙ i .0,
       i .1,
       i .2,
-      next-run (i .2) (i .3) under,
+      next-run (i .2 .first) (i .3) under,
       runs-turn (i .2) (i .3) under (i .5) _ _ _ _ (a .up .now) (a .down .now) (a .up2 .now) (a .down2 .now) _ _ _ _ _ _ _ _ _ (a .v .now)
           (at .loop .v) (c .before .before .before .before .before .before .before .before .before .before .pattern-of4 .ensures .0) (c .before .before .before .before .before .before .before .before .before .pattern-of5 .ensures .0) (c .before .before .before .before .before .before .before .before .pattern-of6 .ensures .0)
           (c .before .before .before .before .before .before .before .opposed .ensures) (c .before .before .before .before .before .before .opposed2 .ensures) (c .before .before .before .before .before .four-at .ensures) (c .before .before .before .before .four-at2 .ensures) (i .1) (i .4) _ (run .ensures),
@@ -195,8 +195,8 @@ returns c =
     let i = at .loop .inv in
     let a = at .before .before .before .before .before .before .before .before .before .args in
     let w = i .2 .whole in
-    let e : at .loop .k ≡ 2 ^ (a .h - 1) = omega (arith, i .2 .ends, i .3 .within) in
-    let z : 2 ^ a .h - 2 ^ (a .h - 1) ≡ 2 ^ (a .h - 1) = omega (arith, i .2 .ends, i .5) in
+    let e : at .loop .k ≡ 2 ^ (a .h - 1) = omega (arith, i .2 .first .ends, i .3 .within) in
+    let z : 2 ^ a .h - 2 ^ (a .h - 1) ≡ 2 ^ (a .h - 1) = omega (arith, i .2 .first .ends, i .5) in
     rw (e, z) at (i .4)
 
 pub backward-runs-spec : {M : Type 1} → statement M

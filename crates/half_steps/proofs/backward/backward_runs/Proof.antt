@@ -4,9 +4,8 @@ use Prim.Native.Nat.{_+_, _*_, _-_, _^_}
 use lib.ListN.{length}
 use Rattle.vector.specs.Part.{Apart}
 use Rattle.sweep.specs.Rule.{entries, weights, backwardRule}
-use Rattle.runs.specs.AtRun.{AtRun, readable, first-run}
+use Rattle.runs.specs.AtRun.{Runs, AtRun, readable, first-run, run-size, run-even, run-ends, run-16, next-run}
 use Rattle.half_steps.specs.Ends.{ends, ends-none}
-use Rattle.half_steps.proofs.Runs.{Runs, run-size, run-even, run-ends, run-16, next-run}
 use Rattle.half_steps.proofs.BackwardTurn.{run-apart, runs-turn}
 use native.Mathlib.Omega.{arith}
 use Rattle.half_steps.proofs.backward.backward_runs.Statement.{statement}

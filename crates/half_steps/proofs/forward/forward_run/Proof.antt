@@ -4,8 +4,7 @@ use Prim.Native.Nat.{_+_, _*_, _-_, _%_, _≤_, _<_}
 use lib.ListN.{length, length-set}
 use Rattle.vector.specs.Part.{put, fill-none}
 use Rattle.vector.specs.Tabulate.{tabulate}
-use Rattle.sweep.specs.Rule.{entries, inTurn, blend}
-use Rattle.half_steps.specs.Rule.{downFrom, forwardHalfRule}
+use Rattle.sweep.specs.Rule.{entries, fromEnd, inTurn, blend, forwardRule}
 use Rattle.half_steps.proofs.ForwardTurn.{run-turn}
 use native.Mathlib.Omega.{arith}
 use Rattle.half_steps.proofs.forward.forward_run.Statement.{statement}
@@ -14,7 +13,7 @@ use Rattle.half_steps.proofs.forward.forward_run.Tie as tie
 abbrev Inv-loop : tie.InvT-loop
 Inv-loop v₀ a b o n x y z u p0 q0 p1 q1 i₀ v i =
     (length v ≡ length v₀) × (i % 2 ≡ 0) × (i ≤ n)
-    × (v ≡ put v₀ o (tabulate (forwardHalfRule x y z u (inTurn p0 p1) (inTurn q0 q1) (entries v₀ a) (downFrom v₀ b)) (2 * i)))
+    × (v ≡ put v₀ o (tabulate (forwardRule x y z u (inTurn p0 p1) (inTurn q0 q1) (entries v₀ a) (fromEnd v₀ (b + 1 - n) n)) (2 * i)))
 
 abbrev μ-loop : tie.MeasureT-loop
 μ-loop v₀ a b o n x y z u p0 q0 p1 q1 i₀ v i = n - i

@@ -5,10 +5,8 @@ use lib.ListN.{length}
 use lib.Pow.{pow-pos}
 use Rattle.vector.specs.Part.{Apart, put, fill-none}
 use Rattle.vector.specs.Tabulate.{tabulate}
-use Rattle.sweep.specs.Rule.{entries, weights}
-use Rattle.runs.specs.AtRun.{AtRun, readable, first-run}
-use Rattle.half_steps.specs.Rule.{downFrom, forwardHalfRule}
-use Rattle.half_steps.proofs.Runs.{Runs, run-size, run-even, run-ends, run-16, next-run}
+use Rattle.sweep.specs.Rule.{entries, fromEnd, weights, forwardRule}
+use Rattle.runs.specs.AtRun.{Runs, AtRun, readable, first-run, run-size, run-even, run-ends, run-16, next-run}
 use Rattle.half_steps.proofs.ForwardTurn.{run-apart, runs-turn}
 use native.Mathlib.Omega.{arith}
 use Rattle.half_steps.proofs.forward.forward_runs.Statement.{statement}
@@ -17,7 +15,7 @@ use Rattle.half_steps.proofs.forward.forward_runs.Tie as tie
 abbrev Inv-loop : tie.InvT-loop
 Inv-loop v₀ src dst g x y z u bits n up down end e size one last k₀ v k =
     (length v ≡ length v₀) × Apart (length v₀) src (2 * 2 ^ g) dst (2 * 2 ^ g) × Runs bits n g e end size one × AtRun e end k
-    × (v ≡ put v₀ dst (tabulate (forwardHalfRule x y z u (weights bits n up) (weights bits n down) (entries v₀ src) (downFrom v₀ (src + 2 * 2 ^ g - 1))) (2 * k)))
+    × (v ≡ put v₀ dst (tabulate (forwardRule x y z u (weights bits n up) (weights bits n down) (entries v₀ src) (fromEnd v₀ src (2 * 2 ^ g))) (2 * k)))
 
 abbrev μ-loop : tie.MeasureT-loop
 μ-loop v₀ src dst g x y z u bits n up down end e size one last k₀ v k = end - k

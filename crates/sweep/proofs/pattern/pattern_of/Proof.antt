@@ -1,12 +1,22 @@
 -- The loop builds the pattern from its top bit down: what it has is the pattern by the bits from i on.
 use mathlib.Core.Path.{_≡_}
-use Prim.Native.Nat.{_≤_, _<_, _-_}
+use mathlib.Core.List.{List}
+use Prim.Native.Nat.{ℕ, suc, _+_, _*_, _-_, _/_, _%_, _^_, _≤_, _<_}
 use native.Mathlib.Omega.{arith}
+use lib.ListN.{getD}
 use Rattle.sweep.specs.Step.{patternFrom}
 use Rattle.sweep.specs.Pattern.{pattern-16}
-use Rattle.sweep.proofs.Patterns.{pattern-down}
-use Rattle.sweep.proofs.blocks.pattern_of.Statement.{statement}
-use Rattle.sweep.proofs.blocks.pattern_of.Tie as tie
+use Rattle.sweep.proofs.pattern.pattern_of.Statement.{statement}
+use Rattle.sweep.proofs.pattern.pattern_of.Tie as tie
+
+-- one bit more below
+pattern-down : (l : List ℕ) (i n k : ℕ) → 0 < i → i ≤ n
+    → 2 * patternFrom l i (n - i) k + k / 2 ^ getD l (i - 1) 0 % 2 ≡ patternFrom l (i - 1) (n - (i - 1)) k
+unfolding patternFrom
+pattern-down l i n k h h′ =
+    let e : n - (i - 1) ≡ suc (n - i) = omega arith in
+    let g : suc (i - 1) ≡ i = omega arith in
+    rw (e, g)
 
 abbrev Inv-loop : tie.InvT-loop
 Inv-loop k bits n m₀ i₀ m i = (i ≤ n) × (m ≡ patternFrom bits i (n - i) k)

@@ -5,8 +5,8 @@ use native.Mathlib.Nat.{mod-eq-of-lt}
 use native.Mathlib.Omega.{arith}
 use lib.Pow.{pow-lt}
 use borrow.Author.Needs.{needs}
-use Rattle.sweep.proofs.blocks.pow2.Statement.{statement}
-use Rattle.sweep.proofs.blocks.pow2.Tie as tie
+use Rattle.sweep.proofs.pattern.pow2.Statement.{statement}
+use Rattle.sweep.proofs.pattern.pow2.Tie as tie
 
 shl-result : tie.Need-shl-result
 shl-result c = search needs
