@@ -89,7 +89,7 @@ returns c =
     let s = c .before .before .before .before .before .before .before .before .before .before .before .before .before .before .before .before .before .before .before .before .before .before .before .before .before .before .before .before .before .before .before .before .before .before .before .before .before .before .before .before in
     let l = c .before .before .before .before .before .before .before .before .before .before .before .before .before .before .before .before .before .before .before .before .loop in
     let a = c .before .before .before .before .before .before .before .before .before .add-configuration in
-    let q = c .before .before .before .before .before .before .before .before .before .before .before .before .before .before .before .before .before .enumerated-signs .ensures in
+    let q = c .before .before .before .before .before .before .before .before .before .before .before .before .before .before .before .before .before .enumerated-signs .ensures .0 in
     let t : l .j < s .args .size = omega (arith, c .before .before .before .before .before .before .before .before .before .before .before .before .before .before .before .before .before .before .before .loop-test .taken) in
     let no : true ≡ false → ⊥ = λ z. (let z′ : _≡_ {A = ℕ} 0 1 = cc in omega arith) in
     λ J of.
@@ -122,7 +122,7 @@ loop-again c =
       squareds = a .kept .1 .1 .1 .1 .1 .1 .1 .1 .1 .1 .1 .1 .1 .0 ∙ i .squareds;
       fourthds = a .kept .1 .1 .1 .1 .1 .1 .1 .1 .1 .1 .1 .1 .1 .1 .0 ∙ i .fourthds;
       passed = λ J of.
-          let told = a .ensures (J (s .args .first + l .j)) (signed-of (J (s .args .first + l .j)) (s .args .plan .now) (s .args .lent .now) _ _ _ (s .args .betas) (s .args .n) (s .args .w) (s .args .each) (e .ensures) (of (s .args .first + l .j))) in
+          let told = a .ensures (J (s .args .first + l .j)) (signed-of (J (s .args .first + l .j)) (s .args .plan .now) (s .args .lent .now) _ _ _ (s .args .betas) (s .args .n) (s .args .w) (s .args .each) (e .ensures .0) (of (s .args .first + l .j))) in
           passed-more _ _ _ (l .j) _ _ (i .passed J of) _ (told .0) _ _ yes (told .1 yes);
     }
 
