@@ -4,7 +4,7 @@ use mathlib.Core.Bool.{Bool, true, false, not}
 use mathlib.Core.List.{List, [], _++_, append-nil}
 use mathlib.Core.Logic.{inr}
 use Prim.Native.Nat.{ℕ, zero, suc, _+_, _*_, _/_, _%_, _≤_, _<_}
-use native.Mathlib.Nat.{zero-add, zero-mul, add-zero, suc-mul, mul-le-mul-right, mul-add-div-right, mul-add-mod-self-right, mod-eq-of-lt, div-eq-of-lt}
+use native.Mathlib.Nat.{zero-add, zero-mul, mul-le-mul-right}
 use native.Mathlib.Numerals.{add-one}
 use native.Mathlib.Omega.{arith}
 use lib.Ieee.{Float, nan, binary64, add}
@@ -19,7 +19,7 @@ use Rattle.transfer.specs.Sweep as S
 use Rattle.transfer.specs.Totals.{square, fourth}
 use Rattle.answers.specs.Sound.{unsound, Outcome}
 use Rattle.chunks.specs.Passing.{one-passed, one-failed}
-use Rattle.chunks.specs.Powers.{addedAt, addedTo, pairAt, correlationAt, AddedPowers}
+use Rattle.chunks.specs.Powers.{addedAt, addedTo, pairAt, correlationAt, pair-numbered, AddedPowers}
 use Rattle.chunks.specs.Lists.{put-all}
 use Rattle.chunks.specs.SoFar.{partly, SoFar}
 
@@ -68,17 +68,9 @@ module _ (J : Job Float) (us vs : List ℕ) where
 -- ---- one beta more
 
 module _ (J : ℕ → Job Float) (us vs : List ℕ) where
-  -- pair i of beta b
-  numbered : (b i : ℕ) → i < length us → S.answer ieee (J b) (getD us i 0) (getD vs i 0) ≡ correlationAt J us vs (b * length us + i)
-  numbered b i l =
-      let some : 0 < length us = omega arith in
-      let d : (b * length us + i) / length us ≡ b = mul-add-div-right some b i ∙ ap (λ (k : ℕ). b + k) (div-eq-of-lt l) ∙ add-zero b in
-      let m : (b * length us + i) % length us ≡ i = mul-add-mod-self-right b (length us) i ∙ mod-eq-of-lt l in
-      rw (d, m)
-
   -- the results of beta b are its correlations
   results-at : (b : ℕ) (c : List Float) → c ≡ S.answers ieee (J b) us vs → (i : ℕ) → i < length us → getD c i nan ≡ correlationAt J us vs (b * length us + i)
-  results-at b c e i l = pair-at (J b) us vs c e i l ∙ numbered b i l
+  results-at b c e i l = pair-at (J b) us vs c e i l ∙ pair-numbered J us vs b i l
 
   module _ (c : List Float) (b : ℕ) (sound : Bool) (o : Outcome (J b) us vs c sound) where
     -- a beta that did not pass

@@ -19,7 +19,8 @@ use Rattle.vertex.specs.Ready.{Ready, PlanOf, Backward, Swept, Still, still-swe
 use Rattle.sweeps.specs.Begun.{Stands}
 use Rattle.sweeps.specs.Kept.{SameFrom}
 use Rattle.answers.specs.Sound.{Outcome}
-use Rattle.chunks.specs.Stage.{Stage, Lent}
+use Rattle.chunks.specs.Stage.{Stage}
+use Rattle.chunks.specs.Lists.{part-of}
 
 -- a list laid at another's end is what lies there
 pub laid-last : (d x : List Float) (at : ℕ) → at + length x ≡ length d → drop at (put d at x) ≡ x
@@ -65,18 +66,6 @@ pub stage-keep : {plan us vs order : List ℕ} {m n w scales end results end′ 
     → end′ ≡ end → results′ ≡ results → Stage plan us vs order m n w scales end′ results′
 stage-keep g p q = rw (p, q) g
 
--- the factors of the first betas
-pub lent-first : {lent m betas : ℕ} (b : ℕ) → Lent lent m betas → b < betas → Lent lent m (b + 1)
-lent-first {lent} {m} {betas} b g l =
-    let h : (b + 1) * m ≤ betas * m = mul-le-mul-right m (omega arith) in
-    let e = g .enough in
-    let f = g .few in
-    record { enough = omega arith; few = omega arith }
-
--- beta b has its own part of the sums
-pub part-of : (b betas np : ℕ) → b < betas → b * np + np ≤ betas * np
-part-of b betas np l = let h : (b + 1) * np ≤ betas * np = mul-le-mul-right np (omega arith) in omega arith
-
--- and of what is stored
+-- beta b has its own part of what is stored
 pub part-stored : (b betas np all : ℕ) → b < betas → (b * np + np) * all ≤ betas * np * all
 part-stored b betas np all l = mul-le-mul-right all (part-of b betas np l)

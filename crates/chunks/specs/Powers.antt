@@ -1,8 +1,10 @@
 -- Squares and fourth powers added to two lists.
-use mathlib.Core.Path.{_≡_}
+use mathlib.Core.Path.{_≡_, ap, _∙_}
 use mathlib.Core.Bool.{Bool, true, not}
 use mathlib.Core.List.{List}
-use Prim.Native.Nat.{ℕ, _+_, _*_, _/_, _%_}
+use Prim.Native.Nat.{ℕ, _+_, _*_, _/_, _%_, _<_}
+use native.Mathlib.Nat.{add-zero, mul-add-div-right, mul-add-mod-self-right, mod-eq-of-lt, div-eq-of-lt}
+use native.Mathlib.Omega.{arith}
 use lib.Ieee.{Float, nan, binary64, add}
 use lib.ListN.{length, getD}
 use Rattle.vector.specs.Tabulate.{tabulate}
@@ -30,6 +32,14 @@ pairAt J us vs p = S.answer ieee J (getD us p 0) (getD vs p 0)
 abbrev pub correlationAt : (ℕ → Job Float) → List ℕ → List ℕ → ℕ → Float
 correlationAt J us vs k =
     pairAt (J (k / length us)) us vs (k % length us)
+
+-- It is that of pair p of beta b.
+pub pair-numbered : (J : ℕ → Job Float) (us vs : List ℕ) (b p : ℕ) → p < length us → pairAt (J b) us vs p ≡ correlationAt J us vs (b * length us + p)
+pair-numbered J us vs b p l =
+    let some : 0 < length us = omega arith in
+    let d : (b * length us + p) / length us ≡ b = mul-add-div-right some b p ∙ ap (λ (k : ℕ). b + k) (div-eq-of-lt l) ∙ add-zero b in
+    let m : (b * length us + p) % length us ≡ p = mul-add-mod-self-right b (length us) p ∙ mod-eq-of-lt l in
+    rw (d, m)
 
 -- Two lists of sums with the powers of n correlations added.
 pub record AddedPowers (c : ℕ → Float) (n : ℕ) (squares squares′ fourths fourths′ : List Float) : Type 0 where

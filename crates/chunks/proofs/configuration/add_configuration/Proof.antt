@@ -7,7 +7,8 @@ use lib.ListN.{length}
 use borrow.Author.Tests.{not-true, not-false}
 use Rattle.chunks.specs.Stage.{Stage, Lent}
 use Rattle.chunks.specs.SoFar.{Betas}
-use Rattle.chunks.proofs.Staging.{stage-keep, lent-first, part-of}
+use Rattle.chunks.specs.Lists.{lent-first, part-of}
+use Rattle.chunks.proofs.Staging.{stage-keep}
 use Rattle.chunks.proofs.Betas.{none-yet, some-unsound, beta-more, all-betas}
 use borrow.Author.Needs.{needs}
 use Rattle.chunks.proofs.configuration.add_configuration.Statement.{statement}

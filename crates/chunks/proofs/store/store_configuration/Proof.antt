@@ -7,7 +7,8 @@ use lib.ListN.{length}
 use borrow.Author.Tests.{not-true, not-false}
 use Rattle.vector.specs.Search as Search
 use Rattle.chunks.specs.Stored.{Stored, Storing, number-small}
-use Rattle.chunks.proofs.Staging.{stage-keep, lent-first, part-of, part-stored}
+use Rattle.chunks.specs.Lists.{lent-first, part-of}
+use Rattle.chunks.proofs.Staging.{stage-keep, part-stored}
 use Rattle.chunks.proofs.Betas.{some-unsound, sound-more, results-value}
 use borrow.Author.Needs.{needs}
 use Rattle.chunks.proofs.store.store_configuration.Statement.{statement}
