@@ -12,7 +12,7 @@ use lib.Seq.{drop-drop}
 use Rattle.vector.specs.Search as Search
 use Rattle.vector.specs.Search.{some, none-of}
 use Rattle.vector.specs.Part.{put, put-out, part-put, part-at}
-use Rattle.vector.specs.Tabulate.{tabulate, tabulated, tabulate-at}
+use Rattle.vector.specs.Tabulate.{tabulated, tabulate-at}
 use Rattle.transfer.specs.Arithmetic.{sum}
 use Rattle.transfer.specs.Job.{Job}
 use Rattle.transfer.specs.Rounded.{ieee}

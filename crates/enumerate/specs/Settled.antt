@@ -6,7 +6,7 @@ use mathlib.Core.Logic.{dite}
 use Prim.Native.Nat.{ℕ, _+_, _≤_, _<_}
 use native.Mathlib.Decide.{decLt}
 use native.Mathlib.Omega.{arith}
-use lib.ListN.{length, getD}
+use lib.ListN.{getD}
 use Rattle.plan.specs.Layout.{Holds, nearCount}
 use Rattle.sweeps.specs.Reuse.{Reads}
 

@@ -29,7 +29,7 @@ use Rattle.sweeps.specs.Kept.{Since}
 use Rattle.sweeps.specs.Turn.{ForwardPair, ForwardTurn}
 use Rattle.sweeps.specs.Going.{NewestForward, Going}
 use Rattle.sweeps.proofs.Targets.{Aimed, target-fits, target-own, target-kind, target-other, target-free}
-use Rattle.sweeps.proofs.Frames.{place-of, stepping, since-none, since-then, since-wrote}
+use Rattle.sweeps.proofs.Frames.{place-of, stepping, since-none, since-wrote}
 use Rattle.sweeps.proofs.Unscaled.{unscaled}
 
 -- ---- the definition, opened

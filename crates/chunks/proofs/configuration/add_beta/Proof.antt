@@ -3,7 +3,6 @@ use mathlib.Core.Path.{_≡_, sym, _∙_}
 use mathlib.Core.Bool.{true, false}
 use Prim.Native.Nat.{ℕ}
 use native.Mathlib.Omega.{arith}
-use lib.ListN.{length}
 use borrow.Author.Tests.{not-true, not-false}
 use Rattle.transfer.specs.Rounded.{ieee}
 use Rattle.transfer.specs.Totals.{square, fourth}
@@ -11,10 +10,6 @@ use Rattle.chunks.proofs.Betas.{pairs-added}
 use borrow.Author.Needs.{needs}
 use Rattle.chunks.proofs.configuration.add_beta.Statement.{statement}
 use Rattle.chunks.proofs.configuration.add_beta.Tie as tie
-use Rattle.chunks.proofs.configuration.add_beta.Reads as reads
-use Rattle.chunks.proofs.configuration.add_beta.Lts as lts
-use Rattle.chunks.proofs.configuration.answer_signed.Reads as answer-signed-reads
-use Rattle.chunks.proofs.powers.add_powers.Reads as add-powers-reads
 
 answer-signed-requires : tie.Need-answer-signed-requires
 answer-signed-requires c κs = search needs

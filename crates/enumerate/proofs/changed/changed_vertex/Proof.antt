@@ -4,9 +4,6 @@ use Rattle.enumerate.specs.Settled.{SettledAbove, edges-first, settled-m
 use native.Mathlib.Omega.{arith}
 use Rattle.enumerate.proofs.changed.changed_vertex.Statement.{statement}
 use Rattle.enumerate.proofs.changed.changed_vertex.Tie as tie
-use Rattle.enumerate.proofs.changed.changed_vertex.Reads as reads
-use Rattle.enumerate.proofs.changed.changed_vertex.Lts as lts
-use Rattle.enumerate.proofs.changed.step_may_change.Reads as step-may-change-reads
 
 abbrev Inv-loop : tie.InvT-loop
 Inv-loop plan n tree last t₀ t = (t < n) × SettledAbove plan tree last n t

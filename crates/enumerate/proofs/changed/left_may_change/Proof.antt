@@ -1,13 +1,8 @@
 -- The left edge is the number less one.
-use mathlib.Core.Path.{_≡_}
 use native.Mathlib.Omega.{arith}
 use borrow.Author.Needs.{needs}
 use Rattle.enumerate.proofs.changed.left_may_change.Statement.{statement}
 use Rattle.enumerate.proofs.changed.left_may_change.Tie as tie
-use Rattle.enumerate.proofs.changed.left_may_change.Reads as reads
-use Rattle.enumerate.proofs.changed.left_may_change.Lts as lts
-use Rattle.enumerate.proofs.changed.may_change.Reads as may-change-reads
-use Rattle.plan.proofs.left_edge.Reads as left-edge-reads
 
 left-edge-requires : tie.Need-left-edge-requires
 left-edge-requires c κs = c .before .before .pre .holds

@@ -4,8 +4,6 @@ use native.Mathlib.Omega.{arith}
 use borrow.Author.Needs.{needs}
 use Rattle.enumerate.proofs.changed.may_change.Statement.{statement}
 use Rattle.enumerate.proofs.changed.may_change.Tie as tie
-use Rattle.enumerate.proofs.changed.may_change.Reads as reads
-use Rattle.enumerate.proofs.changed.may_change.Lts as lts
 
 returns : tie.Need-returns
 returns c = λ _ h. absurd (omega arith)

@@ -3,9 +3,6 @@ use native.Mathlib.Omega.{arith}
 use borrow.Author.Needs.{needs}
 use Rattle.enumerate.proofs.changed.standing_from.Statement.{statement}
 use Rattle.enumerate.proofs.changed.standing_from.Tie as tie
-use Rattle.enumerate.proofs.changed.standing_from.Reads as reads
-use Rattle.enumerate.proofs.changed.standing_from.Lts as lts
-use Rattle.enumerate.proofs.changed.changed_vertex.Reads as changed-vertex-reads
 
 returns : tie.Need-returns
 returns c = record { first = λ z. omega arith; then = λ p. absurd (omega arith) }

@@ -1,5 +1,5 @@
 -- The left edge, then the near edges, one by one.
-use mathlib.Core.Path.{_≡_, sym}
+use mathlib.Core.Path.{_≡_}
 use mathlib.Core.Bool.{true, false}
 use Prim.Native.Nat.{ℕ, _-_, _≤_, _<_}
 use borrow.Author.Count.{below-more}
@@ -8,12 +8,6 @@ use Rattle.enumerate.specs.Settled.{Settled}
 use native.Mathlib.Omega.{arith}
 use Rattle.enumerate.proofs.changed.step_may_change.Statement.{statement}
 use Rattle.enumerate.proofs.changed.step_may_change.Tie as tie
-use Rattle.enumerate.proofs.changed.step_may_change.Reads as reads
-use Rattle.enumerate.proofs.changed.step_may_change.Lts as lts
-use Rattle.enumerate.proofs.changed.left_may_change.Reads as left-may-change-reads
-use Rattle.enumerate.proofs.changed.may_change.Reads as may-change-reads
-use Rattle.plan.proofs.near_count.Reads as near-count-reads
-use Rattle.plan.proofs.near_edge.Reads as near-edge-reads
 
 abbrev Inv-loop : tie.InvT-loop
 Inv-loop plan t tree last near i₀ i = (i ≤ near) × ((k : ℕ) → k < i → Settled tree last (nearEdge plan t k))

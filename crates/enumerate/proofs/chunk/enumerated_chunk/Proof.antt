@@ -1,6 +1,6 @@
 -- Each turn sums a beta in its own part of the lists.
-use mathlib.Core.Path.{_≡_, refl, sym, ap, _∙_}
-use mathlib.Core.Bool.{true, false, not}
+use mathlib.Core.Path.{_≡_, refl, sym, _∙_}
+use mathlib.Core.Bool.{true, false}
 use Prim.Native.Nat.{ℕ, _+_, _-_, _*_, _≤_, _<_}
 use lib.ListN.{length}
 use borrow.Author.Tests.{not-true, not-false}
@@ -11,9 +11,6 @@ use Rattle.enumerate.proofs.Ranges.{came-back, summed-none, summed-more
 use native.Mathlib.Omega.{arith}
 use Rattle.enumerate.proofs.chunk.enumerated_chunk.Statement.{statement}
 use Rattle.enumerate.proofs.chunk.enumerated_chunk.Tie as tie
-use Rattle.enumerate.proofs.chunk.enumerated_chunk.Reads as reads
-use Rattle.enumerate.proofs.chunk.enumerated_chunk.Lts as lts
-use Rattle.enumerate.proofs.chunk.enumerated_run.Reads as enumerated-run-reads
 
 abbrev Inv-loop : tie.InvT-loop
 Inv-loop room₀ plan n w scales each us vs order lent betas tree signs₀ first size c₀ squares₀ fourths₀ pairs b₀ room signs c squares fourths b = Ranging plan us vs lent tree betas n w first each size b room₀ room signs₀ signs c₀ c squares₀ squares fourths₀ fourths

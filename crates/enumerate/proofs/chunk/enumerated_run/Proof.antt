@@ -2,28 +2,40 @@
 use mathlib.Core.Path.{_≡_, refl, sym, ap, _∙_}
 use mathlib.Core.Bool.{true, false, not}
 use Prim.Native.Nat.{ℕ, _+_, _-_, _<_}
-use lib.ListN.{length}
+use lib.Ieee.{Float}
 use borrow.Author.Tests.{not-true, not-false}
 use Rattle.sweep.specs.Constants.{zero-is}
+use Rattle.transfer.specs.Job.{Job}
+use Rattle.chunks.specs.Powers.{AddedBeta}
 use Rattle.chunks.specs.Sums.{passed-none, passed-more, not-passed}
 use Rattle.chunks.specs.Lists.{filled, stage-with, lent-with}
-use Rattle.enumerate.specs.Configurations.{Counting}
+use Rattle.enumerate.specs.Configurations.{PlanOfBeta, Counting}
 use Rattle.enumerate.proofs.Standing.{edges-in, run-stands, signed-at}
 use native.Mathlib.Omega.{arith}
 use Rattle.enumerate.proofs.chunk.enumerated_run.Statement.{statement}
 use Rattle.enumerate.proofs.chunk.enumerated_run.Tie as tie
-use Rattle.enumerate.proofs.chunk.enumerated_run.Reads as reads
-use Rattle.enumerate.proofs.chunk.enumerated_run.Lts as lts
-use Rattle.chunks.proofs.add_beta.Reads as add-beta-reads
-use Rattle.enumerate.proofs.changed.standing_from.Reads as standing-from-reads
-use Rattle.signs.proofs.enumerated_signs.Reads as enumerated-signs-reads
-use Rattle.sweep.proofs.fill.Reads as fill-reads
 
 abbrev Inv-loop : tie.InvT-loop
 Inv-loop room₀ plan n w scales each us vs order lent b tree signs₀ first size c₀ squares₀ fourths₀ sums j₀ room signs c squares fourths j = Counting plan us vs lent tree b n w first each j size room₀ room signs₀ signs c₀ c squares₀ squares fourths₀ fourths
 
 abbrev μ-loop : tie.MeasureT-loop
 μ-loop room₀ plan n w scales each us vs order lent b tree signs₀ first size c₀ squares₀ fourths₀ sums j₀ room signs c squares fourths j = size - j
+
+-- what the beta's function told of configuration j
+told : (c : tie.After-add-beta Inv-loop μ-loop)
+    → let a = c .before .before .before .before .before .before .before .before .before .before .before .before .before .before .before .before .before .before .before .before .before .before .before .before .before .before .before .before .before .before .before .before .args in
+    let l = c .before .before .before .before .before .before .before .before .before .before .before .before .loop in
+    let r = c .add-beta in
+    (J : ℕ → Job Float) → PlanOfBeta J (a .plan .now) (a .lent .now) (a .tree .now) (a .b) (a .n) (a .w) (a .each)
+    → AddedBeta (J (a .first + l .j)) (a .plan .now) (a .us .now) (a .vs .now) (r .last .0) (a .n) (a .w) (r .result) (l .squares) (r .last .1 .1 .1 .1 .1 .1 .1 .1 .1 .1 .1 .1 .1 .1 .0) (l .fourths) (r .last .1 .1 .1 .1 .1 .1 .1 .1 .1 .1 .1 .1 .1 .1 .1 .0)
+told c J of =
+    let s = c .before .before .before .before .before .before .before .before .before .before .before .before .before .before .before .before .before .before .before .before .before .before .before .before .before .before .before .before .before .before .before .before in
+    let a = s .args in
+    let l = c .before .before .before .before .before .before .before .before .before .before .before .before .loop in
+    let e = c .before .before .before .before .before .before .before .before .before .enumerated-signs in
+    c .add-beta .ensures (J (a .first + l .j))
+    (signed-at (J (a .first + l .j)) (a .plan .now) (a .lent .now) (a .tree .now) _ (a .b) (a .n) (a .w) (a .first + l .j) (a .each) (e .ensures .0) (of (a .first + l .j)))
+    (run-stands (a .plan .now) (a .lent .now) (a .tree .now) (l .signs) _ (l .room) _ (a .n) (a .w) (a .scales) (a .each) (a .b) (a .first) (l .j) _ _ (s .pre .0 .ready) (s .pre .0 .ends) (c .before .before .before .before .before .before .standing-from .ensures) (l .inv .signed) (e .ensures .0) (e .ensures .1) J of (l .inv .stands J of))
 
 fill-requires : tie.Need-fill-requires Inv-loop μ-loop
 fill-requires c κs = omega arith
@@ -85,15 +97,10 @@ returns c =
     let a = s .args in
     let l = c .before .before .before .before .before .before .before .before .before .before .before .before .before .before .before .before .before .before .before .before .before .loop in
     let i = l .inv in
-    let add = c .before .before .before .before .before .before .before .before .before .add-beta in
-    let from = c .before .before .before .before .before .before .before .before .before .before .before .before .before .before .before .standing-from .ensures in
-    let e = c .before .before .before .before .before .before .before .before .before .before .before .before .before .before .before .before .before .before .enumerated-signs in
     let t : l .j < a .size = omega (arith, c .before .before .before .before .before .before .before .before .before .before .before .before .before .before .before .before .before .before .before .before .loop-test .taken) in
     let no : true ≡ false → ⊥ = λ z. (let z′ : _≡_ {A = ℕ} 0 1 = cc in omega arith) in
     λ J of.
-    let stands = run-stands (a .plan .now) (a .lent .now) (a .tree .now) (l .signs) _ (l .room) _ (a .n) (a .w) (a .scales) (a .each) (a .b) (a .first) (l .j) _ _ (s .pre .0 .ready) (s .pre .0 .ends) from (i .signed) (e .ensures .0) (e .ensures .1) J of (i .stands J of) in
-    let told = add .ensures (J (a .first + l .j)) (signed-at (J (a .first + l .j)) (a .plan .now) (a .lent .now) (a .tree .now) _ (a .b) (a .n) (a .w) (a .first + l .j) (a .each) (e .ensures .0) (of (a .first + l .j))) stands in
-    (not-passed _ _ _ (l .j) _ _ (i .passed J of) _ (told .told) _ t (not-true _ (c .if1 .taken)), λ z. absurd (no (sym z)))
+    (not-passed _ _ _ (l .j) _ _ (i .passed J of) _ (told (c .before .before .before .before .before .before .before .before .before) J of .told) _ t (not-true _ (c .if1 .taken)), λ z. absurd (no (sym z)))
 
 add-j : tie.Need-add-j Inv-loop μ-loop
 add-j c = omega (arith, c .before .before .before .before .before .before .before .before .before .before .before .before .before .before .before .before .before .before .before .before .loop-test .taken, c .before .before .before .before .before .before .before .before .before .before .before .before .before .before .before .before .before .before .before .before .before .before .before .before .before .before .before .before .before .before .before .before .before .before .before .before .before .before .before .before .before .pre .2 .fits)
@@ -108,7 +115,6 @@ loop-again c =
     let l = c .before .before .before .before .before .before .before .before .before .before .before .before .before .before .before .before .before .before .before .before .before .loop in
     let i = l .inv in
     let add = c .before .before .before .before .before .before .before .before .before .add-beta in
-    let from = c .before .before .before .before .before .before .before .before .before .before .before .before .before .before .before .standing-from .ensures in
     let e = c .before .before .before .before .before .before .before .before .before .before .before .before .before .before .before .before .before .before .enumerated-signs in
     let t : l .j < a .size = omega (arith, c .before .before .before .before .before .before .before .before .before .before .before .before .before .before .before .before .before .before .before .before .loop-test .taken) in
     let yes = not-false _ (c .if1 .left) in
@@ -120,14 +126,10 @@ loop-again c =
       squareds = add .kept .1 .1 .1 .1 .1 .1 .1 .1 .1 .1 .1 .1 .1 .1 .0 ∙ i .squareds;
       fourthds = add .kept .1 .1 .1 .1 .1 .1 .1 .1 .1 .1 .1 .1 .1 .1 .1 .0 ∙ i .fourthds;
       signed = λ k z. let same : k ≡ l .j = omega arith in rw same (e .ensures .0);
-      stands = λ J of k z. let same : k ≡ l .j = omega arith in (
-          let stands = run-stands (a .plan .now) (a .lent .now) (a .tree .now) (l .signs) _ (l .room) _ (a .n) (a .w) (a .scales) (a .each) (a .b) (a .first) (l .j) _ _ (s .pre .0 .ready) (s .pre .0 .ends) from (i .signed) (e .ensures .0) (e .ensures .1) J of (i .stands J of) in
-          let told = add .ensures (J (a .first + l .j)) (signed-at (J (a .first + l .j)) (a .plan .now) (a .lent .now) (a .tree .now) _ (a .b) (a .n) (a .w) (a .first + l .j) (a .each) (e .ensures .0) (of (a .first + l .j))) stands in
-          rw same (told .kept));
+      stands = λ J of k z. let same : k ≡ l .j = omega arith in rw same (told (c .before .before .before .before .before .before .before .before .before) J of .kept);
       passed = λ J of.
-          let stands = run-stands (a .plan .now) (a .lent .now) (a .tree .now) (l .signs) _ (l .room) _ (a .n) (a .w) (a .scales) (a .each) (a .b) (a .first) (l .j) _ _ (s .pre .0 .ready) (s .pre .0 .ends) from (i .signed) (e .ensures .0) (e .ensures .1) J of (i .stands J of) in
-          let told = add .ensures (J (a .first + l .j)) (signed-at (J (a .first + l .j)) (a .plan .now) (a .lent .now) (a .tree .now) _ (a .b) (a .n) (a .w) (a .first + l .j) (a .each) (e .ensures .0) (of (a .first + l .j))) stands in
-          passed-more _ _ _ (l .j) _ _ (i .passed J of) _ (told .told) _ _ yes (told .powers yes);
+          let t = told (c .before .before .before .before .before .before .before .before .before) J of in
+          passed-more _ _ _ (l .j) _ _ (i .passed J of) _ (t .told) _ _ yes (t .powers yes);
     }
 
 same-length-6 : tie.Need-same-length-6 Inv-loop μ-loop

@@ -12,11 +12,6 @@ use Rattle.signs.proofs.Bits.{free-none, free-more, free-fits, minus-is
 use borrow.Author.Needs.{needs}
 use Rattle.signs.proofs.numbered.enumerated_signs.Statement.{statement}
 use Rattle.signs.proofs.numbered.enumerated_signs.Tie as tie
-use Rattle.signs.proofs.numbered.enumerated_signs.Reads as reads
-use Rattle.signs.proofs.numbered.enumerated_signs.Lts as lts
-use Rattle.signs.proofs.numbered.is_minus.Reads as is-minus-reads
-use Rattle.signs.proofs.numbered.last_changed.Reads as last-changed-reads
-use Rattle.signs.proofs.numbered.next_bit.Reads as next-bit-reads
 
 abbrev Inv-loop : tie.InvT-loop
 Inv-loop signs₀ tree x last₀ i₀ e₀ signs last i e = (e ≤ length tree) × (i ≡ freeBefore (λ k. getD tree k false) e) × (length signs ≡ length signs₀) × (signs ≡ over (tabulate (enumeratedMinus (λ k. getD tree k false) x) e) signs₀) × SamePast (enumeratedMinus (λ k. getD tree k false) x) signs₀ last e

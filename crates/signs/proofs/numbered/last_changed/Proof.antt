@@ -3,8 +3,6 @@ use mathlib.Core.Path.{refl, sym, _∙_}
 use mathlib.Core.Logic.{inl, inr}
 use Rattle.signs.proofs.numbered.last_changed.Statement.{statement}
 use Rattle.signs.proofs.numbered.last_changed.Tie as tie
-use Rattle.signs.proofs.numbered.last_changed.Reads as reads
-use Rattle.signs.proofs.numbered.last_changed.Lts as lts
 
 returns : tie.Need-returns
 returns c = inr (refl, c .if2 .taken ∙ sym (c .before .if1 .taken))

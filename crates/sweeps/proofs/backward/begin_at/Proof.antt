@@ -6,40 +6,28 @@ use Rattle.sweep.specs.Constants.{one-is}
 use borrow.Author.Needs.{needs}
 use Rattle.sweeps.proofs.backward.begin_at.Statement.{statement}
 use Rattle.sweeps.proofs.backward.begin_at.Tie as tie
-use Rattle.sweeps.proofs.backward.begin_at.Reads as reads
-use Rattle.sweeps.proofs.backward.begin_at.Lts as lts
-use Rattle.half_sums.proofs.half_stored.Reads as half-stored-reads
-use Rattle.sweeps.proofs.target.start_at.Reads as start-at-reads
 
--- src/backward.rt:63:8
 add-if1 : tie.Need-add-if1
 add-if1 c = search needs
 
--- src/backward.rt:64:51
 add-half-stored : tie.Need-add-half-stored
 add-half-stored c = search needs
 
--- src/backward.rt:64:9
 half-stored-requires : tie.Need-half-stored-requires
 half-stored-requires c κs = search needs
 
--- src/backward.rt:64:9
 same-length : tie.Need-same-length
 same-length c = search needs
 
--- src/backward.rt:64:9
 returns : tie.Need-returns
 returns c = inr (record { early = omega arith; same = refl; taken = c .half-stored .ensures })
 
--- src/backward.rt:66:5
 start-at-requires : tie.Need-start-at-requires
 start-at-requires c κs = search needs
 
--- src/backward.rt:59:1
 same-length-2 : tie.Need-same-length-2
 same-length-2 c = search needs
 
--- src/backward.rt:59:1
 returns-2 : tie.Need-returns-2
 returns-2 c = inl (record { last = omega arith; made = c .before .before .start-at .ensures; one = one-is })
 

@@ -4,9 +4,6 @@ use Prim.Native.Nat.{_+_, _-_, _≤_}
 use native.Mathlib.Omega.{arith}
 use Rattle.sweeps.proofs.backward.kept_from.Statement.{statement}
 use Rattle.sweeps.proofs.backward.kept_from.Tie as tie
-use Rattle.sweeps.proofs.backward.kept_from.Reads as reads
-use Rattle.sweeps.proofs.backward.kept_from.Lts as lts
-use Rattle.plan.proofs.backward_place.Reads as backward-place-reads
 
 abbrev Inv-loop : tie.InvT-loop
 Inv-loop plan n c last t₀ t = (last + 1 ≡ n) × (c ≤ t)
@@ -14,35 +11,27 @@ Inv-loop plan n c last t₀ t = (last + 1 ≡ n) × (c ≤ t)
 abbrev μ-loop : tie.MeasureT-loop
 μ-loop plan n c last t₀ t = last - t
 
--- src/backward.rt:47:16
 sub-last : tie.Need-sub-last Inv-loop μ-loop
 sub-last c = omega arith
 
--- src/backward.rt:49:5
 loop-holds : tie.Need-loop-holds Inv-loop μ-loop
 loop-holds c = omega arith
 
--- src/backward.rt:50:12
 backward-place-requires : tie.Need-backward-place-requires Inv-loop μ-loop
 backward-place-requires c κs = omega arith
 
--- src/backward.rt:51:13
 returns : tie.Need-returns Inv-loop μ-loop
 returns c = record { below = omega arith; from = λ b. omega arith; placed = λ b. omega (arith, c .before .backward-place .ensures) }
 
--- src/backward.rt:53:9
 add-t : tie.Need-add-t Inv-loop μ-loop
 add-t c = omega arith
 
--- src/backward.rt:49:5
 loop-less : tie.Need-loop-less Inv-loop μ-loop
 loop-less c = omega arith
 
--- src/backward.rt:49:5
 loop-again : tie.Need-loop-again Inv-loop μ-loop
 loop-again c = omega arith
 
--- src/backward.rt:43:1
 returns-2 : tie.Need-returns-2 Inv-loop μ-loop
 returns-2 c = record { below = omega arith; from = λ b. absurd (omega arith); placed = λ b. absurd (omega arith) }
 
