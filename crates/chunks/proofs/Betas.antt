@@ -3,23 +3,23 @@ use mathlib.Core.Path.{_≡_, refl, sym, ap, _∙_}
 use mathlib.Core.Bool.{Bool, true, false, not}
 use mathlib.Core.List.{List, [], _++_, append-nil}
 use mathlib.Core.Logic.{inr}
-use Prim.Native.Nat.{ℕ, zero, suc, _+_, _*_, _/_, _%_, _≤_, _<_}
-use native.Mathlib.Nat.{zero-add, zero-mul, add-zero, suc-mul, mul-le-mul-right, mul-add-div-right, mul-add-mod-self-right, mod-eq-of-lt, div-eq-of-lt}
-use native.Mathlib.Numerals.{add-one}
+use Prim.Native.Nat.{ℕ, _+_, _*_, _≤_, _<_}
+use native.Mathlib.Nat.{zero-add, zero-mul, mul-le-mul-right}
 use native.Mathlib.Omega.{arith}
 use lib.Ieee.{Float, nan, binary64, add}
 use lib.ListN.{length, getD, take, drop, drop-of-length-le}
 use Rattle.vector.specs.Part.{put, put-out, fill-none, fill-run, fill-length}
 use Rattle.vector.specs.Search.{some}
 use Rattle.vector.specs.Search as Search
-use Rattle.vector.specs.Tabulate.{tabulate, tabulate-length, tabulate-at}
+use Rattle.vector.specs.Tabulate.{tabulate, tabulate-length, tabulate-at, tabulate-ext}
 use Rattle.transfer.specs.Job.{Job}
 use Rattle.transfer.specs.Rounded.{ieee}
 use Rattle.transfer.specs.Sweep as S
 use Rattle.transfer.specs.Totals.{square, fourth}
 use Rattle.answers.specs.Sound.{unsound, Outcome}
 use Rattle.chunks.specs.Passing.{one-passed, one-failed}
-use Rattle.chunks.specs.Powers.{addedAt, addedTo, correlationAt, AddedPowers}
+use Rattle.chunks.specs.Powers.{addedAt, addedTo, pairAt, correlationAt, pair-numbered, AddedPowers}
+use Rattle.chunks.specs.Lists.{put-all}
 use Rattle.chunks.specs.SoFar.{partly, SoFar}
 
 -- ---- lists
@@ -48,23 +48,28 @@ partly-all l n term e =
     let t = tabulate-length F n in
     ap (λ (y : List Float). tabulate F n ++ y) (drop-of-length-le l {i = 0 + length (tabulate F n)} (omega arith)) ∙ append-nil (tabulate F n)
 
+-- ---- one configuration at one beta
+
+module _ (J : Job Float) (us vs : List ℕ) where
+  pair-at : (c : List Float) → c ≡ S.answers ieee J us vs → (p : ℕ) → p < length us → getD c p nan ≡ pairAt J us vs p
+  unfolding S.answers
+  pair-at c e p l = ap (λ (y : List Float). getD y p nan) e ∙ tabulate-at (pairAt J us vs) (length us) p nan l
+
+  -- its powers, added to a list of a number a pair
+  pub pairs-added : (l v c : List Float) (power : Float → Float) → length l ≡ length us → length c ≡ length us → c ≡ S.answers ieee J us vs
+      → v ≡ addedAt l 0 (length c) (λ p. power (getD c p nan)) → v ≡ addedTo l (length us) (λ p. power (pairAt J us vs p))
+  pairs-added l v c power long full e q =
+      let F : ℕ → Float = λ i. add binary64 (getD l (0 + i) nan) (power (getD c i nan)) in
+      q ∙ put-all l (tabulate F (length c)) (tabulate-length F (length c) ∙ full ∙ sym long)
+      ∙ ap (tabulate F) full
+      ∙ tabulate-ext F (λ p. add binary64 (getD l p nan) (power (pairAt J us vs p))) (length us) (λ p b. rw (zero-add, pair-at c e p b))
+
 -- ---- one beta more
 
 module _ (J : ℕ → Job Float) (us vs : List ℕ) where
-  -- pair i of beta b
-  numbered : (b i : ℕ) → i < length us → S.answer ieee (J b) (getD us i 0) (getD vs i 0) ≡ correlationAt J us vs (b * length us + i)
-  numbered b i l =
-      let some : 0 < length us = omega arith in
-      let d : (b * length us + i) / length us ≡ b = mul-add-div-right some b i ∙ ap (λ (k : ℕ). b + k) (div-eq-of-lt l) ∙ add-zero b in
-      let m : (b * length us + i) % length us ≡ i = mul-add-mod-self-right b (length us) i ∙ mod-eq-of-lt l in
-      rw (d, m)
-
   -- the results of beta b are its correlations
   results-at : (b : ℕ) (c : List Float) → c ≡ S.answers ieee (J b) us vs → (i : ℕ) → i < length us → getD c i nan ≡ correlationAt J us vs (b * length us + i)
-  unfolding S.answers
-  results-at b c e i l =
-      ap (λ (y : List Float). getD y i nan) e
-      ∙ tabulate-at (λ j. S.answer ieee (J b) (getD us j 0) (getD vs j 0)) (length us) i nan l ∙ numbered b i l
+  results-at b c e i l = pair-at (J b) us vs c e i l ∙ pair-numbered J us vs b i l
 
   module _ (c : List Float) (b : ℕ) (sound : Bool) (o : Outcome (J b) us vs c sound) where
     -- a beta that did not pass

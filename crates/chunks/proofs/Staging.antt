@@ -2,18 +2,25 @@
 use mathlib.Core.Path.{_≡_, refl, sym, ap, _∙_, subst}
 use mathlib.Core.Bool.{Bool}
 use mathlib.Core.List.{List}
-use Prim.Native.Nat.{ℕ, _+_, _*_, _≤_, _<_}
+use mathlib.Core.Logic.{inl}
+use Prim.Native.Nat.{ℕ, _+_, _*_, _^_, _≤_, _<_}
 use native.Mathlib.Nat.{mul-le-mul-right}
 use native.Mathlib.Omega.{arith}
 use lib.Ieee.{Float, nan}
 use lib.ListN.{length, getD, drop, length-drop}
 use lib.Seq.{ext-getD, getD-drop}
-use Rattle.vector.specs.Part.{put, part, part-at, part-put, put-length}
+use Rattle.vector.specs.Part.{put, part, part-at, part-put, part-put-out, put-length}
 use Rattle.transfer.specs.Job.{Job}
-use Rattle.vertex.specs.Ready.{Ready, PlanOf, Swept}
+use Rattle.plan.specs.Layout.{backwardPlace}
+use Rattle.sweep.specs.Place.{held}
+use Rattle.vertex.specs.Same.{even-ext}
+use Rattle.vertex.specs.Frame.{Fits, half-held}
+use Rattle.vertex.specs.Ready.{Ready, PlanOf, Backward, Swept, Still, still-swept}
+use Rattle.sweeps.specs.Begun.{Stands}
 use Rattle.sweeps.specs.Kept.{SameFrom}
 use Rattle.answers.specs.Sound.{Outcome}
-use Rattle.chunks.specs.Stage.{Stage, Lent}
+use Rattle.chunks.specs.Stage.{Stage}
+use Rattle.chunks.specs.Lists.{part-of}
 
 -- a list laid at another's end is what lies there
 pub laid-last : (d x : List Float) (at : ℕ) → at + length x ≡ length d → drop at (put d at x) ≡ x
@@ -25,33 +32,40 @@ laid-last d x at e =
     let b′ : i < length x = omega (arith, length-drop at (put d at x)) in
     getD-drop at (put d at x) i nan ∙ sym (part-at (put d at x) at (length x) i nan b′) ∙ ap (λ (y : List Float). getD y i nan) (part-put d at x fits))
 
-module _ (plan us vs : List ℕ) (x r r₁ r₂ results : List Float) (n w scales : ℕ) (each sound : Bool)
+module _ (plan us vs : List ℕ) (x r r₁ r₂ r₃ results : List Float) (n w scales c : ℕ) (each sound : Bool) (g : Ready plan (length r) n w scales)
     (laid : r₁ ≡ put r (scales + n) x) (ends : scales + n + length x ≡ length r) (same : SameFrom r₁ r₂ (scales + n))
-    (swept : (J : Job Float) → PlanOf J plan (drop (scales + n) r₁) n w each → Swept J plan r₂ n w scales)
+    (swept : (J : Job Float) → PlanOf J plan (drop (scales + n) r₁) n w each → Stands J plan r₁ n w c → Swept J plan r₂ n w scales)
+    (still : Still r₂ r₃ w scales)
     (told : (J : Job Float) (each : Bool) → PlanOf J plan (drop (scales + n) r₂) n w each → Swept J plan r₂ n w scales → Outcome J us vs results sound) where
-  pub told-of : (J : Job Float) → PlanOf J plan x n w each → Outcome J us vs results sound
-  told-of J of =
+  fits : scales + n + length x ≤ length r
+  fits = omega arith
+
+  -- the factors lie behind the places
+  laid-held : (p : ℕ) → Fits w scales p → held r₁ w p ≡ held r w p
+  laid-held p f =
+      ap (λ (y : List Float). held y w p) laid
+      ∙ part-put-out r (scales + n) x fits nan (p * 2 ^ w) (2 ^ w) (record { from = omega (arith, g .ends); to = fits; off = inl (omega arith) })
+
+  laid-stands : (J : Job Float) → Stands J plan r n w c → Stands J plan r₁ n w c
+  laid-stands J given early =
+      record {
+        vectors = λ u a b p.
+            even-ext (given early .vectors u a b p) (half-held r r₁ w (backwardPlace plan u) (laid-held _ (g .backward .fits u b p)));
+      }
+
+  pub told-of : (J : Job Float) → PlanOf J plan x n w each → Stands J plan r n w c → Outcome J us vs results sound × Backward J plan r₃ n w 0
+  told-of J of given =
       let e : drop (scales + n) r₁ ≡ x = ap (drop (scales + n)) laid ∙ laid-last r x (scales + n) ends in
       let of₁ : PlanOf J plan (drop (scales + n) r₁) n w each = rw e of in
-      told J each (rw (same .tail) of₁) (swept J of₁)
+      let s = swept J of₁ (laid-stands J given) in
+      let l : length r₂ ≡ length r = same .same ∙ ap length laid ∙ put-length r (scales + n) x fits in
+      (told J each (rw (same .tail) of₁) s, still-swept J plan r₂ r₃ n w scales (rw l g) still s .backward)
 
 -- lists that kept their lengths
 pub stage-keep : {plan us vs order : List ℕ} {m n w scales end results end′ results′ : ℕ} → Stage plan us vs order m n w scales end results
     → end′ ≡ end → results′ ≡ results → Stage plan us vs order m n w scales end′ results′
 stage-keep g p q = rw (p, q) g
 
--- the factors of the first betas
-pub lent-first : {lent m betas : ℕ} (b : ℕ) → Lent lent m betas → b < betas → Lent lent m (b + 1)
-lent-first {lent} {m} {betas} b g l =
-    let h : (b + 1) * m ≤ betas * m = mul-le-mul-right m (omega arith) in
-    let e = g .enough in
-    let f = g .few in
-    record { enough = omega arith; few = omega arith }
-
--- beta b has its own part of the sums
-pub part-of : (b betas np : ℕ) → b < betas → b * np + np ≤ betas * np
-part-of b betas np l = let h : (b + 1) * np ≤ betas * np = mul-le-mul-right np (omega arith) in omega arith
-
--- and of what is stored
+-- beta b has its own part of what is stored
 pub part-stored : (b betas np all : ℕ) → b < betas → (b * np + np) * all ≤ betas * np * all
 part-stored b betas np all l = mul-le-mul-right all (part-of b betas np l)

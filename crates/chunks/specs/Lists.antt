@@ -2,7 +2,8 @@
 use mathlib.Core.Path.{_≡_, refl, sym, ap, _∙_, subst}
 use mathlib.Core.Bool.{Bool}
 use mathlib.Core.List.{List, _++_, append-nil}
-use Prim.Native.Nat.{ℕ, _+_, _≤_, _<_}
+use Prim.Native.Nat.{ℕ, _+_, _*_, _≤_, _<_}
+use native.Mathlib.Nat.{mul-le-mul-right}
 use native.Mathlib.Omega.{arith}
 use lib.Ieee.{Float}
 use lib.ListN.{length, drop, drop-of-length-le}
@@ -26,6 +27,18 @@ stage-with g o p q = rw (o, p, q) g
 
 pub lent-with : {lent m betas m′ : ℕ} → Lent lent m betas → m′ ≡ m → Lent lent m′ betas
 lent-with g o = rw o g
+
+-- the factors of the first betas
+pub lent-first : {lent m betas : ℕ} (b : ℕ) → Lent lent m betas → b < betas → Lent lent m (b + 1)
+lent-first {lent} {m} {betas} b g l =
+    let h : (b + 1) * m ≤ betas * m = mul-le-mul-right m (omega arith) in
+    let e = g .enough in
+    let f = g .few in
+    record { enough = omega arith; few = omega arith }
+
+-- beta b has its own part of the sums
+pub part-of : (b betas np : ℕ) → b < betas → b * np + np ≤ betas * np
+part-of b betas np l = let h : (b + 1) * np ≤ betas * np = mul-le-mul-right np (omega arith) in omega arith
 
 -- the signs that were made are those of m edges that a rule gives
 pub signed-of : (J : ℕ → Job Float) (plan : List ℕ) (lent : List Float) (minus : ℕ → Bool) (signs : List Bool) (m betas n w : ℕ) (each : Bool)

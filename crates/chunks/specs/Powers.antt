@@ -1,7 +1,10 @@
 -- Squares and fourth powers added to two lists.
-use mathlib.Core.Path.{_≡_}
+use mathlib.Core.Path.{_≡_, ap, _∙_}
+use mathlib.Core.Bool.{Bool, true, not}
 use mathlib.Core.List.{List}
-use Prim.Native.Nat.{ℕ, _+_, _*_, _/_, _%_}
+use Prim.Native.Nat.{ℕ, _+_, _*_, _/_, _%_, _<_}
+use native.Mathlib.Nat.{add-zero, mul-add-div-right, mul-add-mod-self-right, mod-eq-of-lt, div-eq-of-lt}
+use native.Mathlib.Omega.{arith}
 use lib.Ieee.{Float, nan, binary64, add}
 use lib.ListN.{length, getD}
 use Rattle.vector.specs.Tabulate.{tabulate}
@@ -10,6 +13,8 @@ use Rattle.transfer.specs.Job.{Job}
 use Rattle.transfer.specs.Rounded.{ieee}
 use Rattle.transfer.specs.Sweep as S
 use Rattle.transfer.specs.Totals.{square, fourth}
+use Rattle.vertex.specs.Ready.{Backward}
+use Rattle.answers.specs.Sound.{unsound}
 
 -- The n numbers of a list from `at` on, each with a term added.
 abbrev pub addedAt : List Float → ℕ → ℕ → (ℕ → Float) → List Float
@@ -19,12 +24,31 @@ addedAt l at n term = put l at (tabulate (λ i. add binary64 (getD l (at + i) na
 abbrev pub addedTo : List Float → ℕ → (ℕ → Float) → List Float
 addedTo l n term = tabulate (λ k. add binary64 (getD l k nan) (term k)) n
 
+-- The correlation of pair p.
+abbrev pub pairAt : Job Float → List ℕ → List ℕ → ℕ → Float
+pairAt J us vs p = S.answer ieee J (getD us p 0) (getD vs p 0)
+
 -- The correlation at k: pairs are numbered within betas.
 abbrev pub correlationAt : (ℕ → Job Float) → List ℕ → List ℕ → ℕ → Float
 correlationAt J us vs k =
-    S.answer ieee (J (k / length us)) (getD us (k % length us) 0) (getD vs (k % length us) 0)
+    pairAt (J (k / length us)) us vs (k % length us)
+
+-- It is that of pair p of beta b.
+pub pair-numbered : (J : ℕ → Job Float) (us vs : List ℕ) (b p : ℕ) → p < length us → pairAt (J b) us vs p ≡ correlationAt J us vs (b * length us + p)
+pair-numbered J us vs b p l =
+    let some : 0 < length us = omega arith in
+    let d : (b * length us + p) / length us ≡ b = mul-add-div-right some b p ∙ ap (λ (k : ℕ). b + k) (div-eq-of-lt l) ∙ add-zero b in
+    let m : (b * length us + p) % length us ≡ p = mul-add-mod-self-right b (length us) p ∙ mod-eq-of-lt l in
+    rw (d, m)
 
 -- Two lists of sums with the powers of n correlations added.
 pub record AddedPowers (c : ℕ → Float) (n : ℕ) (squares squares′ fourths fourths′ : List Float) : Type 0 where
   pub squared : squares′ ≡ addedTo squares n (λ k. square ieee (c k))
   pub fourthed : fourths′ ≡ addedTo fourths n (λ k. fourth ieee (c k))
+
+-- One configuration at one beta: whether it passed, the sums with its powers added, and its backward vectors, which stand in the room r.
+pub record AddedBeta (J : Job Float) (plan us vs : List ℕ) (r : List Float) (n w : ℕ) (passed : Bool) (squares squares′ fourths fourths′ : List Float)
+    : Type 0 where
+  pub told : passed ≡ not (unsound J us vs)
+  pub powers : passed ≡ true → AddedPowers (pairAt J us vs) (length us) squares squares′ fourths fourths′
+  pub kept : Backward J plan r n w 0

@@ -6,17 +6,19 @@ ghost use lib.Ieee.{Float};
 ghost use lib.ListN.{length};
 ghost use Rattle.vector.specs.Search.{some};
 ghost use Rattle.transfer.specs.Job.{Job};
-ghost use Rattle.vertex.specs.Ready.{PlanOf};
+ghost use Rattle.vertex.specs.Ready.{PlanOf, Backward};
+ghost use Rattle.sweeps.specs.Begun.{Stands};
 ghost use Rattle.answers.specs.Sound.{unsound, Outcome};
 ghost use Rattle.chunks.specs.Signed.{signedFactors, PlanOfAll};
-ghost use Rattle.chunks.specs.Powers.{correlationAt, AddedPowers};
+ghost use Rattle.chunks.specs.Powers.{correlationAt, AddedPowers, AddedBeta};
 ghost use Rattle.chunks.specs.Stage.{Stage, Lent};
 use crate::powers::add_powers;
 use crate::signed::lay_signed;
 use answers::answer_pairs;
 use sweeps::sweep;
 
-// The correlations at beta b, with these signs. Answers whether every pair's Z is finite and above zero.
+// The correlations at beta b, with these signs. Answers whether every pair's Z is finite and above zero. The kept backward vectors from
+// vertex `changed` on stand already; none does where `changed` is the last vertex or more.
 pub(crate) fn answer_signed(
     room: &mut [f64],
     plan: &[usize],
@@ -30,16 +32,68 @@ pub(crate) fn answer_signed(
     lent: &[f64],
     b: usize,
     signs: &[bool],
+    changed: usize,
     c: &mut [f64],
 ) -> bool
     requires { ⌜ Stage (now plan) (now us) (now vs) (now order) (length (now signs)) n w scales (length (now room)) (length (now c))
         × Lent (length (now lent)) (length (now signs)) (b + 1) ⌝ }
     ensures { λ r. ⌜ ((J : Job Float) → PlanOf J (now (plan .entry)) (signedFactors (now (lent .entry)) (length (now (signs .entry))) b (now (signs .entry))) n w each
-        → Outcome J (now (us .entry)) (now (vs .entry)) (now (c .exit)) r) ⌝ }
+        → Stands J (now (plan .entry)) (now (room .entry)) n w changed
+        → Outcome J (now (us .entry)) (now (vs .entry)) (now (c .exit)) r × Backward J (now (plan .entry)) (now (room .exit)) n w 0) ⌝ }
 {
     lay_signed(room, scales + n, lent, b, signs);
-    sweep(room, plan, n, w, scales, each);
+    sweep(room, plan, n, w, scales, each, changed);
     answer_pairs(room, plan, n, w, scales, us, vs, order, c)
+}
+
+// Adds the powers of a configuration's correlations at beta b to two lists of a number a pair. Answers whether every Z was finite and above
+// zero. `changed` is as in `answer_signed`.
+pub fn add_beta(
+    room: &mut [f64],
+    plan: &[usize],
+    n: usize,
+    w: usize,
+    scales: usize,
+    each: bool,
+    us: &[usize],
+    vs: &[usize],
+    order: &[usize],
+    lent: &[f64],
+    b: usize,
+    signs: &[bool],
+    changed: usize,
+    c: &mut [f64],
+    squares: &mut [f64],
+    fourths: &mut [f64],
+) -> bool
+    requires { ⌜ Stage (now plan) (now us) (now vs) (now order) (length (now signs)) n w scales (length (now room)) (length (now c))
+        × Lent (length (now lent)) (length (now signs)) (b + 1)
+        × (length (now squares) ≡ length (now us)) × (length (now fourths) ≡ length (now us)) ⌝ }
+    ensures { λ r. ⌜ ((J : Job Float) → PlanOf J (now (plan .entry)) (signedFactors (now (lent .entry)) (length (now (signs .entry))) b (now (signs .entry))) n w each
+        → Stands J (now (plan .entry)) (now (room .entry)) n w changed
+        → AddedBeta J (now (plan .entry)) (now (us .entry)) (now (vs .entry)) (now (room .exit)) n w r
+        (now (squares .entry)) (now (squares .exit)) (now (fourths .entry)) (now (fourths .exit))) ⌝ }
+{
+    if !answer_signed(
+        room,
+        plan,
+        n,
+        w,
+        scales,
+        each,
+        us,
+        vs,
+        order,
+        lent,
+        b,
+        signs,
+        changed,
+        c,
+    ) {
+        return false;
+    }
+    add_powers(squares, fourths, 0, c);
+    true
 }
 
 // Adds the powers of a configuration's correlations, at the first `betas` betas, to a chunk's sums. Answers whether every Z was finite and
@@ -84,6 +138,7 @@ pub fn add_configuration(
             lent,
             b,
             signs,
+            n,
             c,
         ) {
             return false;

@@ -4,6 +4,7 @@ mod powers;
 mod signed;
 mod store;
 
+pub use configuration::add_beta;
 pub use configuration::add_configuration;
 pub use powers::add_sums;
 pub use store::store_configuration;

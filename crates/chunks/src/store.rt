@@ -70,6 +70,7 @@ pub fn store_configuration(
             lent,
             b,
             signs,
+            n,
             c,
         ) {
             return false;

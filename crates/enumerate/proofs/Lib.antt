@@ -1,2 +1,4 @@
 -- Laws that the proofs share.
 mod Blocks
+mod Standing
+mod Ranges

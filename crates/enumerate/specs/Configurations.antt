@@ -2,16 +2,20 @@
 use mathlib.Core.Path.{_≡_}
 use mathlib.Core.Bool.{Bool, false}
 use mathlib.Core.List.{List}
-use Prim.Native.Nat.{ℕ, _+_, _*_, _≤_}
-use lib.Ieee.{Float}
+use Prim.Native.Nat.{ℕ, _+_, _*_, _≤_, _<_}
+use lib.Ieee.{Float, nan}
 use lib.ListN.{length, getD}
 use Rattle.vector.specs.Search.{some}
 use Rattle.vector.specs.Tabulate.{tabulate}
 use Rattle.transfer.specs.Job.{Job}
 use Rattle.transfer.specs.Configuration.{freeBefore, enumeratedMinus}
+use Rattle.transfer.specs.Arithmetic.{sum}
+use Rattle.transfer.specs.Rounded.{ieee}
+use Rattle.transfer.specs.Totals.{square, fourth}
+use Rattle.vertex.specs.Ready.{PlanOf, Backward}
 use Rattle.answers.specs.Sound.{unsound}
-use Rattle.chunks.specs.Signed.{PlanOfAll}
-use Rattle.chunks.specs.Powers.{correlationAt}
+use Rattle.chunks.specs.Signed.{signedFactors, PlanOfAll}
+use Rattle.chunks.specs.Powers.{pairAt, correlationAt}
 use Rattle.chunks.specs.Stored.{Stored}
 use Rattle.chunks.specs.Sums.{Passed}
 
@@ -29,8 +33,12 @@ signsOf tree x = tabulate (enumeratedMinus (λ e. getD tree e false) x) (length 
 abbrev pub PlanOfEach : (ℕ → ℕ → Job Float) → List ℕ → List Float → List Bool → (betas n w : ℕ) → Bool → Type 0
 PlanOfEach J plan lent tree betas n w each = (x : ℕ) → PlanOfAll (J x) plan lent (length tree) (signsOf tree x) betas n w each
 
--- Before configuration j of a chunk.
-pub record Counting (plan us vs : List ℕ) (lent : List Float) (tree : List Bool) (betas n w first : ℕ) (each : Bool) (j size : ℕ)
+-- The plan is of each configuration's job at beta b.
+abbrev pub PlanOfBeta : (ℕ → Job Float) → List ℕ → List Float → List Bool → (b n w : ℕ) → Bool → Type 0
+PlanOfBeta J plan lent tree b n w each = (x : ℕ) → PlanOf (J x) plan (signedFactors lent (length tree) b (signsOf tree x)) n w each
+
+-- Before configuration j of a run at beta b: the signs and the kept backward vectors are those of the configuration before.
+pub record Counting (plan us vs : List ℕ) (lent : List Float) (tree : List Bool) (b n w first : ℕ) (each : Bool) (j size : ℕ)
     (room₀ room : List Float) (signs₀ signs : List Bool) (c₀ c squares₀ squares fourths₀ fourths : List Float) : Type 0 where
   pub below : j ≤ size
   pub rooms : length room ≡ length room₀
@@ -38,8 +46,28 @@ pub record Counting (plan us vs : List ℕ) (lent : List Float) (tree : List Boo
   pub results : length c ≡ length c₀
   pub squareds : length squares ≡ length squares₀
   pub fourthds : length fourths ≡ length fourths₀
-  pub passed : (J : ℕ → ℕ → Job Float) → PlanOfEach J plan lent tree betas n w each
-      → Passed (λ i. some (λ b. unsound (J (first + i) b) us vs) betas) (λ i. correlationAt (J (first + i)) us vs) j (betas * length us) squares fourths
+  pub signed : (i : ℕ) → j ≡ i + 1 → signs ≡ signsOf tree (first + i)
+  pub stands : (J : ℕ → Job Float) → PlanOfBeta J plan lent tree b n w each → (i : ℕ) → j ≡ i + 1 → Backward (J (first + i)) plan room n w 0
+  pub passed : (J : ℕ → Job Float) → PlanOfBeta J plan lent tree b n w each
+      → Passed (λ i. unsound (J (first + i)) us vs) (λ i. pairAt (J (first + i)) us vs) j (length us) squares fourths
+
+-- The first b betas of a chunk passed, and are summed.
+pub record Summed (U : ℕ → ℕ → Bool) (c : ℕ → ℕ → Float) (size b n : ℕ) (squares fourths : List Float) : Type 0 where
+  pub none : some (λ i. some (λ j. U j i) size) b ≡ false
+  pub squared : (k : ℕ) → k < n → getD squares k nan ≡ sum ieee size (λ j. square ieee (c j k))
+  pub fourthed : (k : ℕ) → k < n → getD fourths k nan ≡ sum ieee size (λ j. fourth ieee (c j k))
+
+-- Before beta b of a chunk.
+pub record Ranging (plan us vs : List ℕ) (lent : List Float) (tree : List Bool) (betas n w first : ℕ) (each : Bool) (size b : ℕ)
+    (room₀ room : List Float) (signs₀ signs : List Bool) (c₀ c squares₀ squares fourths₀ fourths : List Float) : Type 0 where
+  pub below : b ≤ betas
+  pub rooms : length room ≡ length room₀
+  pub marks : length signs ≡ length signs₀
+  pub results : length c ≡ length c₀
+  pub squareds : length squares ≡ length squares₀
+  pub fourthds : length fourths ≡ length fourths₀
+  pub summed : (J : ℕ → ℕ → Job Float) → PlanOfEach J plan lent tree betas n w each
+      → Summed (λ j i. unsound (J (first + j) i) us vs) (λ j. correlationAt (J (first + j)) us vs) size b (b * length us) squares fourths
 
 -- Before configuration x, where each is stored.
 pub record Keeping (plan us vs : List ℕ) (lent : List Float) (tree : List Bool) (betas n w : ℕ) (each : Bool) (x all : ℕ)

@@ -1,4 +1,5 @@
 // An enumeration: chunks of configurations, each summed from zero, then added in order; or every correlation stored.
+mod changed;
 mod chunk;
 mod store;
 mod totals;

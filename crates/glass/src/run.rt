@@ -58,7 +58,7 @@ pub(crate) fn run(
         → (r ≡ not (unsound J (now (us .entry)) (now (vs .entry))))
         × (now (results .exit) ≡ cond r (S.answers ieee J (now (us .entry)) (now (vs .entry))) (zeros (length (now (us .entry)))))) ⌝ }
 {
-    sweep(room, plan, n, w, scales, each);
+    sweep(room, plan, n, w, scales, each, n);
     let sound = answer_pairs(room, plan, n, w, scales, us, vs, order, results);
     clear(room);
     if !sound {

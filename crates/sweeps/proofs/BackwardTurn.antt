@@ -20,12 +20,13 @@ use Rattle.half_sums.specs.Terms.{halfAt}
 use Rattle.half_steps.specs.Fold.{fold-even}
 use Rattle.vertex.specs.Same.{even-ext, even-as}
 use Rattle.vertex.specs.Frame.{Fits, half-held, Wrote, wrote-half, wrote-other}
-use Rattle.vertex.specs.Ready.{Ready, PlanOf, Stepping, tail-factors}
+use Rattle.vertex.specs.Ready.{Ready, PlanOf, Stepping, Backward, tail-factors}
 use Rattle.vertex.specs.Steady.{step-below}
 use Rattle.vertex.specs.Through.{Through, backwardBy, through, through-one, through-two}
 use Rattle.sweeps.specs.Target.{Target}
 use Rattle.sweeps.specs.Kept.{Since}
 use Rattle.sweeps.specs.Turn.{BackwardPair, BackwardTurn}
+use Rattle.sweeps.specs.Begun.{Stands, KeptFrom, Begun}
 use Rattle.sweeps.specs.Coming.{NewestBackward, Coming}
 use Rattle.sweeps.proofs.Targets.{Aimed, target-fits, target-own, target-kind, target-other, target-free}
 use Rattle.sweeps.proofs.Frames.{place-of, stepping, since-none, since-then, since-wrote}
@@ -94,9 +95,9 @@ module _ {plan : List ℕ} (r : List Float) {n w scales u src dst : ℕ} (g : Re
   written-inside : Fits w (length r) dst
   written-inside = place-of g dst written-fits .inside
 
-  written-since : {r′ : List Float} → Wrote r r′ w dst → Since plan r r′ n w scales
+  written-since : {r′ : List Float} → Wrote r r′ w dst → Since (forwardPlace plan) r r′ n w scales
   written-since {r′} d =
-      since-wrote plan r r′ n w scales dst g written-fits
+      since-wrote (forwardPlace plan) r r′ scales dst g (g .forward) (omega arith) written-fits
       (λ v c p. target-kind aimed (forwardPlace plan v) (g .forward .high v c p) (λ e. g .kinds v u c b p e)) d
 
 -- what was written at its place p is the vector of u
@@ -115,7 +116,7 @@ module _ {plan : List ℕ} (e : List Float) {r : List Float} {n w scales : ℕ} 
   abbrev first-wrote : Wrote e r w dst
   first-wrote = record { vector = tabulate (λ _. ieee .𝟙) (2 ^ (w - 1)); full = tabulate-length _ (2 ^ (w - 1)); done = made }
 
-  pub start-since : Since plan e r n w scales
+  pub start-since : Since (forwardPlace plan) e r n w scales
   start-since = written-since e g first-below target first-wrote
 
   first-even : Even w (halfAt r w dst) (S.start ieee w)
@@ -136,15 +137,69 @@ module _ {plan : List ℕ} (e : List Float) {r : List Float} {n w scales : ℕ} 
         };
       }
 
-  pub coming-start : (each : Bool) {one : Float} → one ≡ ieee .𝟙 → Coming plan r r n w scales each u dst one
+  pub coming-start : (each : Bool) {one : Float} → one ≡ ieee .𝟙 → Coming plan r r n w scales each u u dst one
   coming-start each o =
       record {
         below = first-below;
         ready = rw (start-since .same) g;
-        since = since-none plan r n w scales;
+        since = since-none (forwardPlace plan) r n w scales;
         free = target-free (aimed e g first-below target) (λ v. v < u) (λ v q x. omega arith);
-        newest = λ J of. first-newest o J (of .vertices) (of .window);
+        newest = λ J of given. first-newest o J (of .vertices) (of .window);
       }
+
+-- ---- the start at a vertex t whose vector is kept
+
+module _ {plan : List ℕ} (r : List Float) {n w scales : ℕ} (t : ℕ) {src : ℕ} (g : Ready plan (length r) n w scales) (early : t + 1 < n)
+    (placed : 0 < backwardPlace plan t) (src-is : src ≡ backwardPlace plan t) (each : Bool) {most : Float}
+    (taken : most ≡ S.stored ieee (cond each perElement block) 0 (t + 1) (tabulate (halfAt r w src) (2 ^ (w - 1)))) where
+  resumed-newest : (J : Job Float) → PlanOf J plan (drop (scales + n) r) n w each → Backward J plan r n w t → NewestBackward J plan r n w t src most
+  resumed-newest J of given =
+      let vector : Even w (halfAt r w src) (S.afterSteps ieee J (J .last - t) .0) =
+      subst (λ (q : ℕ). Even w (halfAt r w q) (S.afterSteps ieee J (J .last - t) .0)) (sym src-is)
+      (even-as (given .vectors t (omega arith) (omega arith) placed) (backward-is J t)) in
+      let manner = ap (λ (m : Manner). S.stored ieee m 0 (t + 1) (tabulate (halfAt r w src) (2 ^ (w - 1)))) (sym (of .manner)) in
+      let full : length (S.afterSteps ieee J (J .last - t) .0) ≡ 2 ^ w = full-at J t (of .vertices) early refl ∙ ap (λ (k : ℕ). 2 ^ k) (of .window) in
+      record {
+        vector = vector;
+        entry = taken ∙ manner ∙ sym (stored-even (g .wide) full vector (J .manner) 0 (t + 1)) ∙ sym (entry-at J t (of .vertices) early refl);
+        kept = given;
+      }
+
+  pub coming-resumed : Coming plan r r n w scales each t t src most
+  coming-resumed =
+      record {
+        below = omega arith;
+        ready = g;
+        since = since-none (forwardPlace plan) r n w scales;
+        free = record {
+          fits = rw src-is (g .backward .fits t (omega arith) placed);
+          off = λ u c q p x. let e : t ≡ u = g .backward .apart t u (omega arith) c placed (sym src-is ∙ x) in omega arith;
+        };
+        newest = λ J of given. resumed-newest J of (given early);
+      }
+
+-- ---- the start in either case: c is the vertex from which on the kept vectors are trusted
+
+module _ {plan : List ℕ} (e : List Float) {r : List Float} {n w scales : ℕ} {each : Bool} {c t src : ℕ} {most : Float}
+    (g : Ready plan (length e) n w scales) (from : KeptFrom plan n c t) (target : Target (backwardPlace plan t) 1 src)
+    (begun : Begun e r n w each t src most) where
+  pub begun-since : Since (forwardPlace plan) e r n w scales
+  begun-since =
+      ⊎-elim (λ s. start-since e t g (s .last) target (s .made)) (λ s. rw (s .same) (since-none (forwardPlace plan) e n w scales)) begun
+
+  pub begun-coming : Coming plan r r n w scales each t t src most
+  begun-coming =
+      ⊎-elim
+      (λ s. coming-start e t g (s .last) target (s .made) each (s .one))
+      (λ s. rw (s .same) (coming-resumed e t g (s .early) (from .placed (s .early)) (target .keeps (from .placed (s .early))) each (s .taken)))
+      begun
+
+  pub begun-stands : (J : Job Float) → Stands J plan e n w c → Stands J plan r n w t
+  begun-stands J given early =
+      ⊎-elim
+      (λ s. absurd (omega (arith, s .last)))
+      (λ s. let h = from .from early in rw (s .same) (record { vectors = λ u a. given (omega arith) .vectors u (omega arith) }))
+      begun
 
 -- ---- a turn
 
@@ -152,8 +207,8 @@ pub turn-inside : {plan : List ℕ} {w : ℕ} {each : Bool} {t last : ℕ} → B
 turn-inside (inl e) b = omega arith
 turn-inside (inr p) b = omega (arith, p .next, p .some)
 
-module _ {plan : List ℕ} {r₀ r : List Float} {n w scales : ℕ} {each : Bool} {t last : ℕ} (u : ℕ) {src dst : ℕ} {most : Float}
-    (g : Coming plan r₀ r n w scales each t src most) (turn : BackwardTurn plan w each t last) (next : last ≡ u + 1)
+module _ {plan : List ℕ} {r₀ r : List Float} {n w scales : ℕ} {each : Bool} {c t last : ℕ} (u : ℕ) {src dst : ℕ} {most : Float}
+    (g : Coming plan r₀ r n w scales each c t src most) (turn : BackwardTurn plan w each t last) (next : last ≡ u + 1)
     (target : Target (backwardPlace plan u) src dst) where
   order : last ≤ t
   order = ⊎-elim (λ e. omega arith) (λ p. omega (arith, p .next)) turn
@@ -194,12 +249,12 @@ module _ {plan : List ℕ} {r₀ r : List Float} {n w scales : ℕ} {each : Bool
     wrote = record { vector = tabulate half (2 ^ (w - 1)); full = tabulate-length half (2 ^ (w - 1)); done = step }
 
     -- in job J
-    module _ (J : Job Float) (of : PlanOf J plan (drop (scales + n) r₀) n w each) where
+    module _ (J : Job Float) (of : PlanOf J plan (drop (scales + n) r₀) n w each) (given : Stands J plan r₀ n w c) where
       abbrev after : ℕ → List Float × Float
       after v = S.afterSteps ieee J (J .last - v)
 
       newest : NewestBackward J plan r n w t src most
-      newest = g .newest J of
+      newest = g .newest J of given
 
       fits : Fits w (length r) dst
       fits = place-of (g .ready) dst coming-fits .inside
@@ -275,7 +330,7 @@ module _ {plan : List ℕ} {r₀ r : List Float} {n w scales : ℕ} {each : Bool
             kept = record { vectors = kept-vector };
           }
 
-    pub coming-turn : Coming plan r₀ r₂ n w scales each u dst most′
+    pub coming-turn : Coming plan r₀ r₂ n w scales each c u dst most′
     coming-turn =
         let now = written-since r (g .ready) before target wrote in
         record {

@@ -14,7 +14,7 @@ use Rattle.vector.specs.Tabulate.{tabulate, tabulate-length}
 use Rattle.transfer.specs.Job.{Job, Manner, Step, block, perElement, stepOf}
 use Rattle.transfer.specs.Rounded.{ieee}
 use Rattle.transfer.specs.Sweep as S
-use Rattle.plan.specs.Layout.{stepIn, forwardPlace}
+use Rattle.plan.specs.Layout.{stepIn, forwardPlace, backwardPlace}
 use Rattle.sweep.specs.Place.{held, hold}
 use Rattle.halves.specs.Even.{Even, start-even, forward-even}
 use Rattle.halves.specs.Largest.{stored-even}
@@ -25,11 +25,11 @@ use Rattle.vertex.specs.Ready.{Ready, PlanOf, Stepping}
 use Rattle.vertex.specs.Steady.{step-below}
 use Rattle.vertex.specs.Through.{Through, forwardBy, through, through-one, through-two}
 use Rattle.sweeps.specs.Target.{Target}
-use Rattle.sweeps.specs.Kept.{SameFrom}
+use Rattle.sweeps.specs.Kept.{Since}
 use Rattle.sweeps.specs.Turn.{ForwardPair, ForwardTurn}
 use Rattle.sweeps.specs.Going.{NewestForward, Going}
-use Rattle.sweeps.proofs.Targets.{Aimed, target-fits, target-own, target-other, target-free}
-use Rattle.sweeps.proofs.Frames.{place-of, stepping}
+use Rattle.sweeps.proofs.Targets.{Aimed, target-fits, target-own, target-kind, target-other, target-free}
+use Rattle.sweeps.proofs.Frames.{place-of, stepping, since-none, since-wrote}
 use Rattle.sweeps.proofs.Unscaled.{unscaled}
 
 -- ---- the definition, opened
@@ -79,13 +79,9 @@ module _ {plan : List ℕ} (e : List Float) {r : List Float} {n w scales : ℕ} 
   abbrev first-wrote : Wrote e r w 0
   first-wrote = record { vector = tabulate (λ _. ieee .𝟙) (2 ^ (w - 1)); full = tabulate-length _ (2 ^ (w - 1)); done = made }
 
-  pub start-same : SameFrom e r (scales + n)
+  pub start-same : Since (backwardPlace plan) e r n w (scales + n)
   start-same =
-      let f = first-fits in
-      record {
-        same = wrote-length e r w 0 first-wrote first-inside;
-        tail = wrote-drop e r w 0 first-wrote first-inside (scales + n) (omega arith);
-      }
+      since-wrote (backwardPlace plan) e r (scales + n) 0 g (g .backward) (omega arith) first-fits (λ u b p x. omega (arith, g .backward .high u b p)) first-wrote
 
   first-even : Even w (halfAt r w 0) (S.start ieee w)
   first-even = even-ext (start-even w (g .wide)) (wrote-half e r w 0 first-wrote first-inside (λ _. ieee .𝟙) refl)
@@ -95,7 +91,7 @@ module _ {plan : List ℕ} (e : List Float) {r : List Float} {n w scales : ℕ} 
       record {
         below = omega arith;
         ready = rw (start-same .same) g;
-        since = record { same = refl; tail = refl };
+        since = since-none (backwardPlace plan) r n w (scales + n);
         free = record { fits = first-fits; off = λ u c d p x. omega (arith, g .forward .high u c p) };
         newest = λ J of. record {
           vector = even-as first-even (ap (S.start ieee) (sym (of .window)) ∙ sym (first-vector J));
@@ -291,6 +287,16 @@ module _ {plan : List ℕ} {r₀ r : List Float} {n w scales : ℕ} {each : Bool
               kept = record { vectors = kept-vector; scaled = kept-scale };
             }
 
+      -- a forward vector is written where no backward vector is kept
+      kept-backward : (v : ℕ) → v < n → 0 < backwardPlace plan v → held r₂ w (backwardPlace plan v) ≡ held r₀ w (backwardPlace plan v)
+      kept-backward v c p =
+          let q = backwardPlace plan v in
+          let f = g .ready .backward .fits v c p in
+          wrote-other r₁ r₂ w dst wrote (inside dst going-fits) q
+          (target-kind aimed q (g .ready .backward .high v c p) (λ e. g .ready .kinds last v last-inside c (omega arith) (sym e)))
+          (inside q f)
+          ∙ places q f ∙ g .since .vectors v c p
+
       pub going-turn : Going plan r₀ r₂ n w scales each (last + 1) dst most′
       going-turn =
           let fits = inside dst going-fits in
@@ -301,6 +307,7 @@ module _ {plan : List ℕ} {r₀ r : List Float} {n w scales : ℕ} {each : Bool
             since = record {
               same = same ∙ g .since .same;
               tail = wrote-drop r₁ r₂ w dst wrote fits (scales + n) (omega (arith, going-fits)) ∙ tail₁;
+              vectors = kept-backward;
             };
             free = target-free aimed (λ u. last + 1 ≤ u) (λ u q e. omega arith);
             newest = newest-turn;

@@ -8,12 +8,13 @@ use lib.Ieee.{Float}
 use Rattle.transfer.specs.Job.{Job}
 use Rattle.transfer.specs.Rounded.{ieee}
 use Rattle.transfer.specs.Sweep as S
-use Rattle.plan.specs.Layout.{backwardPlace}
+use Rattle.plan.specs.Layout.{forwardPlace, backwardPlace}
 use Rattle.halves.specs.Even.{Even}
 use Rattle.half_sums.specs.Terms.{halfAt}
 use Rattle.vertex.specs.Ready.{Ready, PlanOf, Backward}
 use Rattle.sweeps.specs.Target.{Free}
 use Rattle.sweeps.specs.Kept.{Since}
+use Rattle.sweeps.specs.Begun.{Stands}
 
 -- In job J the newest vector's half lies at place src, and its stored largest entry is `most`.
 pub record NewestBackward (J : Job Float) (plan : List ℕ) (r : List Float) (n w t src : ℕ) (most : Float) : Type 0 where
@@ -21,10 +22,10 @@ pub record NewestBackward (J : Job Float) (plan : List ℕ) (r : List Float) (n 
   pub entry : most ≡ S.afterSteps ieee J (J .last - t) .1
   pub kept : Backward J plan r n w t
 
--- The sweep began with the room r₀.
-pub record Coming (plan : List ℕ) (r₀ r : List Float) (n w scales : ℕ) (each : Bool) (t src : ℕ) (most : Float) : Type 0 where
+-- The sweep began at vertex c with the room r₀.
+pub record Coming (plan : List ℕ) (r₀ r : List Float) (n w scales : ℕ) (each : Bool) (c t src : ℕ) (most : Float) : Type 0 where
   pub below : t < n
   pub ready : Ready plan (length r) n w scales
-  pub since : Since plan r₀ r n w scales
+  pub since : Since (forwardPlace plan) r₀ r n w scales
   pub free : Free (backwardPlace plan) n w scales src (λ u. u < t)
-  pub newest : (J : Job Float) → PlanOf J plan (drop (scales + n) r₀) n w each → NewestBackward J plan r n w t src most
+  pub newest : (J : Job Float) → PlanOf J plan (drop (scales + n) r₀) n w each → Stands J plan r₀ n w c → NewestBackward J plan r n w t src most

@@ -8,12 +8,12 @@ use lib.Ieee.{Float}
 use Rattle.transfer.specs.Job.{Job}
 use Rattle.transfer.specs.Rounded.{ieee}
 use Rattle.transfer.specs.Sweep as S
-use Rattle.plan.specs.Layout.{forwardPlace}
+use Rattle.plan.specs.Layout.{forwardPlace, backwardPlace}
 use Rattle.halves.specs.Even.{Even}
 use Rattle.half_sums.specs.Terms.{halfAt}
 use Rattle.vertex.specs.Ready.{Ready, PlanOf, Forward}
 use Rattle.sweeps.specs.Target.{Free}
-use Rattle.sweeps.specs.Kept.{SameFrom}
+use Rattle.sweeps.specs.Kept.{Since}
 
 -- In job J the newest vector's half lies at place src, and its stored largest entry is `most`.
 pub record NewestForward (J : Job Float) (plan : List ℕ) (r : List Float) (w scales t src : ℕ) (most : Float) : Type 0 where
@@ -25,6 +25,6 @@ pub record NewestForward (J : Job Float) (plan : List ℕ) (r : List Float) (w s
 pub record Going (plan : List ℕ) (r₀ r : List Float) (n w scales : ℕ) (each : Bool) (t src : ℕ) (most : Float) : Type 0 where
   pub below : t ≤ n
   pub ready : Ready plan (length r) n w scales
-  pub since : SameFrom r₀ r (scales + n)
+  pub since : Since (backwardPlace plan) r₀ r n w (scales + n)
   pub free : Free (forwardPlace plan) n w scales src (λ u. t ≤ u)
   pub newest : (J : Job Float) → PlanOf J plan (drop (scales + n) r₀) n w each → NewestForward J plan r w scales t src most

@@ -2,5 +2,7 @@
 pub mod Target
 pub mod Kept
 pub mod Turn
+pub mod Begun
 pub mod Going
 pub mod Coming
+pub mod Reuse

@@ -1,10 +1,12 @@
 // The backward sweep.
-ghost use Prim.Native.Nat.{_+_, _≤_};
+ghost use Prim.Native.Nat.{_+_, _≤_, _<_};
 ghost use lib.ListN.{length, drop};
 ghost use lib.Ieee.{Float};
 ghost use Rattle.transfer.specs.Job.{Job};
-ghost use Rattle.plan.specs.Layout.{Holds};
+ghost use Rattle.plan.specs.Layout.{Holds, forwardPlace};
+ghost use Rattle.sweep.specs.Place.{Place};
 ghost use Rattle.vertex.specs.Ready.{Ready, PlanOf, Backward};
+ghost use Rattle.sweeps.specs.Begun.{Stands, KeptFrom, Begun};
 ghost use Rattle.sweeps.specs.Kept.{Since};
 ghost use Rattle.sweeps.specs.Turn.{BackwardTurn};
 use crate::target::place_for;
@@ -37,8 +39,37 @@ fn backward_last(plan: &[usize], w: usize, each: bool, t: usize) -> usize
     t - 1
 }
 
+// The first vertex from c on whose backward vector has a place, or the last vertex.
+fn kept_from(plan: &[usize], n: usize, c: usize) -> usize
+    requires { ⌜ Holds (now plan) n × (1 ≤ n) ⌝ }
+    ensures { λ r. ⌜ KeptFrom (now (plan .entry)) n c r ⌝ }
+{
+    let last = n - 1;
+    let mut t = c;
+    while t < last {
+        if backward_place(plan, t) > 0 {
+            return t;
+        }
+        t += 1;
+    }
+    last
+}
+
+// The vector of vertex t at place src: written at the last vertex, kept already elsewhere. Answers the largest entry that was stored with it.
+fn begin_at(room: &mut [f64], n: usize, w: usize, each: bool, t: usize, src: usize) -> f64
+    requires { ⌜ Place (length (now room)) w src × (t < n) ⌝ }
+    ensures { λ r. ⌜ Begun (now (room .entry)) (now (room .exit)) n w each t src r ⌝ }
+{
+    if t + 1 < n {
+        return half_stored(room, src, w, each, 0, t + 1);
+    }
+    start_at(room, w, src);
+    1.0
+}
+
 // Steps from the last vertex to vertex 1, the step at t giving the vector of t - 1: keeps the lower halves of the backward vectors that the
-// plan has a place for. In the block manner the largest entry is taken after steps with t % 4 = 0.
+// plan has a place for. In the block manner the largest entry is taken after steps with t % 4 = 0. The kept vectors from vertex `changed`
+// on stand already, and are not worked out again; none does where `changed` is the last vertex or more.
 pub fn sweep_backward(
     room: &mut [f64],
     plan: &[usize],
@@ -46,17 +77,17 @@ pub fn sweep_backward(
     w: usize,
     scales: usize,
     each: bool,
+    changed: usize,
 )
     requires { ⌜ (1 ≤ n) × Ready (now plan) (length (now room)) n w scales ⌝ }
-    ensures { λ _. ⌜ Since (now (plan .entry)) (now (room .entry)) (now (room .exit)) n w scales ⌝ }
+    ensures { λ _. ⌜ Since (forwardPlace (now (plan .entry))) (now (room .entry)) (now (room .exit)) n w scales ⌝ }
     ensures { λ _. ⌜ ((J : Job Float) → PlanOf J (now (plan .entry)) (drop (scales + n) (now (room .entry))) n w each
-        → Backward J (now (plan .entry)) (now (room .exit)) n w 0) ⌝ }
+        → Stands J (now (plan .entry)) (now (room .entry)) n w changed → Backward J (now (plan .entry)) (now (room .exit)) n w 0) ⌝ }
 {
     let factors = scales + n;
-    let mut t = n - 1;
+    let mut t = kept_from(plan, n, changed);
     let mut src = place_for(backward_place(plan, t), 1);
-    start_at(room, w, src);
-    let mut most = 1.0;
+    let mut most = begin_at(room, n, w, each, t, src);
     while t > 0 {
         let scale = 1.0 / most;
         let last = backward_last(plan, w, each, t);

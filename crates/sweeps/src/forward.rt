@@ -3,9 +3,9 @@ ghost use Prim.Native.Nat.{_+_, _<_};
 ghost use lib.ListN.{length, drop};
 ghost use lib.Ieee.{Float};
 ghost use Rattle.transfer.specs.Job.{Job};
-ghost use Rattle.plan.specs.Layout.{Holds};
+ghost use Rattle.plan.specs.Layout.{Holds, backwardPlace};
 ghost use Rattle.vertex.specs.Ready.{Ready, PlanOf, Forward};
-ghost use Rattle.sweeps.specs.Kept.{SameFrom};
+ghost use Rattle.sweeps.specs.Kept.{Since};
 ghost use Rattle.sweeps.specs.Turn.{ForwardTurn};
 use crate::target::place_for;
 use crate::target::start_at;
@@ -48,7 +48,7 @@ pub fn sweep_forward(
     each: bool,
 )
     requires { ⌜ Ready (now plan) (length (now room)) n w scales ⌝ }
-    ensures { λ _. ⌜ SameFrom (now (room .entry)) (now (room .exit)) (scales + n) ⌝ }
+    ensures { λ _. ⌜ Since (backwardPlace (now (plan .entry))) (now (room .entry)) (now (room .exit)) n w (scales + n) ⌝ }
     ensures { λ _. ⌜ ((J : Job Float) → PlanOf J (now (plan .entry)) (drop (scales + n) (now (room .entry))) n w each
         → Forward J (now (plan .entry)) (now (room .exit)) w scales n) ⌝ }
 {

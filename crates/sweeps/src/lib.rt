@@ -4,6 +4,7 @@ ghost use lib.ListN.{length, drop};
 ghost use lib.Ieee.{Float};
 ghost use Rattle.transfer.specs.Job.{Job};
 ghost use Rattle.vertex.specs.Ready.{Ready, PlanOf, Swept};
+ghost use Rattle.sweeps.specs.Begun.{Stands};
 ghost use Rattle.sweeps.specs.Kept.{SameFrom};
 
 mod backward;
@@ -13,13 +14,22 @@ mod target;
 pub use backward::sweep_backward;
 pub use forward::sweep_forward;
 
-// Both sweeps: what the pairs are answered from.
-pub fn sweep(room: &mut [f64], plan: &[usize], n: usize, w: usize, scales: usize, each: bool)
+// Both sweeps: what the pairs are answered from. The kept backward vectors from vertex `changed` on stand already, and are not worked out
+// again; none does where `changed` is the last vertex or more.
+pub fn sweep(
+    room: &mut [f64],
+    plan: &[usize],
+    n: usize,
+    w: usize,
+    scales: usize,
+    each: bool,
+    changed: usize,
+)
     requires { ⌜ (1 ≤ n) × Ready (now plan) (length (now room)) n w scales ⌝ }
     ensures { λ _. ⌜ SameFrom (now (room .entry)) (now (room .exit)) (scales + n) ⌝ }
     ensures { λ _. ⌜ ((J : Job Float) → PlanOf J (now (plan .entry)) (drop (scales + n) (now (room .entry))) n w each
-        → Swept J (now (plan .entry)) (now (room .exit)) n w scales) ⌝ }
+        → Stands J (now (plan .entry)) (now (room .entry)) n w changed → Swept J (now (plan .entry)) (now (room .exit)) n w scales) ⌝ }
 {
     sweep_forward(room, plan, n, w, scales, each);
-    sweep_backward(room, plan, n, w, scales, each);
+    sweep_backward(room, plan, n, w, scales, each, changed);
 }

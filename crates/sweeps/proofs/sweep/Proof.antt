@@ -1,8 +1,8 @@
--- The backward sweep leaves what the forward sweep left.
+-- Each sweep leaves what the other kept.
 use mathlib.Core.Path.{_∙_}
 use borrow.Author.Needs.{needs}
 use Rattle.vertex.specs.Ready.{tail-factors}
-use Rattle.sweeps.proofs.Frames.{since-forward}
+use Rattle.sweeps.proofs.Frames.{since-forward, since-backward}
 use Rattle.sweeps.proofs.sweep.Statement.{statement}
 use Rattle.sweeps.proofs.sweep.Tie as tie
 
@@ -24,9 +24,9 @@ returns c =
     let then = c .before .before .sweep-backward .ensures in
     let factors = tail-factors _ _ _ (s .args .n) (then .0 .tail) in (
       record { same = then .0 .same ∙ first .0 .same; tail = factors ∙ first .0 .tail },
-      λ J of. record {
+      λ J of given. record {
         forward = since-forward (then .0) J (first .1 J of);
-        backward = then .1 J (rw (first .0 .tail) of);
+        backward = then .1 J (rw (first .0 .tail) of) (λ b. since-backward (first .0) J _ (given b));
       },
     )
 

@@ -7,7 +7,8 @@ use lib.ListN.{length}
 use borrow.Author.Tests.{not-true, not-false}
 use Rattle.chunks.specs.Stage.{Stage, Lent}
 use Rattle.chunks.specs.SoFar.{Betas}
-use Rattle.chunks.proofs.Staging.{stage-keep, lent-first, part-of}
+use Rattle.chunks.specs.Lists.{lent-first, part-of}
+use Rattle.chunks.proofs.Staging.{stage-keep}
 use Rattle.chunks.proofs.Betas.{none-yet, some-unsound, beta-more, all-betas}
 use borrow.Author.Needs.{needs}
 use Rattle.chunks.proofs.configuration.add_configuration.Statement.{statement}
@@ -40,7 +41,7 @@ same-length c = c .before .before .before .before .before .answer-signed .kept .
 
 -- src/configuration.rt:89:13
 same-length-2 : tie.Need-same-length-2 Inv-loop μ-loop
-same-length-2 c = c .before .before .before .before .before .answer-signed .kept .1 .1 .1 .1 .1 .1 .1 .1 .1 .1 .1 .1 .0 ∙ c .before .before .before .before .before .before .before .before .before .loop .inv .results
+same-length-2 c = c .before .before .before .before .before .answer-signed .kept .1 .1 .1 .1 .1 .1 .1 .1 .1 .1 .1 .1 .1 .0 ∙ c .before .before .before .before .before .before .before .before .before .loop .inv .results
 
 -- src/configuration.rt:89:13
 same-length-3 : tie.Need-same-length-3 Inv-loop μ-loop
@@ -56,7 +57,7 @@ returns c =
     let i = c .before .before .before .before .before .before .before .before .before .loop .inv in
     let a = c .before .before .before .before .before .answer-signed in
     let no : true ≡ false → ⊥ = λ z. (let z′ : _≡_ {A = ℕ} 0 1 = cc in omega arith) in
-    λ J of. (some-unsound J _ _ _ (c .before .before .before .before .before .before .before .before .before .loop .b) _ (a .ensures (J (c .before .before .before .before .before .before .before .before .before .loop .b)) (of (c .before .before .before .before .before .before .before .before .before .loop .b) (omega arith))) _ (omega arith) (not-true _ (c .if1 .taken)), λ z. absurd (no (sym z)))
+    λ J of. (some-unsound J _ _ _ (c .before .before .before .before .before .before .before .before .before .loop .b) _ (a .ensures (J (c .before .before .before .before .before .before .before .before .before .loop .b)) (of (c .before .before .before .before .before .before .before .before .before .loop .b) (omega arith)) (λ z. absurd (omega arith)) .0) _ (omega arith) (not-true _ (c .if1 .taken)), λ z. absurd (no (sym z)))
 
 -- src/configuration.rt:91:38
 mul-add-powers : tie.Need-mul-add-powers Inv-loop μ-loop
@@ -68,7 +69,7 @@ add-powers-requires c κs =
     let s = c .before .before .before .before .before .before .before .before .before .before .before .before .before .before .before .before .before .before .before .before .before .before .before in
     let i = c .before .before .before .before .before .before .before .before .before .before .before .before .loop .inv in
     let h = part-of (c .before .before .before .before .before .before .before .before .before .before .before .before .loop .b) (s .args .betas) (length (s .args .us .now)) (omega arith) in
-    let l = c .before .before .before .before .before .before .before .before .answer-signed .kept .1 .1 .1 .1 .1 .1 .1 .1 .1 .1 .1 .1 .0 ∙ i .results ∙ s .pre .0 .fitting in
+    let l = c .before .before .before .before .before .before .before .before .answer-signed .kept .1 .1 .1 .1 .1 .1 .1 .1 .1 .1 .1 .1 .1 .0 ∙ i .results ∙ s .pre .0 .fitting in
     (omega (arith, i .squareds, s .pre .2), omega (arith, i .fourthds, s .pre .3))
 
 -- src/configuration.rt:92:9
@@ -89,14 +90,14 @@ loop-again c =
     let b = c .before .before .before .before .before .before .before .before .before .before .before .before .before .before .before .before .before .loop .b in
     let t : b < s .args .betas = omega (arith, c .before .before .before .before .before .before .before .before .before .before .before .before .before .before .before .before .loop-test .taken) in
     let h = part-of b (s .args .betas) (length (s .args .us .now)) t in
-    let l = a .kept .1 .1 .1 .1 .1 .1 .1 .1 .1 .1 .1 .1 .0 ∙ i .results in
+    let l = a .kept .1 .1 .1 .1 .1 .1 .1 .1 .1 .1 .1 .1 .1 .0 ∙ i .results in
     record {
       below = omega arith;
       rooms = a .kept .0 ∙ i .rooms;
       results = l;
       squareds = p .kept .0 ∙ i .squareds;
       fourthds = p .kept .1 .0 ∙ i .fourthds;
-      so-far = λ J of. beta-more J _ _ _ _ _ _ _ b (i .so-far J of) _ (a .ensures (J b) (of b t)) _ _ (not-false _ (c .before .before .before .before .before .before .before .before .if1 .left)) (l ∙ s .pre .0 .fitting) (omega (arith, s .pre .2)) (omega (arith, s .pre .3)) (p .ensures .0) (p .ensures .1);
+      so-far = λ J of. beta-more J _ _ _ _ _ _ _ b (i .so-far J of) _ (a .ensures (J b) (of b t) (λ z. absurd (omega arith)) .0) _ _ (not-false _ (c .before .before .before .before .before .before .before .before .if1 .left)) (l ∙ s .pre .0 .fitting) (omega (arith, s .pre .2)) (omega (arith, s .pre .3)) (p .ensures .0) (p .ensures .1);
     }
 
 -- src/configuration.rt:47:1

@@ -60,7 +60,7 @@ returns c =
     let a = s .args in
     let x = signedFactors (a .lent .now) (length (a .signs .now)) (a .b) (a .signs .now) in
     let t = tabulate-length _ (length (a .signs .now)) in
-    told-of (a .plan .now) (a .us .now) (a .vs .now) x (a .room .now) _ _ _ _ _ _ _ _ (c .before .before .before .before .before .before .before .before .before .before .before .before .before .lay-signed .ensures) (ap (λ (k : ℕ). a .scales + a .n + k) t ∙ s .pre .0 .ends) (c .before .before .before .before .before .before .before .before .before .sweep .ensures .0) (c .before .before .before .before .before .before .before .before .before .sweep .ensures .1) (c .before .before .before .before .answer-pairs .ensures .1)
+    told-of (a .plan .now) (a .us .now) (a .vs .now) x (a .room .now) _ _ _ _ _ _ _ _ _ _ (s .pre .0 .ready) (c .before .before .before .before .before .before .before .before .before .before .before .before .before .lay-signed .ensures) (ap (λ (k : ℕ). a .scales + a .n + k) t ∙ s .pre .0 .ends) (c .before .before .before .before .before .before .before .before .before .sweep .ensures .0) (c .before .before .before .before .before .before .before .before .before .sweep .ensures .1) (c .before .before .before .before .answer-pairs .ensures .0) (c .before .before .before .before .answer-pairs .ensures .1)
 
 pub answer-signed-spec : {M : Type 1} → statement M
 answer-signed-spec =

@@ -7,7 +7,8 @@ use lib.ListN.{length}
 use borrow.Author.Tests.{not-true, not-false}
 use Rattle.vector.specs.Search as Search
 use Rattle.chunks.specs.Stored.{Stored, Storing, number-small}
-use Rattle.chunks.proofs.Staging.{stage-keep, lent-first, part-of, part-stored}
+use Rattle.chunks.specs.Lists.{lent-first, part-of}
+use Rattle.chunks.proofs.Staging.{stage-keep, part-stored}
 use Rattle.chunks.proofs.Betas.{some-unsound, sound-more, results-value}
 use borrow.Author.Needs.{needs}
 use Rattle.chunks.proofs.store.store_configuration.Statement.{statement}
@@ -47,7 +48,7 @@ same-length c = c .before .before .before .before .before .answer-signed .kept .
 
 -- src/store.rt:75:13
 same-length-2 : tie.Need-same-length-2 Inv-loop μ-loop
-same-length-2 c = c .before .before .before .before .before .answer-signed .kept .1 .1 .1 .1 .1 .1 .1 .1 .1 .1 .1 .1 .0 ∙ c .before .before .before .before .before .before .before .before .before .loop .inv .results
+same-length-2 c = c .before .before .before .before .before .answer-signed .kept .1 .1 .1 .1 .1 .1 .1 .1 .1 .1 .1 .1 .1 .0 ∙ c .before .before .before .before .before .before .before .before .before .loop .inv .results
 
 -- src/store.rt:75:13
 same-length-3 : tie.Need-same-length-3 Inv-loop μ-loop
@@ -59,7 +60,7 @@ returns c =
     let l = c .before .before .before .before .before .before .before .before .before .loop in
     let a = c .before .before .before .before .before .answer-signed in
     let no : true ≡ false → ⊥ = λ z. (let z′ : _≡_ {A = ℕ} 0 1 = cc in omega arith) in
-    λ J of. (some-unsound J _ _ _ (l .b) _ (a .ensures (J (l .b)) (of (l .b) (omega arith))) _ (omega arith) (not-true _ (c .if1 .taken)), λ z. absurd (no (sym z)))
+    λ J of. (some-unsound J _ _ _ (l .b) _ (a .ensures (J (l .b)) (of (l .b) (omega arith)) (λ z. absurd (omega arith)) .0) _ (omega arith) (not-true _ (c .if1 .taken)), λ z. absurd (no (sym z)))
 
 -- src/store.rt:77:39
 mul-store-results : tie.Need-mul-store-results Inv-loop μ-loop
@@ -77,7 +78,7 @@ store-results-requires c κs =
     let l = c .before .before .before .before .before .before .before .before .before .before .before .loop in
     let i = l .inv in
     let np = length (s .args .us .now) in
-    let e : length (c .before .before .before .before .before .before .before .answer-signed .last .1 .1 .1 .1 .1 .1 .1 .1 .1 .1 .1 .1 .0) ≡ np = c .before .before .before .before .before .before .before .answer-signed .kept .1 .1 .1 .1 .1 .1 .1 .1 .1 .1 .1 .1 .0 ∙ i .results ∙ s .pre .0 .fitting in
+    let e : length (c .before .before .before .before .before .before .before .answer-signed .last .1 .1 .1 .1 .1 .1 .1 .1 .1 .1 .1 .1 .1 .0) ≡ np = c .before .before .before .before .before .before .before .answer-signed .kept .1 .1 .1 .1 .1 .1 .1 .1 .1 .1 .1 .1 .1 .0 ∙ i .results ∙ s .pre .0 .fitting in
     (s .pre .2, rw (e, i .storeds, s .pre .3) (part-stored (l .b) (s .args .betas) np (s .args .all) (omega arith)))
 
 -- src/store.rt:78:9
@@ -98,7 +99,7 @@ loop-again c =
     let r = c .before .before .store-results in
     let yes = not-false _ (c .before .before .before .before .before .if1 .left) in
     let t : l .b < s .args .betas = omega (arith, c .before .before .before .before .before .before .before .before .before .before .before .before .before .loop-test .taken) in
-    let e = a .kept .1 .1 .1 .1 .1 .1 .1 .1 .1 .1 .1 .1 .0 ∙ i .results in
+    let e = a .kept .1 .1 .1 .1 .1 .1 .1 .1 .1 .1 .1 .1 .1 .0 ∙ i .results in
     let m : l .b * length (s .args .us .now) + length (s .args .us .now) ≡ (l .b + 1) * length (s .args .us .now) = omega arith in
     record {
       below = omega arith;
@@ -106,7 +107,7 @@ loop-again c =
       results = e;
       storeds = r .kept .0 ∙ i .storeds;
       so-far = λ J of.
-          let o = a .ensures (J (l .b)) (of (l .b) t) in
+          let o = a .ensures (J (l .b)) (of (l .b) t) (λ z. absurd (omega arith)) .0 in
           let g = i .so-far J of in (
             sound-more J _ _ _ (l .b) _ o (g .0) yes,
             λ value same h. rw (e ∙ s .pre .0 .fitting, m) at

@@ -90,7 +90,7 @@ returns-2 c =
     let l = c .before .before .before .before .before .before .before .before .before .before .before .before .before .before .before .before .before .loop in
     let i = l .inv in
     let a = c .before .before .before .before .before .before .before .store-configuration in
-    let q = c .before .before .before .before .before .before .before .before .before .before .before .before .before .before .enumerated-signs .ensures in
+    let q = c .before .before .before .before .before .before .before .before .before .before .before .before .before .before .enumerated-signs .ensures .0 in
     let t : l .x < 2 ^ s .args .free = omega (arith, c .before .before .before .before .before .before .before .before .before .before .before .before .before .before .before .before .loop-test .taken, i .0) in
     let no : true ≡ false → ⊥ = λ z. (let z′ : _≡_ {A = ℕ} 0 1 = cc in omega arith) in
     λ J of.
@@ -116,7 +116,7 @@ loop-again c =
     let l = c .before .before .before .before .before .before .before .before .before .before .before .before .before .before .before .before .before .loop in
     let i = l .inv in
     let a = c .before .before .before .before .before .before .before .store-configuration in
-    let q = c .before .before .before .before .before .before .before .before .before .before .before .before .before .before .enumerated-signs .ensures in
+    let q = c .before .before .before .before .before .before .before .before .before .before .before .before .before .before .enumerated-signs .ensures .0 in
     let e = c .before .before .before .before .before .before .before .before .before .before .before .before .before .before .enumerated-signs in
     let t = c .before .before .before .before .before .before .before .before .before .before .before .before .before .before .before .before .loop-test .taken in
     let yes = not-false _ (c .if2 .left) in (

@@ -1,5 +1,6 @@
 use mathlib.Core.Path.{_≡_, refl, sym, ap, _∙_, subst}
 use Prim.Native.Nat.{ℕ}
+use native.Mathlib.Omega.{arith}
 use lib.Ieee.{Float}
 use mathlib.Core.List.{List}
 use lib.ListN.{length}
@@ -51,7 +52,7 @@ returns c =
     let w = c .before .before .before .before .before .before .before .before .before .before .before .before .before .before .before .before .before .before .sweep in
     let room = c .before .before .before .before .before .before .before .clear .ensures ∙ ap zeros (a .ensures .0 .same ∙ w .ensures .0 .same) in
     let z = c .before .before .clear2 .ensures ∙ ap zeros (a .kept .1 .1 .1 .1 .1 .1 .1 .1 .0 ∙ s .pre .4) in
-    (room, one-unsound (s .args .plan .now) (s .args .us .now) (s .args .vs .now) (s .args .room .now) _ _ _ _ _ _ _ (w .ensures .0) (w .ensures .1) (a .ensures .1) _ _ (not-true _ (c .before .before .before .before .if1 .taken)) z)
+    (room, one-unsound (s .args .plan .now) (s .args .us .now) (s .args .vs .now) (s .args .room .now) _ _ _ _ _ _ _ (w .ensures .0) (λ J of. w .ensures .1 J of (λ b. absurd (omega arith))) (a .ensures .1) _ _ (not-true _ (c .before .before .before .before .if1 .taken)) z)
 
 -- src/run.rt:42:1
 same-length-3 : tie.Need-same-length-3
@@ -68,7 +69,7 @@ returns-2 c =
     let a = c .before .before .before .before .before .before .before .before .before .answer-pairs in
     let w = c .before .before .before .before .before .before .before .before .before .before .before .before .before .before .sweep in
     let room = c .before .before .before .clear .ensures ∙ ap zeros (a .ensures .0 .same ∙ w .ensures .0 .same) in
-    (room, all-sound (s .args .plan .now) (s .args .us .now) (s .args .vs .now) (s .args .room .now) _ _ _ _ _ _ _ (w .ensures .0) (w .ensures .1) (a .ensures .1) _ (not-false _ (c .if1 .left)))
+    (room, all-sound (s .args .plan .now) (s .args .us .now) (s .args .vs .now) (s .args .room .now) _ _ _ _ _ _ _ (w .ensures .0) (λ J of. w .ensures .1 J of (λ b. absurd (omega arith))) (a .ensures .1) _ (not-false _ (c .if1 .left)))
 
 pub run-spec : {M : Type 1} → statement M
 run-spec =

@@ -9,24 +9,21 @@ use Rattle.vertex.specs.Ready.{tail-factors}
 use Rattle.sweeps.specs.Target.{Target}
 use Rattle.sweeps.specs.Coming.{Coming}
 use Rattle.sweeps.proofs.Frames.{place-of, since-then}
-use Rattle.sweeps.proofs.BackwardTurn.{written-fits, start-since, coming-start, turn-inside, coming-fits, coming-step, coming-through, coming-turn}
+use Rattle.sweeps.proofs.BackwardTurn.{written-fits, begun-since, begun-coming, begun-stands, turn-inside, coming-fits, coming-step, coming-through, coming-turn}
 use Rattle.sweeps.proofs.backward.sweep_backward.Statement.{statement}
 use Rattle.sweeps.proofs.backward.sweep_backward.Tie as tie
 
 abbrev Inv-loop : tie.InvT-loop
-Inv-loop room₀ plan n w scales each factors t₀ src₀ most₀ room t src most = Coming plan room₀ room n w scales each t src most
+Inv-loop room₀ plan n w scales each changed factors t₀ src₀ most₀ room t src most = Coming plan room₀ room n w scales each t₀ t src most
 
 abbrev μ-loop : tie.MeasureT-loop
-μ-loop room₀ plan n w scales each factors t₀ src₀ most₀ room t src most = t
+μ-loop room₀ plan n w scales each changed factors t₀ src₀ most₀ room t src most = t
 
--- the place of the last vertex
+-- the place of the vertex where the sweep begins
 first : (c : tie.After-place-for Inv-loop μ-loop)
-    → let a = c .before .before .before .before .args in
-    Target (backwardPlace (a .plan .now) (a .n - 1)) 1 (c .place-for .result)
+    → let a = c .before .before .before .before .before .args in
+    Target (backwardPlace (a .plan .now) (c .before .before .kept-from .result)) 1 (c .place-for .result)
 first c = rw (c .before .backward-place .ensures) at (c .place-for .ensures)
-
-last : (c : tie.After-place-for Inv-loop μ-loop) → let a = c .before .before .before .before .args in a .n - 1 + 1 ≡ a .n
-last c = omega (arith, c .before .before .before .before .pre .0)
 
 -- the last vertex of a turn
 ends : (c : tie.After-backward-last Inv-loop μ-loop) → let l = c .before .before .loop in (c .backward-last .result ≤ l .t) × (1 ≤ c .backward-last .result)
@@ -34,7 +31,7 @@ ends c = turn-inside (c .backward-last .ensures) (c .before .loop-test .taken)
 
 -- the target of its step, and its vertex
 target : (c : tie.After-place-for2 Inv-loop μ-loop)
-    → let a = c .before .before .before .before .before .before .before .before .before .before .before .before .before .args in
+    → let a = c .before .before .before .before .before .before .before .before .before .before .before .before .before .before .args in
     Target (backwardPlace (a .plan .now) (c .before .before .backward-last .result - 1)) (c .before .before .before .before .loop .src) (c .place-for2 .result)
 target c = rw (c .before .backward-place2 .ensures) at (c .place-for2 .ensures)
 
@@ -44,26 +41,26 @@ next c = omega (arith, ends (c .before .before))
 add-factors : tie.Need-add-factors Inv-loop μ-loop
 add-factors c = search needs
 
-sub-t : tie.Need-sub-t Inv-loop μ-loop
-sub-t c = search needs
+kept-from-requires : tie.Need-kept-from-requires Inv-loop μ-loop
+kept-from-requires c κs = (c .before .before .pre .1 .holds, c .before .before .pre .0)
 
 backward-place-requires : tie.Need-backward-place-requires Inv-loop μ-loop
-backward-place-requires c κs = omega (arith, c .before .before .pre .1 .holds, c .before .before .pre .0)
+backward-place-requires c κs = omega (arith, c .before .before .before .pre .1 .holds, c .kept-from .ensures .below)
 
 place-for-requires : tie.Need-place-for-requires Inv-loop μ-loop
 place-for-requires c κs = search needs
 
-start-at-requires : tie.Need-start-at-requires Inv-loop μ-loop
-start-at-requires c κs =
-    let s = c .before .before .before .before .before in
-    let e = last (c .before) in
-    place-of (s .pre .1) _ (written-fits (s .args .room .now) (s .pre .1) (omega arith) (first (c .before)))
+begin-at-requires : tie.Need-begin-at-requires Inv-loop μ-loop
+begin-at-requires c κs =
+    let s = c .before .before .before .before .before .before in
+    let b = c .before .before .before .kept-from .ensures .below in
+    (place-of (s .pre .1) _ (written-fits (s .args .room .now) (s .pre .1) b (first (c .before))), b)
 
 loop-holds : tie.Need-loop-holds Inv-loop μ-loop
 loop-holds c =
-    let s = c .before .before .before .before .before .before .before .before in
+    let s = c .before .before .before .before .before .before .before .before .before in
     let placed = c .before .before .before .before in
-    coming-start (s .args .room .now) _ (s .pre .1) (last placed) (first placed) (c .before .before .start-at .ensures) (s .args .each) one-is
+    begun-coming (s .args .room .now) (s .pre .1) (placed .before .before .kept-from .ensures) (first placed) (c .before .before .begin-at .ensures)
 
 backward-last-requires : tie.Need-backward-last-requires Inv-loop μ-loop
 backward-last-requires c κs = (omega (arith, c .before .loop .inv .ready .holds, c .before .loop .inv .below), c .loop-test .taken)
@@ -101,17 +98,21 @@ loop-again c =
     coming-turn _ g (c .before .before .before .before .before .before .before .before .backward-last .ensures) (next placed) (target placed) one-is (rw one-is) (stepped .ensures) (c .half-stored .ensures)
 
 same-length : tie.Need-same-length Inv-loop μ-loop
-same-length c = c .before .loop .inv .since .same ∙ c .before .before .before .before .start-at .kept .0
+same-length c = c .before .loop .inv .since .same ∙ c .before .before .before .before .begin-at .kept .0
 
 returns : tie.Need-returns Inv-loop μ-loop
 returns c =
-    let s = c .before .before .before .before .before .before .before .before .before .before in
+    let s = c .before .before .before .before .before .before .before .before .before .before .before in
     let g = c .before .loop .inv in
     let placed = c .before .before .before .before .before .before in
-    let start = start-since (s .args .room .now) _ (s .pre .1) (last placed) (first placed) (c .before .before .before .before .start-at .ensures) in
+    let from = placed .before .before .kept-from .ensures in
+    let begun = c .before .before .before .before .begin-at .ensures in
+    let start = begun-since (s .args .room .now) (s .pre .1) from (first placed) begun in
     let none : c .before .loop .t ≡ 0 = omega arith in (
       since-then start (g .since),
-      λ J of. rw none at (g .newest J (rw (tail-factors _ _ _ (s .args .n) (start .tail)) of) .kept),
+      λ J of given.
+          rw none at
+          (g .newest J (rw (tail-factors _ _ _ (s .args .n) (start .tail)) of) (begun-stands (s .args .room .now) (s .pre .1) from (first placed) begun J given) .kept),
     )
 
 pub sweep-backward-spec : {M : Type 1} → statement M
@@ -121,10 +122,10 @@ sweep-backward-spec =
     Inv-loop
     μ-loop
     add-factors
-    sub-t
+    kept-from-requires
     backward-place-requires
     place-for-requires
-    start-at-requires
+    begin-at-requires
     loop-holds
     backward-last-requires
     sub-u

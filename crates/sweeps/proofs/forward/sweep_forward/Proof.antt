@@ -9,7 +9,7 @@ use Rattle.sweep.specs.Constants.{one-is}
 use Rattle.vertex.specs.Frame.{moving-fits}
 use Rattle.sweeps.specs.Target.{Target}
 use Rattle.sweeps.specs.Going.{Going}
-use Rattle.sweeps.proofs.Frames.{place-of}
+use Rattle.sweeps.proofs.Frames.{place-of, since-then}
 use Rattle.sweeps.proofs.ForwardTurn.{start-same, going-start, turn-inside, going-fits, going-step, going-through, going-turn}
 use Rattle.sweeps.proofs.forward.sweep_forward.Statement.{statement}
 use Rattle.sweeps.proofs.forward.sweep_forward.Tie as tie
@@ -105,7 +105,7 @@ returns c =
     let g = c .before .loop .inv in
     let first = start-same (s .args .room .now) (s .pre) (c .before .before .before .before .start-at .ensures) in
     let all : c .before .loop .t ≡ s .args .n = omega (arith, g .below) in (
-      record { same = g .since .same ∙ first .same; tail = g .since .tail ∙ first .tail },
+      since-then first (g .since),
       λ J of. rw all at (g .newest J (rw (first .tail) of) .kept),
     )
 
