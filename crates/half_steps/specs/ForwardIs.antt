@@ -37,17 +37,17 @@ module _ (s : Step Float) (sc : Float) (t : Tables) (a : Tabled s sc t) (w : ℕ
   forward-is = tabulate-ext made whole half entry
 
   -- one entry, or two: those of the pattern 0
-  abbrev few : ℕ → Float
-  few =
-      inTurn (blend (t .ep) (turn (t .em)) (getD (t .up) 0 nan) (getD d src nan) (getD d (src + half - 1) nan))
-      (blend (t .em) (turn (t .ep)) (getD (t .down) 0 nan) (getD d src nan) (getD d (src + half - 1) nan))
+  abbrev few : (y u : Float) → ℕ → Float
+  few y u =
+      inTurn (blend (t .ep) y (getD (t .up) 0 nan) (getD d src nan) (getD d (src + half - 1) nan))
+      (blend (t .em) u (getD (t .down) 0 nan) (getD d src nan) (getD d (src + half - 1) nan))
 
-  few-entry : half ≤ 2 → (j : ℕ) → j < half → few j ≡ made j
+  few-entry : (y u : Float) → y ≡ turn (t .em) → u ≡ turn (t .ep) → half ≤ 2 → (j : ℕ) → j < half → few y u j ≡ made j
   unfolding inTurn forwardRule
-  few-entry l j b =
+  few-entry y u p q l j b =
       let k : j / 2 ≡ 0 = omega arith in
       let i : src + (half - 1 - 0) ≡ src + half - 1 = omega arith in
-      rw (k, pattern-zero (t .bits) (t .count), add-zero src, i)
+      rw (p, q, k, pattern-zero (t .bits) (t .count), add-zero src, i)
 
-  pub few-is : half ≤ 2 → tabulate few half ≡ tabulate whole half
-  few-is l = rw (tabulate-ext few made half (few-entry l)) forward-is
+  pub few-is : (y u : Float) → y ≡ turn (t .em) → u ≡ turn (t .ep) → half ≤ 2 → tabulate (few y u) half ≡ tabulate whole half
+  few-is y u p q l = rw (tabulate-ext (few y u) made half (few-entry y u p q l)) forward-is

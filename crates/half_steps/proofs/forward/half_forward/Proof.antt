@@ -99,8 +99,10 @@ unfolding blend
 returns-2 c = λ l sc t.
     let s = c .before .before .before .before .before .before .before .before .before .before .before .before .before .before in
     let room = s .args .room .now in
-    rw (c .before .before .before .before .before .before .before .before .before .before .before .before .pow2 .ensures, c .before .before .before .before .before .before .before .before .before .before .before .turned .ensures, c .before .before .before .before .before .before .before .before .before .before .turned2 .ensures, c .before .before .before .before .before .before .before .before .pow22 .ensures) at (c .before .before .store-few .ensures)
-    ∙ ap (put room _) (few-is l sc _ t _ (turnOf (s .args .odd)) room _ (short-half (s .args .w) (omega arith)))
+    let turned = c .before .before .before .before .before .before .before .before .before .before .before .turned .ensures in
+    let turned2 = c .before .before .before .before .before .before .before .before .before .before .turned2 .ensures in
+    rw (c .before .before .before .before .before .before .before .before .before .before .before .before .pow2 .ensures, c .before .before .before .before .before .before .before .before .pow22 .ensures) at (c .before .before .store-few .ensures)
+    ∙ ap (put room _) (few-is l sc _ t _ (turnOf (s .args .odd)) room _ _ _ turned turned2 (short-half (s .args .w) (omega arith)))
 
 pub half-forward-spec : {M : Type 1} → statement M
 half-forward-spec =
