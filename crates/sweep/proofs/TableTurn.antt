@@ -1,14 +1,14 @@
 -- What the loops that make a step's tables know on their way, and that the tables are the step's.
 use mathlib.Core.Path.{_≡_, refl, sym, ap, _∙_}
 use mathlib.Core.Bool.{Bool, true, false, cond}
-use mathlib.Core.List.{List, [], _∷_}
+use mathlib.Core.List.{List}
 use mathlib.Core.Logic.{dite}
 use Prim.Native.Nat.{ℕ, zero, suc, _+_, _-_, _/_, _%_, _^_, _≤_, _<_}
 use native.Mathlib.Decide.{decLt}
 use native.Mathlib.Numerals.{add-one}
 use native.Mathlib.Omega.{arith}
 use lib.Dec.{eqb}
-use lib.ListN.{length, getD, set, length-set}
+use lib.ListN.{length, getD, set}
 use lib.Seq.{getD-set-other, getD-set-same}
 use lib.Ieee.{Float, nan, binary64, mul, div, ofBits}
 use Rattle.transfer.specs.Job.{Back}
@@ -87,117 +87,3 @@ filled x bits sc full count up down ef u d =
           let k : 2 ^ length (nearEdges x bits 0 count) ≡ full = rw (near-length x bits 0 count, ef) in
           rw k (rw a at (d (full - 1 - m) (omega arith)));
     }
-
--- ---- one near edge, and two, without a loop
-
--- the first two entries of a list, set
-two-set : (l : List Float) (a b : Float) → 16 ≤ length l → (getD (set (set l 0 a) 1 b) 0 nan ≡ a) × (getD (set (set l 0 a) 1 b) 1 nan ≡ b)
-two-set l a b h =
-    let m = set l 0 a in
-    let e : length m ≡ length l = length-set l 0 a in (
-      getD-set-other m 1 0 b nan (λ z. omega arith) ∙ getD-set-same l 0 a nan (omega arith),
-      getD-set-same m 1 b nan (omega arith),
-    )
-
--- and the two after them
-four-set : (l : List Float) (a b c e : Float) → 16 ≤ length l → (j : ℕ) → j < 4
-    → getD (set (set (set (set l 0 a) 1 b) 2 c) 3 e) j nan ≡ getD (a ∷ b ∷ c ∷ e ∷ []) j nan
-four-set l a b c e h = go
-  where
-    long : length (set (set l 0 a) 1 b) ≡ length l
-    long = length-set (set l 0 a) 1 b ∙ length-set l 0 a
-
-    longer : length (set (set (set l 0 a) 1 b) 2 c) ≡ length l
-    longer = length-set (set (set l 0 a) 1 b) 2 c ∙ long
-
-    before : (j : ℕ) → j < 2 → getD (set (set (set (set l 0 a) 1 b) 2 c) 3 e) j nan ≡ getD (set (set l 0 a) 1 b) j nan
-    before j k =
-        getD-set-other (set (set (set l 0 a) 1 b) 2 c) 3 j e nan (λ z. omega arith) ∙ getD-set-other (set (set l 0 a) 1 b) 2 j c nan (λ z. omega arith)
-
-    go : (j : ℕ) → j < 4 → getD (set (set (set (set l 0 a) 1 b) 2 c) 3 e) j nan ≡ getD (a ∷ b ∷ c ∷ e ∷ []) j nan
-    go zero k = before 0 (omega arith) ∙ two-set l a b h .0
-    go (suc zero) k = before 1 (omega arith) ∙ two-set l a b h .1
-    go (suc (suc zero)) k =
-        getD-set-other (set (set (set l 0 a) 1 b) 2 c) 3 2 e nan (λ z. omega arith) ∙ getD-set-same (set (set l 0 a) 1 b) 2 c nan (omega (arith, long))
-    go (suc (suc (suc zero))) k = getD-set-same (set (set (set l 0 a) 1 b) 2 c) 3 e nan (omega (arith, longer))
-    go (suc (suc (suc (suc j)))) k = absurd (omega arith)
-
-module _ (x : List Float) (bits : List ℕ) (sc : Float) where
-  -- the product of one near edge, and of two
-  one-plus : S.up ieee (nearEdges x bits 0 1) sc 0 ≡ mul binary64 (mul binary64 (ieee .𝟙) (getD x 0 nan)) sc
-  unfolding S.up S.product nearEdges
-  one-plus = refl
-
-  one-minus : S.up ieee (nearEdges x bits 0 1) sc 1 ≡ mul binary64 (div binary64 (ieee .𝟙) (getD x 0 nan)) sc
-  unfolding S.up S.product nearEdges
-  one-minus = refl
-
-  two-up : (j : ℕ) → j < 4
-      → getD (mul binary64 (mul binary64 (mul binary64 (ieee .𝟙) (getD x 0 nan)) (getD x 1 nan)) sc
-      ∷ mul binary64 (mul binary64 (div binary64 (ieee .𝟙) (getD x 0 nan)) (getD x 1 nan)) sc
-      ∷ mul binary64 (div binary64 (mul binary64 (ieee .𝟙) (getD x 0 nan)) (getD x 1 nan)) sc
-      ∷ mul binary64 (div binary64 (div binary64 (ieee .𝟙) (getD x 0 nan)) (getD x 1 nan)) sc ∷ []) j nan
-      ≡ S.up ieee (nearEdges x bits 0 2) sc j
-  unfolding S.up S.product nearEdges
-  two-up zero k = refl
-  two-up (suc zero) k = refl
-  two-up (suc (suc zero)) k = refl
-  two-up (suc (suc (suc zero))) k = refl
-  two-up (suc (suc (suc (suc j)))) k = absurd (omega arith)
-
-  module _ (one : Float) (start : one ≡ ieee .𝟙) (up down : List Float) (u : 16 ≤ length up) (d : 16 ≤ length down) (f : Float) (ef : f ≡ getD x 0 nan) where
-    abbrev plus : Float
-    plus = mul binary64 (mul binary64 one f) sc
-
-    abbrev minus : Float
-    minus = mul binary64 (div binary64 one f) sc
-
-    pub filled-by-one : Filled (nearEdges x bits 0 1) sc 1 (set (set up 0 plus) 1 minus) (set (set down 0 minus) 1 plus)
-    filled-by-one = filled x bits sc 2 1 _ _ refl ups downs
-      where
-        first : plus ≡ S.up ieee (nearEdges x bits 0 1) sc 0
-        first = rw (ef, start) (sym one-plus)
-
-        second : minus ≡ S.up ieee (nearEdges x bits 0 1) sc 1
-        second = rw (ef, start) (sym one-minus)
-
-        ups : (j : ℕ) → j < 2 → getD (set (set up 0 plus) 1 minus) j nan ≡ S.up ieee (nearEdges x bits 0 1) sc j
-        ups zero k = two-set up plus minus u .0 ∙ first
-        ups (suc zero) k = two-set up plus minus u .1 ∙ second
-        ups (suc (suc j)) k = absurd (omega arith)
-
-        downs : (j : ℕ) → j < 2 → getD (set (set down 0 minus) 1 plus) (2 - 1 - j) nan ≡ S.up ieee (nearEdges x bits 0 1) sc j
-        downs zero k = two-set down minus plus d .1 ∙ first
-        downs (suc zero) k = two-set down minus plus d .0 ∙ second
-        downs (suc (suc j)) k = absurd (omega arith)
-
-    module _ (g : Float) (eg : g ≡ getD x 1 nan) where
-      abbrev by : (Float → Float → Float) → (Float → Float → Float) → Float
-      by p q = mul binary64 (q (p one f) g) sc
-
-      abbrev set4 : List Float → Float → Float → Float → Float → List Float
-      set4 l a b c e = set (set (set (set l 0 a) 1 b) 2 c) 3 e
-
-      pub filled-by-two : Filled (nearEdges x bits 0 2) sc 2
-          (set4 up (by (mul binary64) (mul binary64)) (by (div binary64) (mul binary64)) (by (mul binary64) (div binary64)) (by (div binary64) (div binary64)))
-          (set4 down (by (div binary64) (div binary64)) (by (mul binary64) (div binary64)) (by (div binary64) (mul binary64)) (by (mul binary64) (mul binary64)))
-      filled-by-two = filled x bits sc 4 2 _ _ refl ups downs
-        where
-          values : (j : ℕ) → j < 4
-              → getD (by (mul binary64) (mul binary64) ∷ by (div binary64) (mul binary64) ∷ by (mul binary64) (div binary64) ∷ by (div binary64) (div binary64) ∷ []) j nan
-              ≡ S.up ieee (nearEdges x bits 0 2) sc j
-          values j k = rw (ef, eg, start) (two-up j k)
-
-          ups : (j : ℕ) → j < 4
-              → getD (set4 up (by (mul binary64) (mul binary64)) (by (div binary64) (mul binary64)) (by (mul binary64) (div binary64)) (by (div binary64) (div binary64))) j nan
-              ≡ S.up ieee (nearEdges x bits 0 2) sc j
-          ups j k = four-set up _ _ _ _ u j k ∙ values j k
-
-          downs : (j : ℕ) → j < 4
-              → getD (set4 down (by (div binary64) (div binary64)) (by (mul binary64) (div binary64)) (by (div binary64) (mul binary64)) (by (mul binary64) (mul binary64))) (4 - 1 - j) nan
-              ≡ S.up ieee (nearEdges x bits 0 2) sc j
-          downs zero k = four-set down _ _ _ _ d 3 (omega arith) ∙ values 0 (omega arith)
-          downs (suc zero) k = four-set down _ _ _ _ d 2 (omega arith) ∙ values 1 (omega arith)
-          downs (suc (suc zero)) k = four-set down _ _ _ _ d 1 (omega arith) ∙ values 2 (omega arith)
-          downs (suc (suc (suc zero))) k = four-set down _ _ _ _ d 0 (omega arith) ∙ values 3 (omega arith)
-          downs (suc (suc (suc (suc j)))) k = absurd (omega arith)

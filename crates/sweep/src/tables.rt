@@ -4,8 +4,8 @@ ghost use mathlib.Core.Bool.{cond};
 ghost use mathlib.Core.List.{List};
 ghost use Prim.Native.Nat.{ℕ, _≤_};
 ghost use lib.Dec.{eqb};
-ghost use lib.Ieee.{Float, nan, binary64, mul, div};
-ghost use lib.ListN.{length, getD};
+ghost use lib.Ieee.{binary64, mul, div};
+ghost use lib.ListN.{length};
 ghost use Rattle.transfer.specs.Rounded.{ieee};
 ghost use Rattle.transfer.specs.Sweep as S;
 ghost use Rattle.sweep.specs.Step.{nearEdges, leftEdge, Filled};
@@ -41,44 +41,8 @@ pub fn left_factor(linked: bool, left: f64) -> f64
     if linked { left } else { 1.0 }
 }
 
-// What the spin of one near edge weighs, with the new spin up and with it down.
-fn fill_by_one(x: f64, scale: f64, up: &mut [f64], down: &mut [f64])
-    requires { ⌜ (16 ≤ length (now up)) × (16 ≤ length (now down)) ⌝ }
-    ensures { λ _. ⌜ ((factors : List Float) (bits : List ℕ) → x ≡ getD factors 0 nan
-        → Filled (nearEdges factors bits 0 1) scale 1 (now (up .exit)) (now (down .exit))) ⌝ }
-{
-    let a = 1.0 * x * scale;
-    let b = 1.0 / x * scale;
-    up[0] = a;
-    up[1] = b;
-    down[0] = b;
-    down[1] = a;
-}
-
-// The same of two near edges.
-fn fill_by_two(x: f64, y: f64, scale: f64, up: &mut [f64], down: &mut [f64])
-    requires { ⌜ (16 ≤ length (now up)) × (16 ≤ length (now down)) ⌝ }
-    ensures { λ _. ⌜ ((factors : List Float) (bits : List ℕ) → x ≡ getD factors 0 nan → y ≡ getD factors 1 nan
-        → Filled (nearEdges factors bits 0 2) scale 2 (now (up .exit)) (now (down .exit))) ⌝ }
-{
-    let p = 1.0 * x;
-    let q = 1.0 / x;
-    let a = p * y * scale;
-    let b = q * y * scale;
-    let c = p / y * scale;
-    let d = q / y * scale;
-    up[0] = a;
-    up[1] = b;
-    up[2] = c;
-    up[3] = d;
-    down[0] = d;
-    down[1] = c;
-    down[2] = b;
-    down[3] = a;
-}
-
-// The same of the first `count` near edges, pattern by pattern.
-fn fill_by_loop(factors: &[f64; 4], count: usize, scale: f64, up: &mut [f64], down: &mut [f64])
+// What the spins of the first `count` near edges weigh, with the new spin up and with it down.
+pub fn fill_tables(factors: &[f64; 4], count: usize, scale: f64, up: &mut [f64], down: &mut [f64])
     requires { ⌜ (count ≤ 4) × (16 ≤ length (now up)) × (16 ≤ length (now down)) ⌝ }
     ensures { λ _. ⌜ ((bits : List ℕ) → Filled (nearEdges (now (factors .entry)) bits 0 count) scale count (now (up .exit)) (now (down .exit))) ⌝ }
 {
@@ -91,21 +55,4 @@ fn fill_by_loop(factors: &[f64; 4], count: usize, scale: f64, up: &mut [f64], do
         down[mirrored] = f * scale;
         m += 1;
     }
-}
-
-// What the spins of the first `count` near edges weigh, with the new spin up and with it down. Most steps have one such edge or two: these
-// go without loops, which would take as long as the step itself in a small window.
-pub fn fill_tables(factors: &[f64; 4], count: usize, scale: f64, up: &mut [f64], down: &mut [f64])
-    requires { ⌜ (count ≤ 4) × (16 ≤ length (now up)) × (16 ≤ length (now down)) ⌝ }
-    ensures { λ _. ⌜ ((bits : List ℕ) → Filled (nearEdges (now (factors .entry)) bits 0 count) scale count (now (up .exit)) (now (down .exit))) ⌝ }
-{
-    if count == 1 {
-        fill_by_one(factors[0], scale, up, down);
-        return;
-    }
-    if count == 2 {
-        fill_by_two(factors[0], factors[1], scale, up, down);
-        return;
-    }
-    fill_by_loop(factors, count, scale, up, down);
 }

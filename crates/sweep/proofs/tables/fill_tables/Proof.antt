@@ -1,74 +1,108 @@
--- By cases on the number of near edges.
-use mathlib.Core.Path.{refl}
-use borrow.Author.Needs.{needs}
+-- The loop fills one table from its front and the other from its end with the same products.
+use mathlib.Core.Path.{_≡_, refl}
+use mathlib.Core.List.{List}
+use Prim.Native.Nat.{ℕ, _≤_, _<_, _-_, _^_}
+use native.Mathlib.Omega.{arith}
+use lib.Ieee.{nan}
+use lib.ListN.{length, getD, length-set}
+use lib.Pow.{pow-mono}
+use Rattle.transfer.specs.Rounded.{ieee}
+use Rattle.transfer.specs.Sweep as S
+use Rattle.sweep.specs.Step.{nearEdges}
+use Rattle.sweep.proofs.TableTurn.{front-turn, mirror-turn, up-is, filled}
 use Rattle.sweep.proofs.tables.fill_tables.Statement.{statement}
 use Rattle.sweep.proofs.tables.fill_tables.Tie as tie
 
-element-copy-out-fill-by-one : tie.Need-element-copy-out-fill-by-one
-element-copy-out-fill-by-one c = search needs
+abbrev Inv-loop : tie.InvT-loop
+Inv-loop factors count scale up₀ down₀ full m₀ up down m =
+    (m ≤ full) × (full ≡ 2 ^ count) × (full ≤ 16) × (length up ≡ length up₀) × (length down ≡ length down₀)
+    × ((bits : List ℕ) (j : ℕ) → j < m → getD up j nan ≡ S.up ieee (nearEdges factors bits 0 count) scale j)
+    × ((bits : List ℕ) (j : ℕ) → j < m → getD down (full - 1 - j) nan ≡ S.up ieee (nearEdges factors bits 0 count) scale j)
 
-fill-by-one-requires : tie.Need-fill-by-one-requires
-fill-by-one-requires c κs = search needs
+abbrev μ-loop : tie.MeasureT-loop
+μ-loop factors count scale up₀ down₀ full m₀ up down m = full - m
 
-same-length : tie.Need-same-length
-same-length c = search needs
+pow2-requires : tie.Need-pow2-requires Inv-loop μ-loop
+pow2-requires c κs = omega arith
 
-same-length-2 : tie.Need-same-length-2
-same-length-2 c = search needs
+loop-holds : tie.Need-loop-holds Inv-loop μ-loop
+loop-holds c =
+    let p : 2 ^ c .before .before .before .args .count ≤ 2 ^ 4 = pow-mono {j = 4} (omega arith) in
+    (omega arith, c .pow2 .ensures, omega (arith, c .pow2 .ensures), refl, refl, (λ bits j p. absurd (omega arith)), λ bits j p. absurd (omega arith))
 
-returns : tie.Need-returns
+sub-mirrored : tie.Need-sub-mirrored Inv-loop μ-loop
+sub-mirrored c = omega arith
+
+sub-mirrored-2 : tie.Need-sub-mirrored-2 Inv-loop μ-loop
+sub-mirrored-2 c = omega arith
+
+product-requires : tie.Need-product-requires Inv-loop μ-loop
+product-requires c κs = omega arith
+
+mul-up : tie.Need-mul-up Inv-loop μ-loop
+mul-up c = omega arith
+
+slice-write-up : tie.Need-slice-write-up Inv-loop μ-loop
+slice-write-up c = omega arith
+
+mul-down : tie.Need-mul-down Inv-loop μ-loop
+mul-down c = omega arith
+
+slice-write-down : tie.Need-slice-write-down Inv-loop μ-loop
+slice-write-down c = omega arith
+
+add-m : tie.Need-add-m Inv-loop μ-loop
+add-m c = omega arith
+
+loop-less : tie.Need-loop-less Inv-loop μ-loop
+loop-less c = omega arith
+
+loop-again : tie.Need-loop-again Inv-loop μ-loop
+loop-again c =
+    let at = c .before .before in
+    let i = at .loop .inv in
+    let a = c .before .before .before .before .before .before .args in (
+      omega arith,
+      i .1,
+      i .2,
+      simp length-set (i .3),
+      simp length-set (i .4),
+      (λ bits. front-turn (at .loop .up) (S.up ieee (nearEdges (a .factors .now) bits 0 (a .count)) (a .scale)) _ _ (omega arith)
+          (up-is _ _ _ _ (c .product .ensures bits)) (i .5 bits)),
+      λ bits. mirror-turn (at .loop .down) (S.up ieee (nearEdges (a .factors .now) bits 0 (a .count)) (a .scale)) _ _ _ (omega arith) (omega arith)
+          (up-is _ _ _ _ (c .product .ensures bits)) (i .6 bits),
+    )
+
+same-length : tie.Need-same-length Inv-loop μ-loop
+same-length c = c .before .loop .inv .3
+
+same-length-2 : tie.Need-same-length-2 Inv-loop μ-loop
+same-length-2 c = c .before .loop .inv .4
+
+returns : tie.Need-returns Inv-loop μ-loop
 returns c = λ bits.
-    let one = c .before .before .before .before in
-    rw (c .before .before .before .before .before .before .before .before .if1 .taken) (one .fill-by-one .ensures _ bits refl)
-
-element-copy-out-fill-by-two : tie.Need-element-copy-out-fill-by-two
-element-copy-out-fill-by-two c = search needs
-
-element-copy-out-fill-by-two-2 : tie.Need-element-copy-out-fill-by-two-2
-element-copy-out-fill-by-two-2 c = search needs
-
-fill-by-two-requires : tie.Need-fill-by-two-requires
-fill-by-two-requires c κs = search needs
-
-same-length-3 : tie.Need-same-length-3
-same-length-3 c = search needs
-
-same-length-4 : tie.Need-same-length-4
-same-length-4 c = search needs
-
-returns-2 : tie.Need-returns-2
-returns-2 c = λ bits.
-    let two = c .before .before .before .before in
-    rw (c .before .before .before .before .before .before .before .before .before .if2 .taken) (two .fill-by-two .ensures _ bits refl refl)
-
-fill-by-loop-requires : tie.Need-fill-by-loop-requires
-fill-by-loop-requires c κs = search needs
-
-same-length-5 : tie.Need-same-length-5
-same-length-5 c = search needs
-
-same-length-6 : tie.Need-same-length-6
-same-length-6 c = search needs
-
-returns-3 : tie.Need-returns-3
-returns-3 c = c .before .before .before .before .fill-by-loop .ensures
+    let i = c .before .loop .inv in
+    let n : c .before .before .pow2 .result ≤ c .before .loop .m = omega arith in
+    filled _ bits _ _ _ _ _ (i .1) (λ j l. i .5 bits j (omega arith)) (λ j l. i .6 bits j (omega arith))
 
 pub fill-tables-spec : {M : Type 1} → statement M
 fill-tables-spec =
     tie.close
     (tie.spec
-    element-copy-out-fill-by-one
-    fill-by-one-requires
+    Inv-loop
+    μ-loop
+    pow2-requires
+    loop-holds
+    sub-mirrored
+    sub-mirrored-2
+    product-requires
+    mul-up
+    slice-write-up
+    mul-down
+    slice-write-down
+    add-m
+    loop-less
+    loop-again
     same-length
     same-length-2
-    returns
-    element-copy-out-fill-by-two
-    element-copy-out-fill-by-two-2
-    fill-by-two-requires
-    same-length-3
-    same-length-4
-    returns-2
-    fill-by-loop-requires
-    same-length-5
-    same-length-6
-    returns-3)
+    returns)
