@@ -16,13 +16,13 @@ pub struct Hand {
     pub place: usize,
 }
 
-// The last vertex of a turn from t on, before or at `to`: two steps are taken in one pass where they can be. In a window below 5 one at a
-// time is as quick.
+// The last vertex of a turn from t on, before or at `to`: two steps are taken in one pass where they can be. In a window below 6 one at a
+// time is quicker.
 fn advance_last(w: usize, t: usize, to: usize) -> usize
     requires { ⌜ t ≤ to ⌝ }
     ensures { λ r. ⌜ AdvanceTurn w t to r ⌝ }
 {
-    if w < 5 {
+    if w < 6 {
         return t;
     }
     if t == to { t } else { t + 1 }

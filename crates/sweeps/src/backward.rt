@@ -16,7 +16,7 @@ use plan::backward_place;
 use vertex::backward_through;
 
 // The last vertex of a turn from t on. Two steps are taken in one pass where no largest entry is due between them and the vector between
-// them is not kept; in a window below 5 one at a time is as quick.
+// them is not kept; in a window below 6 one at a time is quicker.
 fn backward_last(plan: &[usize], w: usize, each: bool, t: usize) -> usize
     requires { ⌜ Holds (now plan) t × (1 ≤ t) ⌝ }
     ensures { λ r. ⌜ BackwardTurn (now (plan .entry)) w each t r ⌝ }
@@ -24,7 +24,7 @@ fn backward_last(plan: &[usize], w: usize, each: bool, t: usize) -> usize
     if each {
         return t;
     }
-    if w < 5 {
+    if w < 6 {
         return t;
     }
     if t < 2 {

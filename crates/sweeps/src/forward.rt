@@ -14,7 +14,7 @@ use plan::forward_place;
 use vertex::forward_through;
 
 // The last vertex of a turn from t on. Two steps are taken in one pass where no largest entry is due between them and the vector between
-// them is not kept; in a window below 5 one at a time is as quick.
+// them is not kept; in a window below 6 one at a time is quicker.
 fn forward_last(plan: &[usize], n: usize, w: usize, each: bool, t: usize) -> usize
     requires { ⌜ Holds (now plan) n × (t < n) ⌝ }
     ensures { λ r. ⌜ ForwardTurn (now (plan .entry)) n w each t r ⌝ }
@@ -22,7 +22,7 @@ fn forward_last(plan: &[usize], n: usize, w: usize, each: bool, t: usize) -> usi
     if each {
         return t;
     }
-    if w < 5 {
+    if w < 6 {
         return t;
     }
     if t + 1 == n {
