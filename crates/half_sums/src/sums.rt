@@ -1,5 +1,5 @@
 // The sums of two pairs, over the halves there and back, in one pass. A sum is one long chain of additions, each of which waits for the one
-// before; four such chains side by side take hardly longer than two.
+// before; four such chains side by side take less time than two after two.
 ghost use mathlib.Core.Path.{_≡_};
 ghost use Prim.Native.Nat.{ℕ, _+_, _*_, _-_, _%_, _^_, _≤_, _<_};
 ghost use lib.ListN.{length};
