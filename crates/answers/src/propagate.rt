@@ -42,6 +42,12 @@ fn advance(
     requires { ⌜ Ready (now plan) (length (now room)) n w scales × (from ≤ to) × (to < n) × (at < 2) ⌝ }
     ensures { λ r. ⌜ Advanced (now (plan .entry)) (now (room .entry)) (now (room .exit)) n w scales from at to r ⌝ }
 {
+    let mut bits = [0usize; 4];
+    let mut up = [0.0f64; 16];
+    let mut down = [0.0f64; 16];
+    let mut bits2 = [0usize; 4];
+    let mut up2 = [0.0f64; 16];
+    let mut down2 = [0.0f64; 16];
     let mut src = at;
     let mut t = from;
     while t < to {
@@ -62,6 +68,13 @@ fn advance(
             true,
             src,
             dst,
+            false,
+            &mut bits,
+            &mut up,
+            &mut down,
+            &mut bits2,
+            &mut up2,
+            &mut down2,
         );
         src = dst;
         t = last;

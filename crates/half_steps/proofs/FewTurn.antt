@@ -10,6 +10,10 @@ use Rattle.vector.specs.Tabulate.{tabulate}
 use Rattle.vector.specs.Part.{put, fill-none, fill-one, fill-two}
 use Rattle.sweep.specs.Rule.{inTurn}
 use Rattle.sweep.specs.Rules.{turn-even, turn-odd}
+use Rattle.transfer.specs.Rounded.{ieee}
+use Rattle.largest.specs.Larger.{larger}
+use Rattle.largest.specs.Top.{top, top-none}
+use Rattle.largest.specs.Lanes.{lane-turn}
 
 module _ (d : List Float) (at half : ℕ) (a b : Float) (fits : at + half ≤ length d) where
   pub few-one : half ≡ 1 → set d at a ≡ put d at (tabulate (inTurn a b) half)
@@ -25,3 +29,13 @@ module _ (d : List Float) (at half : ℕ) (a b : Float) (fits : at + half ≤ le
       rw e
       (ap (λ (l : List Float). set (set l at a) (at + 1) b) (fill-none d at f)
       ∙ rw (add-zero at) at (fill-two d at f 0 a b (omega arith) (sym (turn-even a b 0 refl)) (sym (turn-odd a b 1 refl))))
+
+  -- the larger of them
+  first-most : {m : Float} → m ≡ larger (ieee .𝟘) a → m ≡ top (inTurn a b) 1
+  first-most m = lane-turn (inTurn a b) 0 (top-none (inTurn a b)) (m ∙ ap (larger (ieee .𝟘)) (sym (turn-even a b 0 refl)))
+
+  pub most-one : {m : Float} → half ≡ 1 → m ≡ larger (ieee .𝟘) a → m ≡ top (inTurn a b) half
+  most-one e m = rw e (first-most m)
+
+  pub most-two : {m m′ : Float} → half ≡ 2 → m ≡ larger (ieee .𝟘) a → m′ ≡ larger m b → m′ ≡ top (inTurn a b) half
+  most-two {m} e one two = rw e (lane-turn (inTurn a b) 1 (first-most one) (two ∙ ap (larger m) (sym (turn-odd a b 1 refl))))

@@ -1,5 +1,2 @@
-mod Halves
 mod FewTurn
-mod ForwardTurn
-mod BackwardTurn
 mod AlternateTurn

@@ -104,15 +104,16 @@ module _ (s : Step Float) (sc : Float) (t : Tables) (a : Tabled s sc t) (s′ : 
   fourth-part : (i : ℕ) → i < end → front (t .em) (t .ep) i ≡ again (2 ^ (w - 1) - 1 - i)
   fourth-part i b = let z = ends in front-over (t .em) (t .ep) i b ∙ end-is s sc t a w once (omega arith) i (omega arith)
 
-  pub backward-twice-is : (dst : ℕ) → dst + 2 ^ (w - 1) ≤ length d
-      → inward d dst (dst + end) (dst + quarter) (dst + quarter + end)
+  pub backward-twice-filled : (r : List Float) (dst : ℕ) → dst + 2 ^ (w - 1) ≤ length d
+      → r ≡ inward d dst (dst + end) (dst + quarter) (dst + quarter + end)
       (front (t .ep) (t .em)) (back (t .ep) (t .em)) (back (t .em) (t .ep)) (front (t .em) (t .ep)) end
-      ≡ put d dst (tabulate again (2 ^ (w - 1)))
-  backward-twice-is dst to =
+      → r ≡ put d dst (tabulate again (2 ^ (w - 1)))
+  backward-twice-filled r dst to filled =
       let z = ends in
       let y = half in
       let all : end + end + end + end ≡ 2 ^ (w - 1) = omega arith in
-      inward-together d dst (dst + end) (dst + quarter) (dst + quarter + end) _ _ _ _ again end refl (omega arith) (omega arith) (omega arith) first-part
+      filled
+      ∙ inward-together d dst (dst + end) (dst + quarter) (dst + quarter + end) _ _ _ _ again end refl (omega arith) (omega arith) (omega arith) first-part
       (λ i b. let e : quarter - 1 - (end - 1 - i) ≡ end + i = omega arith in second-part (end - 1 - i) (omega arith) ∙ ap again e)
       (λ i b. let e : quarter + i ≡ end + end + i = omega arith in third-part i b ∙ ap again e)
       (λ i b. let e : 2 ^ (w - 1) - 1 - (end - 1 - i) ≡ end + end + end + i = omega arith in fourth-part (end - 1 - i) (omega arith) ∙ ap again e)

@@ -1,5 +1,5 @@
 -- Two forward steps of a half at once are the second of the first.
-use mathlib.Core.Path.{_≡_, refl, sym, _∙_}
+use mathlib.Core.Path.{_≡_, refl, sym, ap, _∙_}
 use mathlib.Core.List.{List}
 use mathlib.Core.Logic.{dite}
 use Prim.Native.Nat.{ℕ, _+_, _*_, _-_, _/_, _%_, _^_, _≤_, _<_}
@@ -10,6 +10,7 @@ use lib.Ieee.{Float, nan}
 use Rattle.vector.specs.Tabulate.{tabulate, tabulate-ext}
 use Rattle.transfer.specs.Job.{Step}
 use Rattle.sweep.specs.Step.{Tables, Tabled}
+use Rattle.sweep.specs.Place.{hold}
 use Rattle.sweep.specs.Rule.{entries, fromEnd, weights, blend, forwardRule}
 use Rattle.sweep.specs.Rules.{rule-even, rule-odd}
 use Rattle.sweep.specs.Tabled.{up-weight, down-weight}
@@ -99,5 +100,10 @@ module _ (s : Step Float) (sc : Float) (t : Tables) (a : Tabled s sc t) (s′ : 
       (λ k b.
       rule-odd _ _ _ _ _ _ _ _ (2 * k + 1) k refl ∙ rw (front-is k, back-is k (omega arith)) (sym (odd-is s′ sc′ t′ a′ w turn once (2 * k + 1) k refl)))
 
-  pub forward-twice-is : tabulate made (2 * quarter) ≡ tabulate (forwardHalf w s′ sc′ turn once) (2 ^ (w - 1))
+  forward-twice-is : tabulate made (2 * quarter) ≡ tabulate (forwardHalf w s′ sc′ turn once) (2 ^ (w - 1))
   forward-twice-is = rw half (tabulate-ext made (forwardHalf w s′ sc′ turn once) (2 * quarter) entry)
+
+  -- what the runs leave
+  pub forward-twice-filled : (r : List Float) (dst : ℕ) → r ≡ hold d w dst (tabulate made (2 * quarter))
+      → r ≡ hold d w dst (tabulate (forwardHalf w s′ sc′ turn once) (2 ^ (w - 1)))
+  forward-twice-filled r dst e = e ∙ ap (hold d w dst) forward-twice-is

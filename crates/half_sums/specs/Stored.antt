@@ -1,23 +1,28 @@
 -- When the largest entry of a vector is taken.
-use mathlib.Core.Path.{_≡_}
+use mathlib.Core.Path.{_≡_, refl, ap, _∙_}
 use mathlib.Core.Bool.{Bool, true, false, cond}
 use mathlib.Core.List.{List}
 use Prim.Native.Nat.{ℕ, _%_}
+use lib.Dec.{eqb}
 use lib.Ieee.{Float}
-use borrow.Author.Tests.{eq-eqb, ne-eqb}
 use Rattle.transfer.specs.Job.{block, perElement}
 use Rattle.transfer.specs.Rounded.{ieee}
 use Rattle.transfer.specs.Sweep as S
 
-module _ (each : Bool) (m : Float) (r t : ℕ) (v : List Float) where
-  pub stored-each : each ≡ true → m ≡ S.largest ieee (ieee .𝟘) v → m ≡ S.stored ieee (cond each perElement block) r t v
-  unfolding S.stored
-  stored-each e w = rw e w
+-- after every step, or after the steps with t % 4 = r
+unfoldable pub due : Bool → ℕ → ℕ → Bool
+due each r t = cond each true (eqb (t % 4) r)
 
-  pub stored-due : each ≡ false → t % 4 ≡ r → m ≡ S.largest ieee (ieee .𝟘) v → m ≡ S.stored ieee (cond each perElement block) r t v
-  unfolding S.stored
-  stored-due e q w = rw (e, eq-eqb (t % 4) r q) w
+-- the largest entry where it is due, else 1.0
+unfoldable pub mostIf : Bool → List Float → Float
+mostIf b v = cond b (S.largest ieee (ieee .𝟘) v) (ieee .𝟙)
 
-  pub stored-not : each ≡ false → (t % 4 ≡ r → ⊥) → m ≡ ieee .𝟙 → m ≡ S.stored ieee (cond each perElement block) r t v
-  unfolding S.stored
-  stored-not e q w = rw (e, ne-eqb (t % 4) r q) w
+-- that is what a step stores
+stored-is : (each : Bool) (r t : ℕ) (v : List Float) → mostIf (due each r t) v ≡ S.stored ieee (cond each perElement block) r t v
+unfolding due mostIf S.stored
+stored-is true r t v = refl
+stored-is false r t v = refl
+
+pub stored-if : (each : Bool) (r t : ℕ) (v : List Float) {b : Bool} {m : Float} → b ≡ due each r t → m ≡ mostIf b v
+    → m ≡ S.stored ieee (cond each perElement block) r t v
+stored-if each r t v e p = p ∙ ap (λ (x : Bool). mostIf x v) e ∙ stored-is each r t v

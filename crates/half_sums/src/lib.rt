@@ -4,6 +4,7 @@ mod sums;
 
 pub use stored::half_largest_at;
 pub use stored::half_stored;
+pub use stored::is_due;
 pub use sums::Both;
 pub use sums::Source;
 pub use sums::Sums;

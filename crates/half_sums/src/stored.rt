@@ -1,13 +1,12 @@
 // The largest entry of a vector of which a place holds the lower half, and when it is taken.
 ghost use mathlib.Core.Path.{_≡_};
-ghost use mathlib.Core.Bool.{cond};
 ghost use Prim.Native.Nat.{_-_, _^_};
 ghost use lib.ListN.{length};
 ghost use Rattle.vector.specs.Tabulate.{tabulate};
-ghost use Rattle.transfer.specs.Job.{block, perElement};
 ghost use Rattle.transfer.specs.Rounded.{ieee};
 ghost use Rattle.transfer.specs.Sweep as S;
 ghost use Rattle.sweep.specs.Place.{Place};
+ghost use Rattle.half_sums.specs.Stored.{due, mostIf};
 ghost use Rattle.half_sums.specs.Terms.{halfAt};
 use largest::largest_from;
 use sweep::pow2;
@@ -20,16 +19,23 @@ pub fn half_largest_at(room: &[f64], p: usize, w: usize) -> f64
     largest_from(room, p * pow2(w), w - 1)
 }
 
-// The stored largest entry after the step at t that gave the half at place p. `each` is the per-element manner: after every step. In the
-// block manner it is taken where t % 4 is r, and is 1.0 elsewhere. It is the whole vector's (`stored-even`).
-pub fn half_stored(room: &[f64], p: usize, w: usize, each: bool, r: usize, t: usize) -> f64
-    requires { ⌜ Place (length (now room)) w p ⌝ }
-    ensures { λ m. ⌜ m ≡ S.stored ieee (cond each perElement block) r t (tabulate (halfAt (now (room .entry)) w p) (2 ^ (w - 1))) ⌝ }
+// Whether the largest entry is taken after the step at t. `each` is the per-element manner: after every step. In the block manner it is
+// taken where t % 4 is r.
+pub fn is_due(each: bool, r: usize, t: usize) -> bool
+    ensures { λ b. ⌜ b ≡ due each r t ⌝ }
 {
     if each {
-        return half_largest_at(room, p, w);
+        return true;
     }
-    if t % 4 == r {
+    t % 4 == r
+}
+
+// What is stored of the half at place p: its largest entry where that is due, else 1.0. It is the whole vector's (`stored-even`).
+pub fn half_stored(room: &[f64], p: usize, w: usize, taken: bool) -> f64
+    requires { ⌜ Place (length (now room)) w p ⌝ }
+    ensures { λ m. ⌜ m ≡ mostIf taken (tabulate (halfAt (now (room .entry)) w p) (2 ^ (w - 1))) ⌝ }
+{
+    if taken {
         return half_largest_at(room, p, w);
     }
     1.0

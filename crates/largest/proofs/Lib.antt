@@ -1,2 +1,1 @@
-mod Order
 mod LargestTurn

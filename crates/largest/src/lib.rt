@@ -10,7 +10,7 @@ ghost use Rattle.largest.specs.Larger.{larger};
 use sweep::pow2;
 
 // x where it is above a, else a: so a NaN is passed over.
-fn larger_of(a: f64, x: f64) -> f64
+pub fn larger_of(a: f64, x: f64) -> f64
     ensures { λ r. ⌜ r ≡ larger a x ⌝ }
 {
     if x > a { x } else { a }
@@ -31,11 +31,23 @@ fn one_lane(v: &[f64], at: usize, n: usize) -> f64
 }
 
 // Four numbers side by side: entries, or the largest so far of four lanes.
-struct Four {
-    a: f64,
-    b: f64,
-    c: f64,
-    d: f64,
+pub struct Four {
+    pub a: f64,
+    pub b: f64,
+    pub c: f64,
+    pub d: f64,
+}
+
+// Four lanes that no entry has passed.
+pub fn no_entries() -> Four
+    ensures { λ r. ⌜ (r .a ≡ ieee .𝟘) × (r .b ≡ ieee .𝟘) × (r .c ≡ ieee .𝟘) × (r .d ≡ ieee .𝟘) ⌝ }
+{
+    Four {
+        a: 0.0,
+        b: 0.0,
+        c: 0.0,
+        d: 0.0,
+    }
 }
 
 // The four entries at `at`.
@@ -53,7 +65,7 @@ fn four_at(v: &[f64], at: usize) -> Four
 }
 
 // The larger of each two.
-fn joined(l: Four, m: Four) -> Four
+pub fn joined(l: Four, m: Four) -> Four
     ensures { λ r. ⌜ (r .a ≡ larger (l .a) (m .a)) × (r .b ≡ larger (l .b) (m .b))
         × (r .c ≡ larger (l .c) (m .c)) × (r .d ≡ larger (l .d) (m .d)) ⌝ }
 {
@@ -70,12 +82,7 @@ fn sixteen_lanes(v: &[f64], at: usize, n: usize) -> f64
     requires { ⌜ at + 16 * n ≤ length (now v) ⌝ }
     ensures { λ r. ⌜ r ≡ S.largest ieee (ieee .𝟘) (part (now (v .entry)) at (16 * n)) ⌝ }
 {
-    let mut a = Four {
-        a: 0.0,
-        b: 0.0,
-        c: 0.0,
-        d: 0.0,
-    };
+    let mut a = no_entries();
     let mut b = a;
     let mut c = a;
     let mut d = a;

@@ -17,7 +17,7 @@ use Rattle.sweep.specs.Place.{hold}
 use Rattle.halves.specs.Even.{Even, start-even}
 use Rattle.halves.specs.Largest.{stored-even}
 use Rattle.half_sums.specs.Terms.{halfAt}
-use Rattle.half_steps.specs.Fold.{fold-even}
+use Rattle.half_backward.specs.Fold.{fold-even}
 use Rattle.vertex.specs.Same.{even-ext, even-as}
 use Rattle.vertex.specs.Frame.{Fits, half-held, Wrote, wrote-half, wrote-other}
 use Rattle.vertex.specs.Ready.{Ready, PlanOf, Stepping, Backward, tail-factors}

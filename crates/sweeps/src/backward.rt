@@ -12,6 +12,7 @@ ghost use Rattle.sweeps.specs.Turn.{BackwardTurn};
 use crate::target::place_for;
 use crate::target::start_at;
 use half_sums::half_stored;
+use half_sums::is_due;
 use plan::backward_place;
 use vertex::backward_through;
 
@@ -61,7 +62,7 @@ fn begin_at(room: &mut [f64], n: usize, w: usize, each: bool, t: usize, src: usi
     ensures { λ r. ⌜ Begun (now (room .entry)) (now (room .exit)) n w each t src r ⌝ }
 {
     if t + 1 < n {
-        return half_stored(room, src, w, each, 0, t + 1);
+        return half_stored(room, src, w, is_due(each, 0, t + 1));
     }
     start_at(room, w, src);
     1.0
@@ -85,6 +86,12 @@ pub fn sweep_backward(
         → Stands J (now (plan .entry)) (now (room .entry)) n w changed → Backward J (now (plan .entry)) (now (room .exit)) n w 0) ⌝ }
 {
     let factors = scales + n;
+    let mut bits = [0usize; 4];
+    let mut up = [0.0f64; 16];
+    let mut down = [0.0f64; 16];
+    let mut bits2 = [0usize; 4];
+    let mut up2 = [0.0f64; 16];
+    let mut down2 = [0.0f64; 16];
     let mut t = kept_from(plan, n, changed);
     let mut src = place_for(backward_place(plan, t), 1);
     let mut most = begin_at(room, n, w, each, t, src);
@@ -93,8 +100,26 @@ pub fn sweep_backward(
         let last = backward_last(plan, w, each, t);
         let u = last - 1;
         let dst = place_for(backward_place(plan, u), src);
-        backward_through(room, factors, plan, w, t, last, scale, 1.0, src, dst);
-        most = half_stored(room, dst, w, each, 0, last);
+        let due = is_due(each, 0, last);
+        most = backward_through(
+            room,
+            factors,
+            plan,
+            w,
+            t,
+            last,
+            scale,
+            1.0,
+            src,
+            dst,
+            due,
+            &mut bits,
+            &mut up,
+            &mut down,
+            &mut bits2,
+            &mut up2,
+            &mut down2,
+        );
         src = dst;
         t = u;
     }

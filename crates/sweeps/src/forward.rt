@@ -9,7 +9,7 @@ ghost use Rattle.sweeps.specs.Kept.{Since};
 ghost use Rattle.sweeps.specs.Turn.{ForwardTurn};
 use crate::target::place_for;
 use crate::target::start_at;
-use half_sums::half_stored;
+use half_sums::is_due;
 use plan::forward_place;
 use vertex::forward_through;
 
@@ -53,6 +53,12 @@ pub fn sweep_forward(
         → Forward J (now (plan .entry)) (now (room .exit)) w scales n) ⌝ }
 {
     let factors = scales + n;
+    let mut bits = [0usize; 4];
+    let mut up = [0.0f64; 16];
+    let mut down = [0.0f64; 16];
+    let mut bits2 = [0usize; 4];
+    let mut up2 = [0.0f64; 16];
+    let mut down2 = [0.0f64; 16];
     start_at(room, w, 0);
     let mut src = 0usize;
     let mut most = 1.0;
@@ -63,8 +69,27 @@ pub fn sweep_forward(
         room[scales + last] = 1.0;
         room[scales + t] = scale;
         let dst = place_for(forward_place(plan, last), src);
-        forward_through(room, factors, plan, w, t, last, scale, 1.0, false, src, dst);
-        most = half_stored(room, dst, w, each, 3, last);
+        let due = is_due(each, 3, last);
+        most = forward_through(
+            room,
+            factors,
+            plan,
+            w,
+            t,
+            last,
+            scale,
+            1.0,
+            false,
+            src,
+            dst,
+            due,
+            &mut bits,
+            &mut up,
+            &mut down,
+            &mut bits2,
+            &mut up2,
+            &mut down2,
+        );
         src = dst;
         t = last + 1;
     }

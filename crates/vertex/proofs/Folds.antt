@@ -9,7 +9,7 @@ use Rattle.vector.specs.Tabulate.{tabulate, tabulate-ext}
 use Rattle.transfer.specs.Job.{Step}
 use Rattle.sweep.specs.Place.{hold}
 use Rattle.halves.specs.Half.{backwardHalf}
-use Rattle.half_steps.specs.Fold.{backwardFold, fold-wide}
+use Rattle.half_backward.specs.Fold.{backwardFold, fold-wide}
 
 -- the room r with the half h at place p
 abbrev pub half-to : List Float → ℕ → ℕ → ℕ → (ℕ → Float) → List Float

@@ -9,7 +9,7 @@ use lib.Ieee.{Float}
 use borrow.Author.Tests.{eq-eqb, ne-eqb}
 use Rattle.plan.specs.Layout.{stepIn}
 use Rattle.halves.specs.Half.{forwardHalf, turnOf}
-use Rattle.half_steps.specs.Fold.{backwardFold}
+use Rattle.half_backward.specs.Fold.{backwardFold}
 use Rattle.vertex.specs.Ready.{Readable}
 
 -- What a second step asks.

@@ -4,6 +4,7 @@ ghost use Prim.Native.Nat.{_-_, _^_};
 ghost use lib.ListN.{length, drop};
 ghost use Rattle.vector.specs.Tabulate.{tabulate};
 ghost use Rattle.sweep.specs.Place.{hold};
+ghost use Rattle.half_sums.specs.Stored.{mostIf};
 ghost use Rattle.half_sums.specs.Terms.{halfAt};
 ghost use Rattle.vertex.specs.Ready.{Stepping};
 ghost use Rattle.vertex.specs.Through.{Second, Through, forwardBy, backwardBy, through};
@@ -12,6 +13,7 @@ use crate::step::forward_at;
 use crate::tables::tables_at;
 use half_stride_backward::half_stride_backward;
 use half_stride_forward::half_stride_forward;
+use half_sums::half_stored;
 use plan::near_count;
 
 // The forward step at t with the scale, and then the one at `last` with the other scale, from an even half or from an odd one.
@@ -27,6 +29,12 @@ fn forward_two_at(
     odd: bool,
     src: usize,
     dst: usize,
+    bits: &mut [usize; 4],
+    up: &mut [f64; 16],
+    down: &mut [f64; 16],
+    bits2: &mut [usize; 4],
+    up2: &mut [f64; 16],
+    down2: &mut [f64; 16],
 )
     requires { ⌜ Stepping (now plan) (length (now room)) w factors t src dst × Second (now plan) (length (now room)) w factors last ⌝ }
     ensures { λ _. ⌜ now (room .exit) ≡ hold (now (room .entry)) w dst
@@ -34,34 +42,8 @@ fn forward_two_at(
         (forwardBy (now (plan .entry)) (drop factors (now (room .entry))) w odd last then
         (forwardBy (now (plan .entry)) (drop factors (now (room .entry))) w odd t scale (halfAt (now (room .entry)) w src))) (2 ^ (w - 1))) ⌝ }
 {
-    let mut bits = [0usize; 4];
-    let mut up = [0.0f64; 16];
-    let mut down = [0.0f64; 16];
-    let ep = tables_at(
-        room,
-        factors,
-        plan,
-        w,
-        t,
-        scale,
-        &mut bits,
-        &mut up,
-        &mut down,
-    );
-    let mut bits2 = [0usize; 4];
-    let mut up2 = [0.0f64; 16];
-    let mut down2 = [0.0f64; 16];
-    let ep2 = tables_at(
-        room,
-        factors,
-        plan,
-        w,
-        last,
-        then,
-        &mut bits2,
-        &mut up2,
-        &mut down2,
-    );
+    let ep = tables_at(room, factors, plan, w, t, scale, bits, up, down);
+    let ep2 = tables_at(room, factors, plan, w, last, then, bits2, up2, down2);
     let n = near_count(plan, t);
     let n2 = near_count(plan, last);
     half_stride_forward(
@@ -72,21 +54,22 @@ fn forward_two_at(
         odd,
         ep,
         1.0 / ep,
-        &bits,
+        bits,
         n,
-        &up,
-        &down,
+        up,
+        down,
         ep2,
         1.0 / ep2,
-        &bits2,
+        bits2,
         n2,
-        &up2,
-        &down2,
+        up2,
+        down2,
     );
 }
 
 // The forward steps at t and at `last`, or the one at t alone where `last` is t: the first with the scale, the second with the other. `odd`
-// says of which kind the half is.
+// says of which kind the half is. Answers the largest entry of what they wrote where it is due, else 1.0: one step has it at hand, and after
+// two, whose pass is bound by its arithmetic, a pass of its own is as quick.
 pub fn forward_through(
     room: &mut [f64],
     factors: usize,
@@ -99,18 +82,58 @@ pub fn forward_through(
     odd: bool,
     src: usize,
     dst: usize,
-)
+    taken: bool,
+    bits: &mut [usize; 4],
+    up: &mut [f64; 16],
+    down: &mut [f64; 16],
+    bits2: &mut [usize; 4],
+    up2: &mut [f64; 16],
+    down2: &mut [f64; 16],
+) -> f64
     requires { ⌜ Stepping (now plan) (length (now room)) w factors t src dst × Through (now plan) (length (now room)) w factors t last ⌝ }
     ensures { λ _. ⌜ now (room .exit) ≡ hold (now (room .entry)) w dst
         (tabulate
         (through (forwardBy (now (plan .entry)) (drop factors (now (room .entry))) w odd) t last scale then (halfAt (now (room .entry)) w src))
         (2 ^ (w - 1))) ⌝ }
+    ensures { λ r. ⌜ r ≡ mostIf taken (tabulate (halfAt (now (room .exit)) w dst) (2 ^ (w - 1))) ⌝ }
 {
     if last == t {
-        forward_at(room, factors, plan, w, t, scale, odd, src, dst);
-    } else {
-        forward_two_at(room, factors, plan, w, t, last, scale, then, odd, src, dst);
+        let most = forward_at(
+            room,
+            factors,
+            plan,
+            w,
+            t,
+            scale,
+            odd,
+            src,
+            dst,
+            bits,
+            up,
+            down,
+        );
+        return if taken { most } else { 1.0 };
     }
+    forward_two_at(
+        room,
+        factors,
+        plan,
+        w,
+        t,
+        last,
+        scale,
+        then,
+        odd,
+        src,
+        dst,
+        bits,
+        up,
+        down,
+        bits2,
+        up2,
+        down2,
+    );
+    half_stored(room, dst, w, taken)
 }
 
 // The backward steps likewise, from an even half. The tables of `last`, whose step is the second, come first.
@@ -125,6 +148,12 @@ fn backward_two_at(
     then: f64,
     src: usize,
     dst: usize,
+    bits: &mut [usize; 4],
+    up: &mut [f64; 16],
+    down: &mut [f64; 16],
+    bits2: &mut [usize; 4],
+    up2: &mut [f64; 16],
+    down2: &mut [f64; 16],
 )
     requires { ⌜ Stepping (now plan) (length (now room)) w factors t src dst × Second (now plan) (length (now room)) w factors last ⌝ }
     ensures { λ _. ⌜ now (room .exit) ≡ hold (now (room .entry)) w dst
@@ -132,34 +161,8 @@ fn backward_two_at(
         (backwardBy (now (plan .entry)) (drop factors (now (room .entry))) w last then
         (backwardBy (now (plan .entry)) (drop factors (now (room .entry))) w t scale (halfAt (now (room .entry)) w src))) (2 ^ (w - 1))) ⌝ }
 {
-    let mut bits = [0usize; 4];
-    let mut up = [0.0f64; 16];
-    let mut down = [0.0f64; 16];
-    let ep = tables_at(
-        room,
-        factors,
-        plan,
-        w,
-        last,
-        then,
-        &mut bits,
-        &mut up,
-        &mut down,
-    );
-    let mut bits2 = [0usize; 4];
-    let mut up2 = [0.0f64; 16];
-    let mut down2 = [0.0f64; 16];
-    let ep2 = tables_at(
-        room,
-        factors,
-        plan,
-        w,
-        t,
-        scale,
-        &mut bits2,
-        &mut up2,
-        &mut down2,
-    );
+    let ep = tables_at(room, factors, plan, w, last, then, bits, up, down);
+    let ep2 = tables_at(room, factors, plan, w, t, scale, bits2, up2, down2);
     let n = near_count(plan, last);
     let n2 = near_count(plan, t);
     half_stride_backward(
@@ -169,20 +172,20 @@ fn backward_two_at(
         w,
         ep,
         1.0 / ep,
-        &bits,
+        bits,
         n,
-        &up,
-        &down,
+        up,
+        down,
         ep2,
         1.0 / ep2,
-        &bits2,
+        bits2,
         n2,
-        &up2,
-        &down2,
+        up2,
+        down2,
     );
 }
 
-// The backward steps at t and at `last`, or the one at t alone where `last` is t, from an even half.
+// The backward steps at t and at `last`, or the one at t alone where `last` is t, from an even half; answers likewise.
 pub fn backward_through(
     room: &mut [f64],
     factors: usize,
@@ -194,16 +197,42 @@ pub fn backward_through(
     then: f64,
     src: usize,
     dst: usize,
-)
+    taken: bool,
+    bits: &mut [usize; 4],
+    up: &mut [f64; 16],
+    down: &mut [f64; 16],
+    bits2: &mut [usize; 4],
+    up2: &mut [f64; 16],
+    down2: &mut [f64; 16],
+) -> f64
     requires { ⌜ Stepping (now plan) (length (now room)) w factors t src dst × Through (now plan) (length (now room)) w factors t last ⌝ }
     ensures { λ _. ⌜ now (room .exit) ≡ hold (now (room .entry)) w dst
         (tabulate
         (through (backwardBy (now (plan .entry)) (drop factors (now (room .entry))) w) t last scale then (halfAt (now (room .entry)) w src))
         (2 ^ (w - 1))) ⌝ }
+    ensures { λ r. ⌜ r ≡ mostIf taken (tabulate (halfAt (now (room .exit)) w dst) (2 ^ (w - 1))) ⌝ }
 {
     if last == t {
-        backward_at(room, factors, plan, w, t, scale, src, dst);
-    } else {
-        backward_two_at(room, factors, plan, w, t, last, scale, then, src, dst);
+        let most = backward_at(room, factors, plan, w, t, scale, src, dst, bits, up, down);
+        return if taken { most } else { 1.0 };
     }
+    backward_two_at(
+        room,
+        factors,
+        plan,
+        w,
+        t,
+        last,
+        scale,
+        then,
+        src,
+        dst,
+        bits,
+        up,
+        down,
+        bits2,
+        up2,
+        down2,
+    );
+    half_stored(room, dst, w, taken)
 }

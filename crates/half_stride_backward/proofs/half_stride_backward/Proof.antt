@@ -6,7 +6,7 @@ use Rattle.vector.specs.Power.{pow-double}
 use Rattle.vector.specs.Part.{apart-within}
 use Rattle.sweep.specs.Place.{places-apart}
 use Rattle.runs.specs.Quarter.{whole-is}
-use Rattle.half_stride_backward.specs.BackwardTwice.{backward-twice-is}
+use Rattle.half_stride_backward.specs.BackwardTwice.{backward-twice-filled}
 use borrow.Author.Needs.{needs}
 use Rattle.half_stride_backward.proofs.half_stride_backward.Statement.{statement}
 use Rattle.half_stride_backward.proofs.half_stride_backward.Tie as tie
@@ -47,8 +47,8 @@ returns c = λ s sc s′ sc′ a a′.
     let w = start .args .w in
     let wide = start .pre .0 in
     let all = pow-double w (omega arith) in
-    rw (c .before .before .before .before .pow2 .ensures) at (c .before .before .backward-runs .ensures)
-    ∙ backward-twice-is s sc _ a s′ sc′ _ a′ w (start .args .room .now) _ (omega arith) _ (omega (arith, start .pre .1 .to .inside))
+    backward-twice-filled s sc _ a s′ sc′ _ a′ w (start .args .room .now) _ (omega arith) _ _ (omega (arith, start .pre .1 .to .inside))
+    (rw (c .before .before .before .before .pow2 .ensures) at (c .before .before .backward-runs .ensures))
 
 pub half-stride-backward-spec : {M : Type 1} → statement M
 half-stride-backward-spec =

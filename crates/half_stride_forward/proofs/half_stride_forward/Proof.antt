@@ -5,7 +5,7 @@ use native.Mathlib.Omega.{arith}
 use Rattle.vector.specs.Part.{apart-within}
 use Rattle.sweep.specs.Place.{hold, places-apart}
 use Rattle.runs.specs.Quarter.{whole-is}
-use Rattle.half_stride_forward.specs.ForwardTwice.{forward-twice-is}
+use Rattle.half_stride_forward.specs.ForwardTwice.{forward-twice-filled}
 use borrow.Author.Needs.{needs}
 use Rattle.half_stride_forward.proofs.half_stride_forward.Statement.{statement}
 use Rattle.half_stride_forward.proofs.half_stride_forward.Tie as tie
@@ -56,9 +56,9 @@ returns : tie.Need-returns
 returns c = λ s sc s′ sc′ a a′.
     let start = c .before .before .before .before .before .before .before .before .before .before in
     let room = start .args .room .now in
-    rw (c .before .before .before .before .before .before .before .before .pow2 .ensures, c .before .before .before .before .before .before .before .turned .ensures, c .before .before .before .before .before .before .turned2 .ensures, c .before .before .before .before .before .turned3 .ensures, c .before .before .before .before .turned4 .ensures) at
-    (c .before .before .forward-runs .ensures)
-    ∙ ap (hold room _ _) (forward-twice-is s sc _ a s′ sc′ _ a′ _ _ room _ (omega (arith, start .pre .0)))
+    forward-twice-filled s sc _ a s′ sc′ _ a′ _ _ room _ (omega (arith, start .pre .0)) _ _
+    (rw (c .before .before .before .before .before .before .before .before .pow2 .ensures, c .before .before .before .before .before .before .before .turned .ensures, c .before .before .before .before .before .before .turned2 .ensures, c .before .before .before .before .before .turned3 .ensures, c .before .before .before .before .turned4 .ensures) at
+    (c .before .before .forward-runs .ensures))
 
 pub half-stride-forward-spec : {M : Type 1} → statement M
 half-stride-forward-spec =

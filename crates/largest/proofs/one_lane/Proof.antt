@@ -4,20 +4,21 @@ use Prim.Native.Nat.{_+_, _-_, _≤_}
 use lib.Ieee.{nan}
 use lib.ListN.{getD}
 use Rattle.sweep.specs.Constants.{zero-is}
-use Rattle.largest.proofs.LargestTurn.{highest-none, highest-turn, largest-is}
-use Rattle.largest.proofs.Order.{highest}
+use Rattle.largest.specs.Top.{top, top-none}
+use Rattle.largest.specs.Lanes.{lane-turn}
+use Rattle.largest.proofs.LargestTurn.{largest-is}
 use native.Mathlib.Omega.{arith}
 use Rattle.largest.proofs.one_lane.Statement.{statement}
 use Rattle.largest.proofs.one_lane.Tie as tie
 
 abbrev Inv-loop : tie.InvT-loop
-Inv-loop v at n a₀ i₀ a i = (i ≤ n) × (a ≡ highest (λ j. getD v (at + j) nan) i)
+Inv-loop v at n a₀ i₀ a i = (i ≤ n) × (a ≡ top (λ j. getD v (at + j) nan) i)
 
 abbrev μ-loop : tie.MeasureT-loop
 μ-loop v at n a₀ i₀ a i = n - i
 
 loop-holds : tie.Need-loop-holds Inv-loop μ-loop
-loop-holds c = (omega arith, zero-is ∙ highest-none _)
+loop-holds c = (omega arith, zero-is ∙ top-none _)
 
 add-larger-of : tie.Need-add-larger-of Inv-loop μ-loop
 add-larger-of c = omega arith
@@ -39,7 +40,7 @@ loop-less c = omega arith
 
 loop-again : tie.Need-loop-again Inv-loop μ-loop
 loop-again c =
-    (omega arith, highest-turn _ _ _ _ (c .before .before .before .loop .inv .1) (c .larger-of .ensures))
+    (omega arith, lane-turn _ _ (c .before .before .before .loop .inv .1) (c .larger-of .ensures))
 
 returns : tie.Need-returns Inv-loop μ-loop
 returns c =

@@ -1,7 +1,6 @@
 -- Each lane has the largest of its first t entries; joined, they have the largest of all.
 use mathlib.Core.Path.{_≡_}
 use Prim.Native.Nat.{_+_, _*_, _-_, _≤_}
-use Rattle.sweep.specs.Constants.{zero-is}
 use Rattle.largest.proofs.LargestTurn.{Passed, passed-none, passed-turn, lane-done, lanes-done}
 use native.Mathlib.Omega.{arith}
 use Rattle.largest.proofs.sixteen_lanes.Statement.{statement}
@@ -16,7 +15,10 @@ abbrev μ-loop : tie.MeasureT-loop
 μ-loop v at n a₀ b₀ c₀ d₀ t₀ a b c d t = n - t
 
 loop-holds : tie.Need-loop-holds Inv-loop μ-loop
-loop-holds c = rw zero-is (omega arith, passed-none _ _, passed-none _ _, passed-none _ _, passed-none _ _)
+loop-holds c = let z = c .no-entries .ensures in (omega arith, passed-none _ _ z, passed-none _ _ z, passed-none _ _ z, passed-none _ _ z)
+
+no-entries-requires : tie.Need-no-entries-requires Inv-loop μ-loop
+no-entries-requires c κs = tt
 
 mul-from : tie.Need-mul-from Inv-loop μ-loop
 mul-from c = omega arith
@@ -51,10 +53,12 @@ joined-requires-3 c κs = tt
 add-four-at-3 : tie.Need-add-four-at-3 Inv-loop μ-loop
 add-four-at-3 c =
     let in-loop = c .before .before .before .before .before .before in
-    omega (arith, in-loop .loop-test .taken, in-loop .before .before .before .pre)
+    omega (arith, in-loop .loop-test .taken, in-loop .before .before .before .before .pre)
 
 four-at-requires-4 : tie.Need-four-at-requires-4 Inv-loop μ-loop
-four-at-requires-4 c κs = omega arith
+four-at-requires-4 c κs =
+    let in-loop = c .before .before .before .before .before .before in
+    omega (arith, in-loop .loop-test .taken, in-loop .before .before .before .before .pre)
 
 joined-requires-4 : tie.Need-joined-requires-4 Inv-loop μ-loop
 joined-requires-4 c κs = tt
@@ -62,7 +66,7 @@ joined-requires-4 c κs = tt
 add-t : tie.Need-add-t Inv-loop μ-loop
 add-t c =
     let in-loop = c .before .before .before .before .before .before .before .before in
-    omega (arith, in-loop .loop-test .taken, in-loop .before .before .before .pre)
+    omega (arith, in-loop .loop-test .taken, in-loop .before .before .before .before .pre)
 
 loop-less : tie.Need-loop-less Inv-loop μ-loop
 loop-less c = omega arith
@@ -104,7 +108,7 @@ returns : tie.Need-returns Inv-loop μ-loop
 returns c =
     let joins = c .before .before .before in
     let at = joins .before .before .before .before in
-    let s = at .before .before in
+    let s = at .before .before .before in
     let i = at .loop .inv in
     let e : at .loop .t ≡ s .args .n = omega arith in
     let a = rw e at (i .1) in
@@ -114,7 +118,7 @@ returns c =
     let x = joins .before .before .joined5 .ensures in
     let y = joins .before .joined6 .ensures in
     let z = joins .joined7 .ensures in
-    let fit = at .before .shared-slice-known .given in
+    let fit = at .before .before .shared-slice-known .given in
     let lane = lane-done (s .args .v .now) (s .args .at) (s .args .n) fit in
     lanes-done (s .args .v .now) (s .args .at) (s .args .n) fit _ _ _ _ _ _ _ (s .pre)
     (lane 0 _ _ _ _ _ _ _ (a .first) (b .first) (d .first) (f .first) (x .0) (y .0) (z .0))
@@ -129,6 +133,7 @@ sixteen-lanes-spec =
     (tie.spec
     Inv-loop
     μ-loop
+    no-entries-requires
     loop-holds
     mul-from
     add-from

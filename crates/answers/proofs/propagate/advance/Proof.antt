@@ -8,10 +8,10 @@ use Rattle.answers.proofs.propagate.advance.Statement.{statement}
 use Rattle.answers.proofs.propagate.advance.Tie as tie
 
 abbrev Inv-loop : tie.InvT-loop
-Inv-loop room₀ plan n w scales from to at src₀ t₀ room src t = (t ≤ to) × Advanced plan room₀ room n w scales from at t src
+Inv-loop room₀ plan n w scales from to at bits₀ up₀ down₀ bits2₀ up2₀ down2₀ src₀ t₀ room bits up down bits2 up2 down2 src t = (t ≤ to) × Advanced plan room₀ room n w scales from at t src
 
 abbrev μ-loop : tie.MeasureT-loop
-μ-loop room₀ plan n w scales from to at src₀ t₀ room src t = to - t
+μ-loop room₀ plan n w scales from to at bits₀ up₀ down₀ bits2₀ up2₀ down2₀ src₀ t₀ room bits up down bits2 up2 down2 src t = to - t
 
 -- the next vertex, and the last one of the turn
 order : (c : tie.In-loop Inv-loop μ-loop) → c .before .loop .t + 1 ≤ c .before .before .before .before .args .to
@@ -58,23 +58,25 @@ add-forward-through c = omega arith
 
 forward-through-requires : tie.Need-forward-through-requires Inv-loop μ-loop
 forward-through-requires c κs =
-    let at = c .before .before .before .before .before in
+    let last = c .before .before .before .before .before .before .before .before .before in
+    let at = last .before .before in
     let s = at .before .before .before in
-    let turn = c .before .before .before .advance-last .ensures in (
-      advance-stepping _ _ _ _ _ _ _ _ _ _ (s .pre .0) (at .loop .inv .1) turn (order (c .before .before .before .before)) (s .pre .2),
-      advance-through _ _ _ _ _ _ _ _ _ _ (s .pre .0) (at .loop .inv .1) turn (order (c .before .before .before .before)) (s .pre .2),
+    let turn = last .advance-last .ensures in (
+      advance-stepping _ _ _ _ _ _ _ _ _ _ (s .pre .0) (at .loop .inv .1) turn (order (last .before)) (s .pre .2),
+      advance-through _ _ _ _ _ _ _ _ _ _ (s .pre .0) (at .loop .inv .1) turn (order (last .before)) (s .pre .2),
     )
 
 loop-less : tie.Need-loop-less Inv-loop μ-loop
-loop-less c = omega (arith, ends (c .before .before .before .before .before .before))
+loop-less c = omega (arith, ends (c .before .before .before .before .before .before .before .before .before .before .before .before))
 
 loop-again : tie.Need-loop-again Inv-loop μ-loop
 loop-again c =
-    let at = c .before .before .before .before .before .before .before .before in
+    let last = c .before .before .before .before .before .before .before .before .before .before .before .before in
+    let at = last .before .before in
     let s = at .before .before .before in
-    let turn = c .before .before .before .before .before .before .advance-last .ensures in (
-      ends (c .before .before .before .before .before .before) .1,
-      advance-turn _ _ _ _ _ _ _ _ _ _ (s .pre .0) (at .loop .inv .1) turn (order (c .before .before .before .before .before .before .before)) (s .pre .2) _ _ _ refl refl (c .before .before .forward-through .ensures),
+    let turn = last .advance-last .ensures in (
+      ends last .1,
+      advance-turn _ _ _ _ _ _ _ _ _ _ (s .pre .0) (at .loop .inv .1) turn (order (last .before)) (s .pre .2) _ _ _ refl refl (c .before .before .forward-through .ensures .0),
     )
 
 same-length : tie.Need-same-length Inv-loop μ-loop

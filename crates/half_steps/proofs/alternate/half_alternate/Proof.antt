@@ -3,7 +3,7 @@ use mathlib.Core.Path.{_≡_}
 use Prim.Native.Nat.{_-_, _^_}
 use lib.Pow.{pow-pos}
 use Rattle.vector.specs.Power.{pow-even}
-use Rattle.half_steps.proofs.Halves.{halves-apart}
+use Rattle.half_steps.specs.Halves.{halves-apart}
 use Rattle.half_steps.proofs.AlternateTurn.{alternate-one}
 use native.Mathlib.Omega.{arith}
 use borrow.Author.Needs.{needs}

@@ -3,6 +3,7 @@ use mathlib.Core.Path.{refl}
 use mathlib.Core.Logic.{inl, inr}
 use native.Mathlib.Omega.{arith}
 use Rattle.sweep.specs.Constants.{one-is}
+use Rattle.half_sums.specs.Stored.{stored-if}
 use borrow.Author.Needs.{needs}
 use Rattle.sweeps.proofs.backward.begin_at.Statement.{statement}
 use Rattle.sweeps.proofs.backward.begin_at.Tie as tie
@@ -10,8 +11,11 @@ use Rattle.sweeps.proofs.backward.begin_at.Tie as tie
 add-if1 : tie.Need-add-if1
 add-if1 c = search needs
 
-add-half-stored : tie.Need-add-half-stored
-add-half-stored c = search needs
+add-is-due : tie.Need-add-is-due
+add-is-due c = search needs
+
+is-due-requires : tie.Need-is-due-requires
+is-due-requires c κs = search needs
 
 half-stored-requires : tie.Need-half-stored-requires
 half-stored-requires c κs = search needs
@@ -20,7 +24,7 @@ same-length : tie.Need-same-length
 same-length c = search needs
 
 returns : tie.Need-returns
-returns c = inr (record { early = omega arith; same = refl; taken = c .half-stored .ensures })
+returns c = inr (record { early = omega arith; same = refl; taken = stored-if _ 0 _ _ (c .before .is-due .ensures) (c .half-stored .ensures) })
 
 start-at-requires : tie.Need-start-at-requires
 start-at-requires c κs = search needs
@@ -36,7 +40,8 @@ begin-at-spec =
     tie.close
     (tie.spec
     add-if1
-    add-half-stored
+    add-is-due
+    is-due-requires
     half-stored-requires
     same-length
     returns

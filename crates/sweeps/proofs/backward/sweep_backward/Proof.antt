@@ -5,6 +5,7 @@ use native.Mathlib.Omega.{arith}
 use borrow.Author.Needs.{needs}
 use Rattle.plan.specs.Layout.{backwardPlace}
 use Rattle.sweep.specs.Constants.{one-is}
+use Rattle.half_sums.specs.Stored.{stored-if}
 use Rattle.vertex.specs.Ready.{tail-factors}
 use Rattle.sweeps.specs.Target.{Target}
 use Rattle.sweeps.specs.Coming.{Coming}
@@ -14,10 +15,10 @@ use Rattle.sweeps.proofs.backward.sweep_backward.Statement.{statement}
 use Rattle.sweeps.proofs.backward.sweep_backward.Tie as tie
 
 abbrev Inv-loop : tie.InvT-loop
-Inv-loop room₀ plan n w scales each changed factors t₀ src₀ most₀ room t src most = Coming plan room₀ room n w scales each t₀ t src most
+Inv-loop room₀ plan n w scales each changed factors bits₀ up₀ down₀ bits2₀ up2₀ down2₀ t₀ src₀ most₀ room bits up down bits2 up2 down2 t src most = Coming plan room₀ room n w scales each t₀ t src most
 
 abbrev μ-loop : tie.MeasureT-loop
-μ-loop room₀ plan n w scales each changed factors t₀ src₀ most₀ room t src most = t
+μ-loop room₀ plan n w scales each changed factors bits₀ up₀ down₀ bits2₀ up2₀ down2₀ t₀ src₀ most₀ room bits up down bits2 up2 down2 t src most = t
 
 -- the place of the vertex where the sweep begins
 first : (c : tie.After-place-for Inv-loop μ-loop)
@@ -74,28 +75,26 @@ backward-place-requires-2 c κs = omega (arith, ends c, c .before .before .loop 
 place-for-requires-2 : tie.Need-place-for-requires-2 Inv-loop μ-loop
 place-for-requires-2 c κs = search needs
 
+is-due-requires : tie.Need-is-due-requires Inv-loop μ-loop
+is-due-requires c κs = tt
+
 backward-through-requires : tie.Need-backward-through-requires Inv-loop μ-loop
 backward-through-requires c κs =
-    let g = c .before .before .before .before .before .loop .inv in
-    let placed = c .before in
-    let turn = c .before .before .before .backward-last .ensures in
+    let placed = c .before .before .before .before .before .before .before .before in
+    let g = placed .before .before .before .before .loop .inv in
+    let turn = placed .before .before .backward-last .ensures in
     (coming-step _ g turn (next placed) (target placed), coming-through _ g turn (next placed) (target placed))
 
-half-stored-requires : tie.Need-half-stored-requires Inv-loop μ-loop
-half-stored-requires c κs =
-    let g = c .before .before .before .before .before .before .before .before .before .loop .inv in
-    let placed = c .before .before .before .before .before in
-    rw (c .before .before .before .backward-through .kept .0) (place-of (g .ready) _ (coming-fits _ g (c .before .before .before .before .before .before .before .backward-last .ensures) (next placed) (target placed)))
-
 loop-less : tie.Need-loop-less Inv-loop μ-loop
-loop-less c = omega (arith, ends (c .before .before .before .before .before .before .before .before))
+loop-less c = omega (arith, ends (c .before .before .before .before .before .before .before .before .before .before .before .before .before))
 
 loop-again : tie.Need-loop-again Inv-loop μ-loop
 loop-again c =
-    let placed = c .before .before .before .before .before .before in
-    let stepped = c .before .before .before .before .backward-through in
-    let g = c .before .before .before .before .before .before .before .before .before .before .loop .inv in
-    coming-turn _ g (c .before .before .before .before .before .before .before .before .backward-last .ensures) (next placed) (target placed) one-is (rw one-is) (stepped .ensures) (c .half-stored .ensures)
+    let stepped = c .before .before .backward-through .ensures in
+    let due = c .before .before .before .before .before .before .before .before .before .before .is-due .ensures in
+    let placed = c .before .before .before .before .before .before .before .before .before .before .before in
+    let g = placed .before .before .before .before .loop .inv in
+    coming-turn _ g (placed .before .before .backward-last .ensures) (next placed) (target placed) one-is (rw one-is) (stepped .0) (stored-if _ 0 _ _ due (stepped .1))
 
 same-length : tie.Need-same-length Inv-loop μ-loop
 same-length c = c .before .loop .inv .since .same ∙ c .before .before .before .before .begin-at .kept .0
@@ -131,8 +130,8 @@ sweep-backward-spec =
     sub-u
     backward-place-requires-2
     place-for-requires-2
+    is-due-requires
     backward-through-requires
-    half-stored-requires
     loop-less
     loop-again
     same-length

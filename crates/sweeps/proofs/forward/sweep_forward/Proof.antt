@@ -6,6 +6,7 @@ use lib.ListN.{length, length-set}
 use borrow.Author.Needs.{needs}
 use Rattle.plan.specs.Layout.{forwardPlace}
 use Rattle.sweep.specs.Constants.{one-is}
+use Rattle.half_sums.specs.Stored.{stored-if}
 use Rattle.vertex.specs.Frame.{moving-fits}
 use Rattle.sweeps.specs.Target.{Target}
 use Rattle.sweeps.specs.Going.{Going}
@@ -15,10 +16,10 @@ use Rattle.sweeps.proofs.forward.sweep_forward.Statement.{statement}
 use Rattle.sweeps.proofs.forward.sweep_forward.Tie as tie
 
 abbrev Inv-loop : tie.InvT-loop
-Inv-loop room₀ plan n w scales each factors src₀ most₀ t₀ room src most t = Going plan room₀ room n w scales each t src most
+Inv-loop room₀ plan n w scales each factors bits₀ up₀ down₀ bits2₀ up2₀ down2₀ src₀ most₀ t₀ room bits up down bits2 up2 down2 src most t = Going plan room₀ room n w scales each t src most
 
 abbrev μ-loop : tie.MeasureT-loop
-μ-loop room₀ plan n w scales each factors src₀ most₀ t₀ room src most t = n - t
+μ-loop room₀ plan n w scales each factors bits₀ up₀ down₀ bits2₀ up2₀ down2₀ src₀ most₀ t₀ room bits up down bits2 up2 down2 src most t = n - t
 
 -- the last vertex of the turn
 ends : (c : tie.After-forward-last Inv-loop μ-loop)
@@ -70,31 +71,32 @@ forward-place-requires c κs = omega (arith, ends c, c .before .before .loop .in
 place-for-requires : tie.Need-place-for-requires Inv-loop μ-loop
 place-for-requires c κs = search needs
 
+is-due-requires : tie.Need-is-due-requires Inv-loop μ-loop
+is-due-requires c κs = tt
+
 forward-through-requires : tie.Need-forward-through-requires Inv-loop μ-loop
 forward-through-requires c κs =
-    let g = c .before .before .before .before .before .loop .inv in
-    let b = c .before .before .before .before .loop-test .taken in
-    let turn = c .before .before .before .forward-last .ensures in
-    (going-step g b turn (target (c .before)) _ _, going-through g b turn (target (c .before)) _ _)
-
-half-stored-requires : tie.Need-half-stored-requires Inv-loop μ-loop
-half-stored-requires c κs =
-    let at = c .before .before .before .before .before .before .before .before .before .loop in
-    let stepped = c .before .before .before .forward-through in
-    let same : length (stepped .last .0) ≡ length (at .room) = stepped .kept .0 ∙ simp length-set in
-    rw same (place-of (at .inv .ready) _ (going-fits (at .inv) (c .before .before .before .before .before .before .before .before .loop-test .taken) (c .before .before .before .before .before .before .before .forward-last .ensures) (target (c .before .before .before .before .before))))
+    let placed = c .before .before .before .before .before .before .before .before in
+    let in-loop = placed .before .before .before in
+    let g = in-loop .before .loop .inv in
+    let b = in-loop .loop-test .taken in
+    let turn = placed .before .before .forward-last .ensures in
+    (going-step g b turn (target placed) _ _, going-through g b turn (target placed) _ _)
 
 add-t : tie.Need-add-t Inv-loop μ-loop
-add-t c = omega (arith, ends (c .before .before .before .before .before .before .before .before), c .before .before .before .before .before .before .before .before .before .before .loop .inv .ready .ends)
+add-t c = omega (arith, ends (c .before .before .before .before .before .before .before .before .before .before .before .before .before), c .before .before .before .before .before .before .before .before .before .before .before .before .before .before .before .before .before .before .before .before .before .before .fits)
 
 loop-less : tie.Need-loop-less Inv-loop μ-loop
-loop-less c = omega (arith, ends (c .before .before .before .before .before .before .before .before))
+loop-less c = omega (arith, ends (c .before .before .before .before .before .before .before .before .before .before .before .before .before))
 
 loop-again : tie.Need-loop-again Inv-loop μ-loop
 loop-again c =
-    let g = c .before .before .before .before .before .before .before .before .before .before .loop .inv in
-    let stepped = c .before .before .before .before .forward-through in
-    going-turn g (c .before .before .before .before .before .before .before .before .before .loop-test .taken) (c .before .before .before .before .before .before .before .before .forward-last .ensures) (target (c .before .before .before .before .before .before)) _ _ one-is (rw one-is) (stepped .ensures) (c .half-stored .ensures)
+    let stepped = c .before .before .forward-through .ensures in
+    let due = c .before .before .before .before .before .before .before .before .before .before .is-due .ensures in
+    let placed = c .before .before .before .before .before .before .before .before .before .before .before in
+    let in-loop = placed .before .before .before in
+    going-turn (in-loop .before .loop .inv) (in-loop .loop-test .taken) (placed .before .before .forward-last .ensures) (target placed) _ _ one-is (rw one-is) (stepped .0)
+    (stored-if _ 3 _ _ due (stepped .1))
 
 same-length : tie.Need-same-length Inv-loop μ-loop
 same-length c = c .before .loop .inv .since .same ∙ c .before .before .before .before .start-at .kept .0
@@ -127,8 +129,8 @@ sweep-forward-spec =
     slice-write-room-2
     forward-place-requires
     place-for-requires
+    is-due-requires
     forward-through-requires
-    half-stored-requires
     add-t
     loop-less
     loop-again

@@ -1,0 +1,190 @@
+-- The entries up to the run at k are filled, from both ends, and their largest is known; a turn fills those of a run.
+use mathlib.Core.Path.{_≡_, refl, _∙_}
+use Prim.Native.Nat.{_+_, _*_, _-_, _^_}
+use lib.ListN.{length}
+use Rattle.vector.specs.Part.{Apart}
+use Rattle.sweep.specs.Rule.{entries, weights, backwardRule}
+use Rattle.runs.specs.AtRun.{Runs, AtRun, readable, first-run, run-size, run-even, run-ends, run-16, next-run}
+use Rattle.sweep.specs.Constants.{zero-is}
+use Rattle.largest.specs.Larger.{larger}
+use Rattle.largest.specs.Top.{top, tops-none}
+use Rattle.half_backward.specs.Ends.{ends, ends-none}
+use Rattle.half_backward.proofs.BackwardTurn.{backward-fit, run-apart, runs-turn, runs-most, ends-most}
+use native.Mathlib.Omega.{arith}
+use Rattle.half_backward.proofs.backward_runs.Statement.{statement}
+use Rattle.half_backward.proofs.backward_runs.Tie as tie
+
+abbrev Inv-loop : tie.InvT-loop
+Inv-loop v₀ src dst g ep em bits n up down end e size one past most₀ k₀ v most k =
+    (length v ≡ length v₀) × Apart (length v₀) src (2 * 2 ^ g) dst (2 * 2 ^ g) × Runs bits n g e end size one × AtRun e end k
+    × (v ≡ ends v₀ dst (dst + 2 * end) (backwardRule ep em (weights bits n up) (weights bits n down) (entries v₀ src))
+    (backwardRule em ep (weights bits n up) (weights bits n down) (entries v₀ src)) k)
+    × (most ≡ larger (top (backwardRule ep em (weights bits n up) (weights bits n down) (entries v₀ src)) k)
+    (top (backwardRule em ep (weights bits n up) (weights bits n down) (entries v₀ src)) k))
+
+abbrev μ-loop : tie.MeasureT-loop
+μ-loop v₀ src dst g ep em bits n up down end e size one past most₀ k₀ v most k = end - k
+
+pow2-requires : tie.Need-pow2-requires Inv-loop μ-loop
+pow2-requires c κs = omega arith
+
+run-bit-requires : tie.Need-run-bit-requires Inv-loop μ-loop
+run-bit-requires c κs = (c .before .before .pre .3 .few, c .before .before .pre .0)
+
+pow2-requires-2 : tie.Need-pow2-requires-2 Inv-loop μ-loop
+pow2-requires-2 c κs = omega arith
+
+pattern-of-requires : tie.Need-pattern-of-requires Inv-loop μ-loop
+pattern-of-requires c κs = readable (c .before .before .before .before .pre .3) (c .before .before .before .before .pre .1)
+
+mul-past : tie.Need-mul-past Inv-loop μ-loop
+mul-past c = omega arith
+
+add-past : tie.Need-add-past Inv-loop μ-loop
+add-past c = omega arith
+
+loop-holds : tie.Need-loop-holds Inv-loop μ-loop
+loop-holds c =
+    let s = c .before .before .before .before .before in
+    let bit = c .before .before .run-bit .ensures in (
+      refl,
+      s .pre .2,
+      record {
+        few = s .pre .3 .few;
+        sparse = bit .1;
+        some = bit .0 .0;
+        inside = bit .0 .1;
+        ends = c .before .before .before .pow2 .ensures;
+        length = c .before .pow22 .ensures;
+        odd = c .pattern-of .ensures .0;
+      },
+      first-run _ _,
+      ends-none _ _ _ _ _,
+      zero-is ∙ tops-none _ _,
+    )
+
+pattern-of-requires-2 : tie.Need-pattern-of-requires-2 Inv-loop μ-loop
+pattern-of-requires-2 c κs = readable (c .before .before .before .before .before .before .before .pre .3) (c .before .before .before .before .before .before .before .pre .1)
+
+add-j : tie.Need-add-j Inv-loop μ-loop
+add-j c = omega arith
+
+mul-p0 : tie.Need-mul-p0 Inv-loop μ-loop
+mul-p0 c = omega arith
+
+element-copy-out-p0 : tie.Need-element-copy-out-p0 Inv-loop μ-loop
+element-copy-out-p0 c = omega arith
+
+mul-q0 : tie.Need-mul-q0 Inv-loop μ-loop
+mul-q0 c = omega arith
+
+element-copy-out-q0 : tie.Need-element-copy-out-q0 Inv-loop μ-loop
+element-copy-out-q0 c = omega arith
+
+mul-p1 : tie.Need-mul-p1 Inv-loop μ-loop
+mul-p1 c = omega arith
+
+element-copy-out-p1 : tie.Need-element-copy-out-p1 Inv-loop μ-loop
+element-copy-out-p1 c = let i = c .before .before .before .before .loop .inv in run-16 (i .2) (i .3) (c .before .before .before .loop-test .taken) _ (c .before .before .pattern-of2 .ensures .0)
+
+mul-q1 : tie.Need-mul-q1 Inv-loop μ-loop
+mul-q1 c = omega arith
+
+element-copy-out-q1 : tie.Need-element-copy-out-q1 Inv-loop μ-loop
+element-copy-out-q1 c = let i = c .before .before .before .before .before .loop .inv in run-16 (i .2) (i .3) (c .before .before .before .before .loop-test .taken) _ (c .before .before .before .pattern-of2 .ensures .0)
+
+mul-backward-run : tie.Need-mul-backward-run Inv-loop μ-loop
+mul-backward-run c = omega arith
+
+add-backward-run : tie.Need-add-backward-run Inv-loop μ-loop
+add-backward-run c = omega arith
+
+add-backward-run-2 : tie.Need-add-backward-run-2 Inv-loop μ-loop
+add-backward-run-2 c = omega arith
+
+sub-backward-run : tie.Need-sub-backward-run Inv-loop μ-loop
+sub-backward-run c = omega arith
+
+backward-run-requires : tie.Need-backward-run-requires Inv-loop μ-loop
+backward-run-requires c κs =
+    let turn = c .before .before .before .before .before .before in
+    let i = turn .before .loop .inv in
+    let f = run-apart (i .2) (i .3) (turn .loop-test .taken) _ _ _ (i .1) in
+    (run-even (i .2), f .0, rw (i .0) (f .1), rw (i .0) (f .2))
+
+larger-of-requires : tie.Need-larger-of-requires Inv-loop μ-loop
+larger-of-requires c κs = tt
+
+add-k : tie.Need-add-k Inv-loop μ-loop
+add-k c =
+    let turn = c .before .before .before .before .before .before .before .before .before .before in
+    omega (arith, run-ends (turn .before .loop .inv .2) (turn .before .loop .inv .3) (turn .loop-test .taken))
+
+loop-less : tie.Need-loop-less Inv-loop μ-loop
+loop-less c =
+    let turn = c .before .before .before .before .before .before .before .before .before .before in
+    omega (arith, run-size (turn .before .loop .inv .2), turn .loop-test .taken)
+
+loop-again : tie.Need-loop-again Inv-loop μ-loop
+loop-again c =
+    let m = c .before .before .before .before .before .before .before .before .before .pattern-of2 .ensures .0 in
+    let turn = c .before .before .before .before .before .before .before .before .before .before in
+    let under = turn .loop-test .taken in
+    let at = turn .before in
+    let i = at .loop .inv in
+    let a = at .before .before .before .before .before .before .args in
+    let run = c .before .before .before .backward-run in (
+      run .kept .0 ∙ i .0,
+      i .1,
+      i .2,
+      next-run (i .2) (i .3) under,
+      runs-turn (i .2) (i .3) under _ _ (a .up .now) (a .down .now) _ _ _ (a .v .now) (at .loop .v) (i .1) m (i .4) _ (run .ensures .0),
+      runs-most (i .2) (i .3) under _ _ (a .up .now) (a .down .now) _ _ _ (a .v .now) (at .loop .v) (i .1) m (i .4) (i .5) (run .ensures .1) (c .larger-of .ensures),
+    )
+
+same-length : tie.Need-same-length Inv-loop μ-loop
+same-length c = omega arith
+
+returns : tie.Need-returns Inv-loop μ-loop
+returns c =
+    let at = c .before in
+    let i = at .loop .inv in
+    let s = at .before .before .before .before .before .before in
+    let e : at .loop .k ≡ 2 ^ s .args .g = omega (arith, i .2 .ends, i .3 .within) in
+    let filled = rw (e, i .2 .ends) at (i .4) in
+    (filled, ends-most _ _ _ _ _ _ _ (backward-fit _ _ _ _ _) (backward-fit _ _ _ _ _) refl (s .pre .2 .to) filled (rw e at (i .5)))
+
+pub backward-runs-spec : {M : Type 1} → statement M
+backward-runs-spec =
+    tie.close
+    (tie.spec
+    Inv-loop
+    μ-loop
+    pow2-requires
+    run-bit-requires
+    pow2-requires-2
+    pattern-of-requires
+    mul-past
+    add-past
+    loop-holds
+    pattern-of-requires-2
+    add-j
+    mul-p0
+    element-copy-out-p0
+    mul-q0
+    element-copy-out-q0
+    mul-p1
+    element-copy-out-p1
+    mul-q1
+    element-copy-out-q1
+    mul-backward-run
+    add-backward-run
+    add-backward-run-2
+    sub-backward-run
+    backward-run-requires
+    larger-of-requires
+    add-k
+    loop-less
+    loop-again
+    same-length
+    returns)

@@ -1,0 +1,193 @@
+-- The entries up to the run at k are filled, and their largest is known; a turn fills those of a run.
+use mathlib.Core.Path.{_≡_, refl, _∙_}
+use Prim.Native.Nat.{_+_, _*_, _-_, _^_}
+use lib.ListN.{length}
+use lib.Pow.{pow-pos}
+use Rattle.vector.specs.Part.{Apart, put, fill-none}
+use Rattle.vector.specs.Tabulate.{tabulate}
+use Rattle.sweep.specs.Rule.{entries, fromEnd, weights, forwardRule}
+use Rattle.runs.specs.AtRun.{Runs, AtRun, readable, first-run, run-size, run-even, run-ends, run-16, next-run}
+use Rattle.sweep.specs.Constants.{zero-is}
+use Rattle.largest.specs.Top.{top, top-none}
+use Rattle.half_forward.proofs.ForwardTurn.{run-apart, runs-turn, runs-most}
+use Rattle.largest.specs.Filled.{filled-top}
+use native.Mathlib.Omega.{arith}
+use Rattle.half_forward.proofs.forward_runs.Statement.{statement}
+use Rattle.half_forward.proofs.forward_runs.Tie as tie
+
+abbrev Inv-loop : tie.InvT-loop
+Inv-loop v₀ src dst g x y z u bits n up down end e size one last most₀ k₀ v most k =
+    (length v ≡ length v₀) × Apart (length v₀) src (2 * 2 ^ g) dst (2 * 2 ^ g) × Runs bits n g e end size one × AtRun e end k
+    × (v ≡ put v₀ dst (tabulate (forwardRule x y z u (weights bits n up) (weights bits n down) (entries v₀ src) (fromEnd v₀ src (2 * 2 ^ g))) (2 * k)))
+    × (most ≡ top (forwardRule x y z u (weights bits n up) (weights bits n down) (entries v₀ src) (fromEnd v₀ src (2 * 2 ^ g))) (2 * k))
+
+abbrev μ-loop : tie.MeasureT-loop
+μ-loop v₀ src dst g x y z u bits n up down end e size one last most₀ k₀ v most k = end - k
+
+pow2-requires : tie.Need-pow2-requires Inv-loop μ-loop
+pow2-requires c κs = omega arith
+
+run-bit-requires : tie.Need-run-bit-requires Inv-loop μ-loop
+run-bit-requires c κs = (c .before .before .pre .3 .few, c .before .before .pre .0)
+
+pow2-requires-2 : tie.Need-pow2-requires-2 Inv-loop μ-loop
+pow2-requires-2 c κs = omega arith
+
+pattern-of-requires : tie.Need-pattern-of-requires Inv-loop μ-loop
+pattern-of-requires c κs = readable (c .before .before .before .before .pre .3) (c .before .before .before .before .pre .1)
+
+mul-last : tie.Need-mul-last Inv-loop μ-loop
+mul-last c = omega arith
+
+add-last : tie.Need-add-last Inv-loop μ-loop
+add-last c = omega arith
+
+sub-last : tie.Need-sub-last Inv-loop μ-loop
+sub-last c = omega (arith, pow-pos (c .before .before .before .before .before .args .g))
+
+loop-holds : tie.Need-loop-holds Inv-loop μ-loop
+loop-holds c =
+    let s = c .before .before .before .before .before in
+    let bit = c .before .before .run-bit .ensures in (
+      refl,
+      s .pre .2,
+      record {
+        few = s .pre .3 .few;
+        sparse = bit .1;
+        some = bit .0 .0;
+        inside = bit .0 .1;
+        ends = c .before .before .before .pow2 .ensures;
+        length = c .before .pow22 .ensures;
+        odd = c .pattern-of .ensures .0;
+      },
+      first-run _ _,
+      fill-none _ _ _,
+      zero-is ∙ top-none _,
+    )
+
+pattern-of-requires-2 : tie.Need-pattern-of-requires-2 Inv-loop μ-loop
+pattern-of-requires-2 c κs = readable (c .before .before .before .before .before .before .before .pre .3) (c .before .before .before .before .before .before .before .pre .1)
+
+add-j : tie.Need-add-j Inv-loop μ-loop
+add-j c = omega arith
+
+mul-p0 : tie.Need-mul-p0 Inv-loop μ-loop
+mul-p0 c = omega arith
+
+element-copy-out-p0 : tie.Need-element-copy-out-p0 Inv-loop μ-loop
+element-copy-out-p0 c = omega arith
+
+mul-q0 : tie.Need-mul-q0 Inv-loop μ-loop
+mul-q0 c = omega arith
+
+element-copy-out-q0 : tie.Need-element-copy-out-q0 Inv-loop μ-loop
+element-copy-out-q0 c = omega arith
+
+mul-p1 : tie.Need-mul-p1 Inv-loop μ-loop
+mul-p1 c = omega arith
+
+element-copy-out-p1 : tie.Need-element-copy-out-p1 Inv-loop μ-loop
+element-copy-out-p1 c = let i = c .before .before .before .before .loop .inv in run-16 (i .2) (i .3) (c .before .before .before .loop-test .taken) _ (c .before .before .pattern-of2 .ensures .0)
+
+mul-q1 : tie.Need-mul-q1 Inv-loop μ-loop
+mul-q1 c = omega arith
+
+element-copy-out-q1 : tie.Need-element-copy-out-q1 Inv-loop μ-loop
+element-copy-out-q1 c = let i = c .before .before .before .before .before .loop .inv in run-16 (i .2) (i .3) (c .before .before .before .before .loop-test .taken) _ (c .before .before .before .pattern-of2 .ensures .0)
+
+add-forward-run : tie.Need-add-forward-run Inv-loop μ-loop
+add-forward-run c = omega arith
+
+sub-forward-run : tie.Need-sub-forward-run Inv-loop μ-loop
+sub-forward-run c = omega arith
+
+mul-forward-run : tie.Need-mul-forward-run Inv-loop μ-loop
+mul-forward-run c = omega arith
+
+add-forward-run-2 : tie.Need-add-forward-run-2 Inv-loop μ-loop
+add-forward-run-2 c = omega arith
+
+forward-run-requires : tie.Need-forward-run-requires Inv-loop μ-loop
+forward-run-requires c κs =
+    let turn = c .before .before .before .before .before .before in
+    let i = turn .before .loop .inv in
+    let f = run-apart (i .2) (i .3) (turn .loop-test .taken) _ _ _ (run-size (i .2)) (i .1) in
+    (run-even (i .2), f .0, rw (i .0) (f .1), rw (i .0) (f .2))
+
+larger-of-requires : tie.Need-larger-of-requires Inv-loop μ-loop
+larger-of-requires c κs = tt
+
+add-k : tie.Need-add-k Inv-loop μ-loop
+add-k c =
+    let turn = c .before .before .before .before .before .before .before .before .before .before in
+    omega (arith, run-ends (turn .before .loop .inv .2) (turn .before .loop .inv .3) (turn .loop-test .taken))
+
+loop-less : tie.Need-loop-less Inv-loop μ-loop
+loop-less c =
+    let turn = c .before .before .before .before .before .before .before .before .before .before in
+    omega (arith, run-size (turn .before .loop .inv .2), turn .loop-test .taken)
+
+loop-again : tie.Need-loop-again Inv-loop μ-loop
+loop-again c =
+    let m = c .before .before .before .before .before .before .before .before .before .pattern-of2 .ensures .0 in
+    let turn = c .before .before .before .before .before .before .before .before .before .before in
+    let under = turn .loop-test .taken in
+    let at = turn .before in
+    let i = at .loop .inv in
+    let a = at .before .before .before .before .before .before .args in
+    let run = c .before .before .before .forward-run in (
+      run .kept .0 ∙ i .0,
+      i .1,
+      i .2,
+      next-run (i .2) (i .3) under,
+      runs-turn (i .2) (i .3) under _ _ _ _ (a .up .now) (a .down .now) _ _ _ (a .v .now) (at .loop .v) (i .1) m (i .4) _ (run .ensures .0),
+      runs-most (i .2) (i .3) under _ _ _ _ (a .up .now) (a .down .now) _ _ _ (a .v .now) (at .loop .v) (i .1) m (i .4) (i .5) (run .ensures .1) (c .larger-of .ensures),
+    )
+
+same-length : tie.Need-same-length Inv-loop μ-loop
+same-length c = omega arith
+
+returns : tie.Need-returns Inv-loop μ-loop
+returns c =
+    let at = c .before in
+    let i = at .loop .inv in
+    let s = at .before .before .before .before .before .before in
+    let e : at .loop .k ≡ 2 ^ s .args .g = omega (arith, i .2 .ends, i .3 .within) in
+    let filled = rw e at (i .4) in
+    (filled, rw e at (i .5) ∙ filled-top _ _ _ _ _ (s .pre .2 .to) filled)
+
+pub forward-runs-spec : {M : Type 1} → statement M
+forward-runs-spec =
+    tie.close
+    (tie.spec
+    Inv-loop
+    μ-loop
+    pow2-requires
+    run-bit-requires
+    pow2-requires-2
+    pattern-of-requires
+    mul-last
+    add-last
+    sub-last
+    loop-holds
+    pattern-of-requires-2
+    add-j
+    mul-p0
+    element-copy-out-p0
+    mul-q0
+    element-copy-out-q0
+    mul-p1
+    element-copy-out-p1
+    mul-q1
+    element-copy-out-q1
+    add-forward-run
+    sub-forward-run
+    mul-forward-run
+    add-forward-run-2
+    forward-run-requires
+    larger-of-requires
+    add-k
+    loop-less
+    loop-again
+    same-length
+    returns)

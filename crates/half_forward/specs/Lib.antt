@@ -1,0 +1,2 @@
+-- That the rule over the tables is that of the laws of halves.
+pub mod ForwardIs
