@@ -58,11 +58,11 @@ pub fn tables_at(
     w: usize,
     t: usize,
     scale: f64,
-    bits: &mut [usize; 4],
-    up: &mut [f64; 16],
-    down: &mut [f64; 16],
+    bits: &mut [usize],
+    up: &mut [f64],
+    down: &mut [f64],
 ) -> f64
-    requires { ⌜ Readable (now plan) (length (now room)) w factors t ⌝ }
+    requires { ⌜ Readable (now plan) (length (now room)) w factors t × (4 ≤ length (now bits)) × (16 ≤ length (now up)) × (16 ≤ length (now down)) ⌝ }
     ensures { λ r. ⌜ Tabled (stepIn (now (plan .entry)) (drop factors (now (room .entry))) t) scale
         (tables (nearCount (now (plan .entry)) t) r (div binary64 (ieee .𝟙) r) (now (bits .exit)) (now (up .exit)) (now (down .exit))) ⌝ }
     ensures { λ r. ⌜ Rising (now (bits .exit)) (nearCount (now (plan .entry)) t) (w - 1) ⌝ }

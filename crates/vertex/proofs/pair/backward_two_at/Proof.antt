@@ -6,6 +6,7 @@ use Rattle.sweep.specs.Constants.{one-is}
 use Rattle.sweep.specs.Place.{hold}
 use Rattle.half_sums.specs.Terms.{halfAt}
 use Rattle.vertex.proofs.Folds.{fold-twice}
+use native.Mathlib.Omega.{arith}
 use borrow.Author.Needs.{needs}
 use Rattle.vertex.proofs.pair.backward_two_at.Statement.{statement}
 use Rattle.vertex.proofs.pair.backward_two_at.Tie as tie
@@ -14,7 +15,9 @@ tables-at-requires : tie.Need-tables-at-requires
 tables-at-requires c κs = search needs
 
 tables-at-requires-2 : tie.Need-tables-at-requires-2
-tables-at-requires-2 c κs = c .before .before .before .before .before .before .before .before .before .before .before .pre .0 .reads
+tables-at-requires-2 c κs =
+    let s = c .before .before .before .before .before .before .before .before .before .before .before in
+    (s .pre .0 .reads, omega (arith, c .before .before .tables-at-arg6 .given), omega (arith, c .before .tables-at-arg7 .given), omega (arith, c .tables-at-arg8 .given))
 
 near-count-requires : tie.Need-near-count-requires
 near-count-requires c κs = let s = c .before .before .before .before .before .before .before .before .before .before .before .before in s .pre .1 .reads .holds
