@@ -18,7 +18,7 @@ use Rattle.lattice.specs.declared.graph.Made.the-variants as Made
 use Rattle.lattice.specs.declared.graph.Reached.{Reached}
 use Rattle.lattice.specs.declared.graph.Reached.the-variants as Reached
 use Rattle.glass.specs.declared.Manner.{Manner}
-use Rattle.strip.specs.Strips.{edges, earlyEnds, lateEnds}
+use Rattle.bonds.specs.Edges.{edges, earlyEnds, lateEnds}
 use Rattle.strip.specs.declared.strip.Strip.{Strip}
 use Rattle.strip.specs.declared.vertices.Sited.{Sited}
 use Rattle.pairset.specs.PairSet.{Pair, firsts, seconds, labelBytes}

@@ -1,10 +1,10 @@
 -- A kind's number, and what a name gives as numbers.
 use mathlib.Core.Bool.{Bool, true, false}
 use Prim.Native.Nat.{ℕ}
-use Rattle.strip.specs.declared.strip.Kind.{Kind}
-use Rattle.strip.specs.declared.strip.Kind.the-variants.{Square, Tri, Honey}
-use Rattle.strip.specs.declared.strip.Parsed.{Parsed}
-use Rattle.strip.specs.declared.strip.Parsed.the-variants.{Known, NoKind}
+use Rattle.kind.specs.declared.Kind.{Kind}
+use Rattle.kind.specs.declared.Kind.the-variants.{Square, Tri, Honey}
+use Rattle.kind.specs.declared.Parsed.{Parsed}
+use Rattle.kind.specs.declared.Parsed.the-variants.{Known, NoKind}
 
 abbrev pub numberOf : Kind → ℕ
 numberOf Square = 0

@@ -7,10 +7,10 @@ use lib.Ieee.{Float}
 use lib.ListN.{length}
 use Rattle.vector.specs.Front.{over}
 use Rattle.checks.specs.Answers.{left}
-use Rattle.strip.specs.Strips.{edges, earlyEnds, lateEnds}
+use Rattle.bonds.specs.Edges.{edges, earlyEnds, lateEnds}
 use Rattle.strip.specs.declared.strip.Strip.{Strip}
-use Rattle.strip.specs.declared.strip.Kind.{Kind}
-use Rattle.strip.specs.declared.strip.Kind.the-variants.{Square, Tri, Honey}
+use Rattle.kind.specs.declared.Kind.{Kind}
+use Rattle.kind.specs.declared.Kind.the-variants.{Square, Tri, Honey}
 
 -- 0 is square, 1 triangular, any other number honeycomb.
 abbrev pub kindNumbered : ℕ → Kind

@@ -1,13 +1,13 @@
 // The names of kinds and boundaries. Over C a kind is a number.
 ghost use mathlib.Core.Path.{_≡_};
 ghost use lib.ListN.{length};
-ghost use Rattle.strip.specs.Names.{parsed, nameOf, boundaryOf, padded};
+ghost use Rattle.kind.specs.Names.{parsed, nameOf, boundaryOf, padded};
 ghost use Rattle.copperhook.specs.Strips.{kindNumbered};
 ghost use Rattle.copperhook.specs.Kinds.{numberOf, isKnown, kindOf};
 use crate::strips::kind_numbered;
 use crate::strips::strip_numbered;
-use strip::Kind;
-use strip::Parsed;
+use kind::Kind;
+use kind::Parsed;
 
 fn number_of(kind: Kind) -> usize
     ensures { λ r. ⌜ r ≡ numberOf kind ⌝ }

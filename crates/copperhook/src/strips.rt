@@ -4,13 +4,13 @@ ghost use mathlib.Core.Bool.{false};
 ghost use Prim.Native.Nat.{_*_};
 ghost use Rattle.checks.specs.Answers.{left};
 ghost use Rattle.checks.specs.StripRequest.{stripRefusal, ofSides, ofStrip};
-ghost use Rattle.strip.specs.Strips.{windowOf};
-ghost use Rattle.strip.specs.Listing.{stripRequest};
+ghost use Rattle.strip_window.specs.Window.{windowOf};
+ghost use Rattle.strip.specs.Requests.{stripRequest};
 ghost use Rattle.strip.specs.Vertices.{sited};
 ghost use Rattle.copperhook.specs.Strips.{kindNumbered, stripNumbered};
 ghost use Rattle.copperhook.specs.Vertices.{numberOf, insideOf, vertexOf};
 use checks::Answer;
-use strip::Kind;
+use kind::Kind;
 use strip::Sited;
 use strip::Strip;
 
@@ -94,7 +94,7 @@ pub extern "C" fn copperhook_strip_vid(
     }
 }
 
-// As `strip::window`, in `window`; where the call is refused, that keeps what it held.
+// As `strip_window::window`, in `window`; where the call is refused, that keeps what it held.
 #[no_mangle]
 pub extern "C" fn copperhook_strip_window(
     kind: usize,
@@ -106,7 +106,7 @@ pub extern "C" fn copperhook_strip_window(
     ensures { λ r. ⌜ r ≡ stripRefusal ofStrip (stripRequest (stripNumbered kind w l periodic) false) ⌝ }
     ensures { λ r. ⌜ now (window .exit) ≡ left r (windowOf (stripNumbered kind w l periodic)) (now (window .entry)) ⌝ }
 {
-    let answer = strip::window(strip_numbered(kind, w, l, periodic));
+    let answer = strip_window::window(strip_numbered(kind, w, l, periodic));
     match answer {
         Answer::Number(width) => {
             *window = width;

@@ -1,7 +1,7 @@
 -- What the answer holds, taken apart, for the strip that the numbers name.
 use lib.ListN.{length}
-use Rattle.strip.specs.Strips.{edges}
-use Rattle.strip.specs.Diluted.{dilution, magnitudes, dilutedRefusal}
+use Rattle.bonds.specs.Edges.{edges}
+use Rattle.dilution.specs.Diluted.{dilution, magnitudes, dilutedRefusal}
 use Rattle.copperhook.specs.Strips.{stripNumbered}
 use Rattle.copperhook.proofs.Told.{edges-told, edges-refused}
 use borrow.Author.Needs.{needs}

@@ -1,6 +1,6 @@
 -- What the answer holds, taken apart, for the strip that the numbers name.
-use Rattle.strip.specs.Strips.{edges, unitMagnitudes}
-use Rattle.strip.specs.Listing.{rawRefusal}
+use Rattle.bonds.specs.Edges.{edges, unitMagnitudes}
+use Rattle.raw_edges.specs.RawEdges.{rawRefusal}
 use Rattle.copperhook.specs.Strips.{stripNumbered}
 use Rattle.copperhook.proofs.Told.{edges-told, edges-refused}
 use borrow.Author.Needs.{needs}

@@ -2,7 +2,7 @@
 use mathlib.Core.Path.{sym, _∙_}
 use mathlib.Core.Bool.{false}
 use Rattle.checks.specs.StripRequest.{stripRefusal, ofSides}
-use Rattle.strip.specs.Listing.{stripRequest}
+use Rattle.strip.specs.Requests.{stripRequest}
 use Rattle.strip.specs.Vertices.{sited}
 use Rattle.copperhook.specs.Strips.{stripNumbered}
 use Rattle.copperhook.proofs.Told.{sited-told}

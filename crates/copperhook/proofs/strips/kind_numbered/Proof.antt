@@ -2,7 +2,7 @@
 use mathlib.Core.Path.{_≡_, refl}
 use Prim.Native.Nat.{ℕ, zero, suc}
 use borrow.Author.Needs.{needs}
-use Rattle.strip.specs.declared.strip.Kind.the-variants.{Honey}
+use Rattle.kind.specs.declared.Kind.the-variants.{Honey}
 use Rattle.copperhook.specs.Strips.{kindNumbered}
 use Rattle.copperhook.proofs.strips.kind_numbered.Statement.{statement}
 use Rattle.copperhook.proofs.strips.kind_numbered.Tie as tie
