@@ -4,9 +4,10 @@ ghost use Rattle.dilution.specs.Diluted.{dilution, dilutedRefusal, magnitudes};
 ghost use Rattle.raw_edges.specs.RawEdges.{rawRefusal};
 ghost use Rattle.bonds.specs.Edges.{edges as edgesOf, unitMagnitudes};
 ghost use lib.ListN.{length};
-ghost use Rattle.copperhook.specs.Strips.{stripNumbered, StripEdges};
-use crate::strips::strip_numbered;
-use checks::Answer;
+ghost use Rattle.numbered.specs.Kinds.{stripNumbered};
+ghost use Rattle.copperhook.specs.Strips.{StripEdges};
+use numbered::strip_numbered;
+use told::tell_number;
 
 // As `raw_edges::raw_edges`, how many there are in `edges`; where the call is refused, that keeps what it held.
 #[no_mangle]
@@ -25,13 +26,7 @@ pub extern "C" fn copperhook_raw_edges(
         (now (late .entry)) (now (late .exit)) (now (mag .entry)) (now (mag .exit)) (now (edges .entry)) (now (edges .exit)) ⌝ }
 {
     let answer = raw_edges::raw_edges(strip_numbered(kind, w, l, periodic), early, late, mag);
-    match answer {
-        Answer::Number(count) => {
-            *edges = count;
-            0
-        }
-        Answer::Refused(number) => number,
-    }
+    tell_number(answer, edges)
 }
 
 // As `dilution::diluted`, how many edges there are in `edges`; where the call is refused, that keeps what it held.
@@ -65,11 +60,5 @@ pub extern "C" fn copperhook_diluted(
         late,
         mag,
     );
-    match answer {
-        Answer::Number(count) => {
-            *edges = count;
-            0
-        }
-        Answer::Refused(number) => number,
-    }
+    tell_number(answer, edges)
 }

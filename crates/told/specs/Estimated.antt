@@ -1,4 +1,5 @@
--- What an estimate is as a number, and what it leaves in references that held `old`.
+-- What an estimate is as a number, 0 for accepted, and what it leaves in references that held `old`.
+use mathlib.Core.Path.{_≡_}
 use mathlib.Core.Bool.{Bool, true, false}
 use Prim.Native.Nat.{ℕ}
 use lib.Ieee.{Float}
@@ -24,3 +25,9 @@ abbrev pub errorOf : Estimate → Float → Float
 errorOf (Estimated e) old = e .error
 errorOf (TooFew mean) old = old
 errorOf (Refused k) old = old
+
+pub record Tells (a : Estimate) (r : ℕ) (enough enough′ : Bool) (mean mean′ error error′ : Float) : Type 0 where
+  pub number : r ≡ numberOf a
+  pub enoughs : enough′ ≡ enoughOf a enough
+  pub means : mean′ ≡ meanOf a mean
+  pub errors : error′ ≡ errorOf a error

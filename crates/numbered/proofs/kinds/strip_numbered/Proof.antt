@@ -1,8 +1,8 @@
 -- The kind that the number names, with the other numbers.
 use mathlib.Core.Path.{refl}
 use borrow.Author.Needs.{needs}
-use Rattle.copperhook.proofs.strips.strip_numbered.Statement.{statement}
-use Rattle.copperhook.proofs.strips.strip_numbered.Tie as tie
+use Rattle.numbered.proofs.kinds.strip_numbered.Statement.{statement}
+use Rattle.numbered.proofs.kinds.strip_numbered.Tie as tie
 
 kind-numbered-requires : tie.Need-kind-numbered-requires
 kind-numbered-requires c κs = search needs

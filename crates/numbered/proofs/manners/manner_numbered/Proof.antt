@@ -3,9 +3,9 @@ use mathlib.Core.Path.{_≡_, refl}
 use Prim.Native.Nat.{ℕ, zero, suc}
 use borrow.Author.Needs.{needs}
 use Rattle.glass.specs.declared.Manner.the-variants.{Block}
-use Rattle.copperhook.specs.Manners.{mannerNumbered}
-use Rattle.copperhook.proofs.correlations.manner_numbered.Statement.{statement}
-use Rattle.copperhook.proofs.correlations.manner_numbered.Tie as tie
+use Rattle.numbered.specs.Manners.{mannerNumbered}
+use Rattle.numbered.proofs.manners.manner_numbered.Statement.{statement}
+use Rattle.numbered.proofs.manners.manner_numbered.Tie as tie
 
 other-block : (k : ℕ) → (k ≡ 0 → ⊥) → Block ≡ mannerNumbered k
 other-block zero h = absurd (h refl)

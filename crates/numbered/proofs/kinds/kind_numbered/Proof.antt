@@ -3,9 +3,9 @@ use mathlib.Core.Path.{_≡_, refl}
 use Prim.Native.Nat.{ℕ, zero, suc}
 use borrow.Author.Needs.{needs}
 use Rattle.kind.specs.declared.Kind.the-variants.{Honey}
-use Rattle.copperhook.specs.Strips.{kindNumbered}
-use Rattle.copperhook.proofs.strips.kind_numbered.Statement.{statement}
-use Rattle.copperhook.proofs.strips.kind_numbered.Tie as tie
+use Rattle.numbered.specs.Kinds.{kindNumbered}
+use Rattle.numbered.proofs.kinds.kind_numbered.Statement.{statement}
+use Rattle.numbered.proofs.kinds.kind_numbered.Tie as tie
 
 other-honey : (k : ℕ) → (k ≡ 0 → ⊥) → (k ≡ 1 → ⊥) → Honey ≡ kindNumbered k
 other-honey zero h j = absurd (h refl)
