@@ -1,25 +1,13 @@
--- The strip that four numbers name, and its edges as a caller gets them.
+-- The edges of a strip as a caller gets them.
 use mathlib.Core.Path.{_≡_}
-use mathlib.Core.Bool.{Bool}
 use mathlib.Core.List.{List}
-use Prim.Native.Nat.{ℕ, zero, suc}
+use Prim.Native.Nat.{ℕ}
 use lib.Ieee.{Float}
 use lib.ListN.{length}
 use Rattle.vector.specs.Front.{over}
 use Rattle.checks.specs.Answers.{left}
-use Rattle.strip.specs.Strips.{edges, earlyEnds, lateEnds}
+use Rattle.bonds.specs.Edges.{edges, earlyEnds, lateEnds}
 use Rattle.strip.specs.declared.strip.Strip.{Strip}
-use Rattle.strip.specs.declared.strip.Kind.{Kind}
-use Rattle.strip.specs.declared.strip.Kind.the-variants.{Square, Tri, Honey}
-
--- 0 is square, 1 triangular, any other number honeycomb.
-abbrev pub kindNumbered : ℕ → Kind
-kindNumbered zero = Square
-kindNumbered (suc zero) = Tri
-kindNumbered (suc (suc k)) = Honey
-
-abbrev pub stripNumbered : ℕ → ℕ → ℕ → Bool → Strip
-stripNumbered kind w l periodic = record { kind = kindNumbered kind; w = w; l = l; periodic = periodic }
 
 -- The answer r of a call for a strip's edges with these magnitudes, what it leaves in the lists, and their number; refused, all as it was.
 pub record StripEdges (refused : ℕ) (s : Strip) (magnitudes : List Float) (r : ℕ) (early early′ late late′ : List ℕ) (mag mag′ : List Float)

@@ -1,18 +1,8 @@
 // The pair correlations of one configuration, with the manner as a number.
 ghost use mathlib.Core.Path.{_≡_};
 ghost use Rattle.glass.specs.Correlations.{Correlated};
-ghost use Rattle.copperhook.specs.Manners.{mannerNumbered};
-use glass::Manner;
-
-// 0 is per element and any other number block, so that no number is a bad manner.
-pub(crate) fn manner_numbered(number: usize) -> Manner
-    ensures { λ r. ⌜ r ≡ mannerNumbered number ⌝ }
-{
-    if number == 0 {
-        return Manner::PerElement;
-    }
-    Manner::Block
-}
+ghost use Rattle.numbered.specs.Manners.{mannerNumbered};
+use numbered::manner_numbered;
 
 // As `glass::correlations`.
 #[no_mangle]

@@ -7,7 +7,7 @@ ghost use Rattle.checks.specs.Request.{graphRequest};
 ghost use Rattle.checks.specs.Refusal.{refusal, ofGraph};
 ghost use Rattle.checks.specs.Answers.{left};
 ghost use Rattle.lattice.specs.Graphs.{freeCount};
-use checks::Answer;
+use told::tell_number;
 
 // As `lattice::window`, the window in `window`; where the call is refused, that keeps what it held.
 #[no_mangle]
@@ -23,13 +23,7 @@ pub extern "C" fn copperhook_window(
     ensures { λ r. ⌜ now (window .exit) ≡ left r (windowFrom floor (now (a .entry)) (now (b .entry)) (now (m .entry))) (now (window .entry)) ⌝ }
 {
     let answer = lattice::window(n, a, b, m, floor);
-    match answer {
-        Answer::Number(width) => {
-            *window = width;
-            0
-        }
-        Answer::Refused(number) => number,
-    }
+    tell_number(answer, window)
 }
 
 // As `lattice::n_components`, how many there are in `count`.
@@ -47,13 +41,7 @@ pub extern "C" fn copperhook_n_components(
         (lateEnds (kept (now (a .entry)) (now (b .entry)) (now (m .entry))))) (now (count .entry)) ⌝ }
 {
     let answer = lattice::n_components(n, a, b, m);
-    match answer {
-        Answer::Number(components) => {
-            *count = components;
-            0
-        }
-        Answer::Refused(number) => number,
-    }
+    tell_number(answer, count)
 }
 
 // As `lattice::cyclomatic`, how many edges are free in `free`.
@@ -71,11 +59,5 @@ pub extern "C" fn copperhook_cyclomatic(
         (lateEnds (kept (now (a .entry)) (now (b .entry)) (now (m .entry))))) (now (free .entry)) ⌝ }
 {
     let answer = lattice::cyclomatic(n, a, b, m);
-    match answer {
-        Answer::Number(edges) => {
-            *free = edges;
-            0
-        }
-        Answer::Refused(number) => number,
-    }
+    tell_number(answer, free)
 }

@@ -4,7 +4,7 @@ ghost use Rattle.checks.specs.Edges.{kept, earlyEnds, lateEnds};
 ghost use Rattle.checks.specs.Request.{distanceRequest};
 ghost use Rattle.checks.specs.Refusal.{refusal, ofDistance};
 ghost use Rattle.copperhook.specs.Distances.{Told};
-use lattice::Reached;
+use told::tell_distance;
 
 // As `lattice::distance`: `joined` tells whether a walk leads from u to v, and `length` the least number of its edges. Where the call is
 // refused both keep what they held, and where no walk leads there `length` does.
@@ -24,16 +24,5 @@ pub extern "C" fn copperhook_distance(
         u v r (now (joined .entry)) (now (joined .exit)) (now (length .entry)) (now (length .exit)) ⌝ }
 {
     let answer = lattice::distance(n, a, b, m, u, v);
-    match answer {
-        Reached::Length(edges) => {
-            *joined = true;
-            *length = edges;
-            0
-        }
-        Reached::NotJoined => {
-            *joined = false;
-            0
-        }
-        Reached::Refused(number) => number,
-    }
+    tell_distance(answer, joined, length)
 }

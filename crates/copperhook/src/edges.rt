@@ -1,14 +1,15 @@
 // The edges of a strip, whole or diluted, and their number through a reference.
 ghost use mathlib.Core.Path.{_≡_};
-ghost use Rattle.strip.specs.Diluted.{dilution, dilutedRefusal, magnitudes};
-ghost use Rattle.strip.specs.Listing.{rawRefusal};
-ghost use Rattle.strip.specs.Strips.{edges as edgesOf, unitMagnitudes};
+ghost use Rattle.dilution.specs.Diluted.{dilution, dilutedRefusal, magnitudes};
+ghost use Rattle.raw_edges.specs.RawEdges.{rawRefusal};
+ghost use Rattle.bonds.specs.Edges.{edges as edgesOf, unitMagnitudes};
 ghost use lib.ListN.{length};
-ghost use Rattle.copperhook.specs.Strips.{stripNumbered, StripEdges};
-use crate::strips::strip_numbered;
-use checks::Answer;
+ghost use Rattle.numbered.specs.Kinds.{stripNumbered};
+ghost use Rattle.copperhook.specs.Strips.{StripEdges};
+use numbered::strip_numbered;
+use told::tell_number;
 
-// As `strip::raw_edges`, how many there are in `edges`; where the call is refused, that keeps what it held.
+// As `raw_edges::raw_edges`, how many there are in `edges`; where the call is refused, that keeps what it held.
 #[no_mangle]
 pub extern "C" fn copperhook_raw_edges(
     kind: usize,
@@ -24,17 +25,11 @@ pub extern "C" fn copperhook_raw_edges(
         (stripNumbered kind w l periodic) (unitMagnitudes (edgesOf (stripNumbered kind w l periodic))) r (now (early .entry)) (now (early .exit))
         (now (late .entry)) (now (late .exit)) (now (mag .entry)) (now (mag .exit)) (now (edges .entry)) (now (edges .exit)) ⌝ }
 {
-    let answer = strip::raw_edges(strip_numbered(kind, w, l, periodic), early, late, mag);
-    match answer {
-        Answer::Number(count) => {
-            *edges = count;
-            0
-        }
-        Answer::Refused(number) => number,
-    }
+    let answer = raw_edges::raw_edges(strip_numbered(kind, w, l, periodic), early, late, mag);
+    tell_number(answer, edges)
 }
 
-// As `strip::diluted`, how many edges there are in `edges`; where the call is refused, that keeps what it held.
+// As `dilution::diluted`, how many edges there are in `edges`; where the call is refused, that keeps what it held.
 #[no_mangle]
 pub extern "C" fn copperhook_diluted(
     kind: usize,
@@ -55,7 +50,7 @@ pub extern "C" fn copperhook_diluted(
         (now (early .entry)) (now (early .exit)) (now (late .entry)) (now (late .exit)) (now (mag .entry)) (now (mag .exit))
         (now (edges .entry)) (now (edges .exit)) ⌝ }
 {
-    let answer = strip::diluted(
+    let answer = dilution::diluted(
         strip_numbered(kind, w, l, periodic),
         keep,
         low,
@@ -65,11 +60,5 @@ pub extern "C" fn copperhook_diluted(
         late,
         mag,
     );
-    match answer {
-        Answer::Number(count) => {
-            *edges = count;
-            0
-        }
-        Answer::Refused(number) => number,
-    }
+    tell_number(answer, edges)
 }

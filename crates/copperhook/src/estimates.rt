@@ -1,8 +1,8 @@
 // The estimate that a count and two sums give.
 ghost use mathlib.Core.Path.{_≡_};
 ghost use Rattle.estimate.specs.Estimates.{estimateOf};
-ghost use Rattle.copperhook.specs.Estimated.{numberOf, enoughOf, meanOf, errorOf};
-use estimate::Estimate;
+ghost use Rattle.told.specs.Estimated.{numberOf, enoughOf, meanOf, errorOf};
+use told::tell_estimate;
 
 // As `estimate::estimate`: `enough` tells whether there are two configurations or more. Then `mean` and `error` are written, for one only
 // `mean`; where the call is refused, all keep what they held.
@@ -21,18 +21,5 @@ pub extern "C" fn copperhook_estimate(
     ensures { λ r. ⌜ now (error .exit) ≡ errorOf (estimateOf count squares fourths) (now (error .entry)) ⌝ }
 {
     let answer = estimate::estimate(count, squares, fourths);
-    match answer {
-        Estimate::Estimated(e) => {
-            *enough = true;
-            *mean = e.mean;
-            *error = e.error;
-            0
-        }
-        Estimate::TooFew(alone) => {
-            *enough = false;
-            *mean = alone;
-            0
-        }
-        Estimate::Refused(number) => number,
-    }
+    tell_estimate(answer, enough, mean, error)
 }

@@ -7,7 +7,7 @@ ghost use Rattle.checks.specs.Refusal.{refusal, ofGraphWithBuffers};
 ghost use Rattle.lattice.specs.Graphs.{tooShort, rotate};
 ghost use Rattle.copperhook.specs.Graphs.{Listed};
 use lattice::Graph;
-use lattice::Made;
+use told::tell_graph;
 
 // As `Graph::new`; where the call is refused, `window` and `edges` keep what they held.
 #[no_mangle]
@@ -29,14 +29,7 @@ pub extern "C" fn copperhook_graph(
         (now (late .exit)) (now (mag .entry)) (now (mag .exit)) (now (window .entry)) (now (window .exit)) (now (edges .entry)) (now (edges .exit)) ⌝ }
 {
     let answer = Graph::new(n, floor, a, b, m, early, late, mag);
-    match answer {
-        Made::Kept(g) => {
-            *window = g.win;
-            *edges = g.edges;
-            0
-        }
-        Made::Refused(number) => number,
-    }
+    tell_graph(answer, window, edges)
 }
 
 // As `Graph::rotated`; where the call is refused, `window` and `edges` keep what they held.
@@ -59,12 +52,5 @@ pub extern "C" fn copperhook_rotated(
         (now (late .exit)) (now (mag .entry)) (now (mag .exit)) (now (window .entry)) (now (window .exit)) (now (edges .entry)) (now (edges .exit)) ⌝ }
 {
     let answer = Graph::rotated(n, floor, a, b, m, early, late, mag);
-    match answer {
-        Made::Kept(g) => {
-            *window = g.win;
-            *edges = g.edges;
-            0
-        }
-        Made::Refused(number) => number,
-    }
+    tell_graph(answer, window, edges)
 }

@@ -1,23 +1,14 @@
 // The names of kinds and boundaries. Over C a kind is a number.
 ghost use mathlib.Core.Path.{_≡_};
 ghost use lib.ListN.{length};
-ghost use Rattle.strip.specs.Names.{parsed, nameOf, boundaryOf, padded};
-ghost use Rattle.copperhook.specs.Strips.{kindNumbered};
-ghost use Rattle.copperhook.specs.Kinds.{numberOf, isKnown, kindOf};
-use crate::strips::kind_numbered;
-use crate::strips::strip_numbered;
-use strip::Kind;
-use strip::Parsed;
-
-fn number_of(kind: Kind) -> usize
-    ensures { λ r. ⌜ r ≡ numberOf kind ⌝ }
-{
-    match kind {
-        Kind::Square => 0,
-        Kind::Tri => 1,
-        Kind::Honey => 2,
-    }
-}
+ghost use Rattle.kind.specs.Names.{parsed, nameOf, boundaryOf, padded};
+ghost use Rattle.numbered.specs.Kinds.{kindNumbered};
+ghost use Rattle.copperhook.specs.Kinds.{isKnown, kindOf};
+use kind::Kind;
+use kind::Parsed;
+use numbered::kind_numbered;
+use numbered::number_of;
+use numbered::strip_numbered;
 
 // As `Kind::parse`: whether the name means a kind. Its number is then in `kind`, which keeps what it held where there is none.
 #[no_mangle]

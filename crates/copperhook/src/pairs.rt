@@ -1,10 +1,10 @@
 // The standard pair set of a strip, and how many pairs it has through a reference.
 ghost use mathlib.Core.Path.{_≡_};
 ghost use Rattle.pairset.specs.PairSet.{pairSet, pairsRefusal};
-ghost use Rattle.copperhook.specs.Strips.{stripNumbered};
+ghost use Rattle.numbered.specs.Kinds.{stripNumbered};
 ghost use Rattle.copperhook.specs.PairSets.{Paired};
-use crate::strips::strip_numbered;
-use checks::Answer;
+use numbered::strip_numbered;
+use told::tell_number;
 
 // As `pairset::pairs`, how many there are in `pairs`; where the call is refused, that keeps what it held.
 #[no_mangle]
@@ -23,11 +23,5 @@ pub extern "C" fn copperhook_pairs(
         (now (labels .entry)) (now (labels .exit)) (now (pairs .entry)) (now (pairs .exit)) ⌝ }
 {
     let answer = pairset::pairs(strip_numbered(kind, w, l, periodic), us, vs, labels);
-    match answer {
-        Answer::Number(count) => {
-            *pairs = count;
-            0
-        }
-        Answer::Refused(number) => number,
-    }
+    tell_number(answer, pairs)
 }

@@ -6,7 +6,7 @@ ghost use Rattle.checks.specs.Edges.{kept, windowFrom};
 ghost use Rattle.checks.specs.Request.{roomRequest};
 ghost use Rattle.checks.specs.Refusal.{refusal, ofRoom};
 ghost use Rattle.checks.specs.Answers.{left};
-use checks::Answer;
+use told::tell_number;
 
 // As `refuse::room`, the number of doubles in `room`; where the call is refused, that keeps what it held.
 #[no_mangle]
@@ -27,11 +27,5 @@ pub extern "C" fn copperhook_room(
         (now (room .entry)) ⌝ }
 {
     let answer = refuse::room(n, floor, a, b, m, us, vs);
-    match answer {
-        Answer::Number(doubles) => {
-            *room = doubles;
-            0
-        }
-        Answer::Refused(number) => number,
-    }
+    tell_number(answer, room)
 }

@@ -4,39 +4,14 @@ ghost use mathlib.Core.Bool.{false};
 ghost use Prim.Native.Nat.{_*_};
 ghost use Rattle.checks.specs.Answers.{left};
 ghost use Rattle.checks.specs.StripRequest.{stripRefusal, ofSides, ofStrip};
-ghost use Rattle.strip.specs.Strips.{windowOf};
-ghost use Rattle.strip.specs.Listing.{stripRequest};
+ghost use Rattle.strip_window.specs.Window.{windowOf};
+ghost use Rattle.strip.specs.Requests.{stripRequest};
 ghost use Rattle.strip.specs.Vertices.{sited};
-ghost use Rattle.copperhook.specs.Strips.{kindNumbered, stripNumbered};
-ghost use Rattle.copperhook.specs.Vertices.{numberOf, insideOf, vertexOf};
-use checks::Answer;
-use strip::Kind;
-use strip::Sited;
-use strip::Strip;
-
-// 0 is square, 1 triangular and any other number honeycomb, so that no number is a bad kind.
-pub(crate) fn kind_numbered(number: usize) -> Kind
-    ensures { λ r. ⌜ r ≡ kindNumbered number ⌝ }
-{
-    if number == 0 {
-        return Kind::Square;
-    }
-    if number == 1 {
-        return Kind::Tri;
-    }
-    Kind::Honey
-}
-
-pub(crate) fn strip_numbered(kind: usize, w: usize, l: usize, periodic: bool) -> Strip
-    ensures { λ r. ⌜ r ≡ stripNumbered kind w l periodic ⌝ }
-{
-    Strip {
-        kind: kind_numbered(kind),
-        w,
-        l,
-        periodic,
-    }
-}
+ghost use Rattle.numbered.specs.Kinds.{stripNumbered};
+ghost use Rattle.told.specs.Vertices.{numberOf, insideOf, vertexOf};
+use numbered::strip_numbered;
+use told::tell_number;
+use told::tell_vertex;
 
 // As `Strip::n`, the number of vertices in `n`; where the call is refused, that keeps what it held.
 #[no_mangle]
@@ -52,13 +27,7 @@ pub extern "C" fn copperhook_strip_n(
 {
     let s = strip_numbered(kind, w, l, periodic);
     let answer = s.n();
-    match answer {
-        Answer::Number(vertices) => {
-            *n = vertices;
-            0
-        }
-        Answer::Refused(number) => number,
-    }
+    tell_number(answer, n)
 }
 
 // As `Strip::vid`: `inside` tells whether the strip has the site, and `vertex` which it is. Where the call is refused both keep what they
@@ -80,21 +49,10 @@ pub extern "C" fn copperhook_strip_vid(
 {
     let s = strip_numbered(kind, w, l, periodic);
     let answer = s.vid(x, y);
-    match answer {
-        Sited::Vertex(index) => {
-            *inside = true;
-            *vertex = index;
-            0
-        }
-        Sited::Outside => {
-            *inside = false;
-            0
-        }
-        Sited::Refused(number) => number,
-    }
+    tell_vertex(answer, inside, vertex)
 }
 
-// As `strip::window`, in `window`; where the call is refused, that keeps what it held.
+// As `strip_window::window`, in `window`; where the call is refused, that keeps what it held.
 #[no_mangle]
 pub extern "C" fn copperhook_strip_window(
     kind: usize,
@@ -106,12 +64,6 @@ pub extern "C" fn copperhook_strip_window(
     ensures { λ r. ⌜ r ≡ stripRefusal ofStrip (stripRequest (stripNumbered kind w l periodic) false) ⌝ }
     ensures { λ r. ⌜ now (window .exit) ≡ left r (windowOf (stripNumbered kind w l periodic)) (now (window .entry)) ⌝ }
 {
-    let answer = strip::window(strip_numbered(kind, w, l, periodic));
-    match answer {
-        Answer::Number(width) => {
-            *window = width;
-            0
-        }
-        Answer::Refused(number) => number,
-    }
+    let answer = strip_window::window(strip_numbered(kind, w, l, periodic));
+    tell_number(answer, window)
 }

@@ -2,9 +2,9 @@
 ghost use mathlib.Core.Path.{_≡_};
 ghost use Rattle.checks.specs.Answers.{answered};
 ghost use Rattle.totals.specs.Calls.{Enumerated, EnumeratedEach, Sampled};
-ghost use Rattle.copperhook.specs.Manners.{mannerNumbered};
-use crate::correlations::manner_numbered;
-use checks::Answer;
+ghost use Rattle.numbered.specs.Manners.{mannerNumbered};
+use numbered::manner_numbered;
+use told::tell_number;
 
 // As `exhaustive::exhaustive`, how many configurations there are in `count`; where the call is refused, that keeps what it held.
 #[no_mangle]
@@ -44,13 +44,7 @@ pub extern "C" fn copperhook_exhaustive(
         fourths,
         work,
     );
-    match answer {
-        Answer::Number(configurations) => {
-            *count = configurations;
-            0
-        }
-        Answer::Refused(number) => number,
-    }
+    tell_number(answer, count)
 }
 
 // As `storing::exhaustive_c`, likewise.
@@ -89,13 +83,7 @@ pub extern "C" fn copperhook_exhaustive_c(
         stored,
         work,
     );
-    match answer {
-        Answer::Number(configurations) => {
-            *count = configurations;
-            0
-        }
-        Answer::Refused(number) => number,
-    }
+    tell_number(answer, count)
 }
 
 // As `sampling::sample`, likewise.
@@ -144,11 +132,5 @@ pub extern "C" fn copperhook_sample(
         fourths,
         work,
     );
-    match answer {
-        Answer::Number(drawn) => {
-            *count = drawn;
-            0
-        }
-        Answer::Refused(number) => number,
-    }
+    tell_number(answer, count)
 }

@@ -12,8 +12,8 @@ use lib.Seq.{take-suc}
 use borrow.Author.Tests.{ltb-true}
 use Rattle.vector.specs.Front.{over, over-more, over-length}
 use Rattle.strip.specs.Tests.{and-true}
-use Rattle.strip.specs.Strips.{vertex}
-use Rattle.strip.specs.Listing.{Sides}
+use Rattle.strip.specs.Vertices.{vertex}
+use Rattle.strip.specs.Sides.{Sides}
 use Rattle.pairset.specs.PairSet.{Pair, candidateAt, taken, pairAt, pairsBelow, firsts, seconds, labelBytes}
 use Rattle.pairset.specs.PairListing.{LabelFits, shown, Counted, Put, PairRoom, PairsWritten, Ends, PairPlaced}
 use Rattle.pairset.specs.declared.candidates.Seats.{Seats}

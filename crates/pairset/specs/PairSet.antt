@@ -6,9 +6,9 @@ use Prim.Native.String.{String}
 use lib.Dec.{eqb, ltb, leb}
 use lib.ListN.{length, getD}
 use Rattle.checks.specs.StripRequest.{stripRefusal, ofPairs}
-use Rattle.strip.specs.Strips.{vertex}
-use Rattle.strip.specs.Listing.{stripRequest}
-use Rattle.strip.specs.Spelling.{spelled}
+use Rattle.strip.specs.Vertices.{vertex}
+use Rattle.strip.specs.Requests.{stripRequest}
+use Rattle.kind.specs.Spelling.{spelled}
 use Rattle.strip.specs.declared.strip.Strip.{Strip}
 use Rattle.pairset.specs.declared.candidates.Seats.{Seats}
 

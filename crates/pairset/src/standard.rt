@@ -7,7 +7,7 @@ ghost use lib.Dec.{ltb};
 ghost use lib.ListN.{length, take};
 ghost use Rattle.vector.specs.Front.{over};
 ghost use Rattle.checks.specs.Answers.{answered, left};
-ghost use Rattle.strip.specs.Listing.{Sides};
+ghost use Rattle.strip.specs.Sides.{Sides};
 ghost use Rattle.pairset.specs.PairSet.{candidateAt, pairAt, pairsBelow, pairSet, firsts, seconds, labelBytes, pairsRefusal};
 ghost use Rattle.pairset.specs.PairListing.{LabelFits, shown, Counted, Put, PairRoom, PairsWritten, PairPlaced};
 use crate::candidates::Label;

@@ -1,7 +1,7 @@
 // What the replays share: strips from stored words, checksums, and buffers filled with guards, which a call must leave where it writes nothing.
 ghost use Prim.Native.Nat.{_≤_};
 use checks::Answer;
-use strip::Kind;
+use kind::Kind;
 use strip::Strip;
 
 pub(crate) const GUARD: usize = 77;

@@ -80,7 +80,7 @@ fn lend(
 ) -> Answer
     requires { ⌜ (a ≤ length (now early)) × (b ≤ length (now late)) × (c ≤ length (now mag)) ⌝ }
 {
-    strip::diluted(
+    dilution::diluted(
         s,
         x.keep,
         x.low,
@@ -147,7 +147,7 @@ pub(crate) fn replay(list: &[u8], at: usize) -> bool {
     let answer = lend(s, x, 4096, 4096, 4096, &mut early, &mut late, &mut mag);
     let k = number(answer);
     let kept = kept_of(k, &early, &late, &mag);
-    let floor = number(strip::window(s));
+    let floor = number(strip_window::window(s));
     let win = if floor < kept.longest {
         kept.longest
     } else {

@@ -27,9 +27,9 @@ fn edges_agree(s: Strip, list: &[u8], at: usize, diluted: bool) -> bool {
     let high = stored::float_of(word(list, at, 7));
     let expected = word(list, at, 8);
     let answered = if diluted {
-        refusal(strip::diluted(s, keep, low, high, 1, &mut early, &mut late, &mut mag))
+        refusal(dilution::diluted(s, keep, low, high, 1, &mut early, &mut late, &mut mag))
     } else {
-        refusal(strip::raw_edges(s, &mut early, &mut late, &mut mag))
+        refusal(raw_edges::raw_edges(s, &mut early, &mut late, &mut mag))
     };
     let seen = see_edges(0, &early, &late, &mag);
     (answered == expected) & (seen.rest | (expected == 0))
@@ -56,7 +56,7 @@ pub(crate) fn replay(list: &[u8], at: usize) -> bool {
         return pairs_refusal(s) == word(list, at, 8);
     }
     if call == 3 {
-        return refusal(strip::window(s)) == word(list, at, 8);
+        return refusal(strip_window::window(s)) == word(list, at, 8);
     }
     edges_agree(s, list, at, call == 1)
 }

@@ -19,7 +19,7 @@ fn edges_agree(s: Strip, k: u64, sum: u64) -> bool {
     let mut early = [GUARD; 4096];
     let mut late = [GUARD; 4096];
     let mut mag = [GUARD_MAGNITUDE; 4096];
-    let answer = strip::raw_edges(s, &mut early, &mut late, &mut mag);
+    let answer = raw_edges::raw_edges(s, &mut early, &mut late, &mut mag);
     let seen = see_edges(k, &early, &late, &mag);
     is_number(answer, k) & (seen.hash == sum) & seen.rest
 }
@@ -29,9 +29,9 @@ fn odd_agrees(s: Strip) -> bool {
     let mut early = [GUARD; 4096];
     let mut late = [GUARD; 4096];
     let mut mag = [GUARD_MAGNITUDE; 4096];
-    let answer = strip::raw_edges(s, &mut early, &mut late, &mut mag);
+    let answer = raw_edges::raw_edges(s, &mut early, &mut late, &mut mag);
     let seen = see_edges(0, &early, &late, &mag);
-    is_refused(answer, 16) & seen.rest & is_refused(strip::window(s), 16)
+    is_refused(answer, 16) & seen.rest & is_refused(strip_window::window(s), 16)
 }
 
 // The edge list into the first a, b and c elements of three buffers.
@@ -46,7 +46,7 @@ fn lend_edges(
 ) -> Answer
     requires { ⌜ (a ≤ length (now early)) × (b ≤ length (now late)) × (c ≤ length (now mag)) ⌝ }
 {
-    strip::raw_edges(s, &mut early[..a], &mut late[..b], &mut mag[..c])
+    raw_edges::raw_edges(s, &mut early[..a], &mut late[..b], &mut mag[..c])
 }
 
 // The pair set into the first a, b and c elements of three buffers.
@@ -196,5 +196,5 @@ pub(crate) fn replay(list: &[u8], at: usize) -> bool {
     pairs
         & edges_agree(s, k, sum)
         & lengths_agree(s, k as usize, sum)
-        & is_number(strip::window(s), win)
+        & is_number(strip_window::window(s), win)
 }

@@ -1,5 +1,2 @@
-pub mod Writing
-pub mod Calls
-pub mod Drawing
-pub mod Naming
+mod Quotient
 mod Siting

@@ -1,14 +1,13 @@
 -- What a caller is told of a site, from what was found.
-use mathlib.Core.Path.{_≡_, refl, sym, ap, _∙_}
+use mathlib.Core.Path.{_≡_, refl, ap}
 use mathlib.Core.Bool.{Bool, true, false, _&&_}
 use Prim.Native.Nat.{ℕ, zero, suc, _+_, _*_, _≤_, _<_}
 use native.Mathlib.Nat.{mul-le-mul-right, mul-comm}
 use native.Mathlib.Omega.{arith}
 use lib.Dec.{ltb}
 use borrow.Author.Tests.{le-ltb, lt-ltb}
-use Rattle.strip.specs.Strips.{vertex}
-use Rattle.strip.specs.Listing.{Sides}
-use Rattle.strip.specs.Vertices.{sited}
+use Rattle.strip.specs.Vertices.{vertex, sited}
+use Rattle.strip.specs.Sides.{Sides}
 use Rattle.strip.specs.declared.strip.Strip.{Strip}
 use Rattle.strip.specs.declared.vertices.Sited.the-variants.{Vertex, Outside, Refused}
 

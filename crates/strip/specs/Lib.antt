@@ -1,11 +1,4 @@
 pub mod Tests
-pub mod Strips
-pub mod Listing
-pub mod Diluted
-pub mod Sites
-pub mod Reach
-pub mod EdgeLaws
-pub mod WindowLaw
-pub mod Spelling
-pub mod Names
+pub mod Sides
 pub mod Vertices
+pub mod Requests

@@ -1,19 +1,11 @@
-// Strips of a square, a triangular and a honeycomb lattice: their edges, their window and their dilution.
-mod dilute;
-mod edges;
-mod raw;
-mod reach;
+// Strips: their sides, which calls refuse, their boundary and their vertices.
 mod refuse;
-mod rules;
 mod strip;
 mod vertices;
 
-pub use dilute::diluted;
-pub use raw::raw_edges;
-pub use reach::window;
 pub use refuse::bad_sides;
-pub use strip::Kind;
-pub use strip::Parsed;
+pub use refuse::odd_cylinder;
 pub use strip::Strip;
-pub use strip::Word;
+pub use strip::n;
+pub use strip::vid;
 pub use vertices::Sited;

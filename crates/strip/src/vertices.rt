@@ -4,7 +4,7 @@ ghost use mathlib.Core.Bool.{false};
 ghost use Prim.Native.Nat.{_*_};
 ghost use Rattle.checks.specs.Answers.{answered};
 ghost use Rattle.checks.specs.StripRequest.{stripRefusal, ofSides};
-ghost use Rattle.strip.specs.Listing.{stripRequest};
+ghost use Rattle.strip.specs.Requests.{stripRequest};
 ghost use Rattle.strip.specs.Vertices.{sited};
 use crate::refuse::bad_sides;
 use crate::strip::Strip;

@@ -1,8 +1,8 @@
--- What the answer holds, taken apart, for the strip that the numbers name.
-use Rattle.strip.specs.Strips.{edges, unitMagnitudes}
-use Rattle.strip.specs.Listing.{rawRefusal}
-use Rattle.copperhook.specs.Strips.{stripNumbered}
-use Rattle.copperhook.proofs.Told.{edges-told, edges-refused}
+-- What the answer that was told says, for the strip that the numbers name.
+use Rattle.bonds.specs.Edges.{edges, unitMagnitudes}
+use Rattle.raw_edges.specs.RawEdges.{rawRefusal}
+use Rattle.numbered.specs.Kinds.{stripNumbered}
+use Rattle.copperhook.proofs.Told.{edges-told}
 use borrow.Author.Needs.{needs}
 use Rattle.copperhook.proofs.edges.copperhook_raw_edges.Statement.{statement}
 use Rattle.copperhook.proofs.edges.copperhook_raw_edges.Tie as tie
@@ -13,11 +13,8 @@ strip-numbered-requires c κs = search needs
 raw-edges-requires : tie.Need-raw-edges-requires
 raw-edges-requires c κs = search needs
 
-enum-known-answer : tie.Need-enum-known-answer
-enum-known-answer c = search needs
-
-enum-known-answer-2 : tie.Need-enum-known-answer-2
-enum-known-answer-2 c = search needs
+tell-number-requires : tie.Need-tell-number-requires
+tell-number-requires c κs = search needs
 
 same-length : tie.Need-same-length
 same-length c = search needs
@@ -30,28 +27,11 @@ same-length-3 c = search needs
 
 returns : tie.Need-returns
 returns c =
-    let a = c .before .before .before .before .before .before .before .before .before .before .before .before .before .before .before .before .before .args in
+    let a = c .before .before .before .before .before .before .before .before .before .before .before .before .before .before .before .before .args in
     let s = stripNumbered (a .kind) (a .w) (a .l) (a .periodic) in
-    let n = c .before .before .before .before .before .before .before .before .before .before .before .before .before .strip-numbered .ensures in
-    let left = c .before .before .before .before .before .before .before .before .before .raw-edges .ensures in
-    edges-told (rawRefusal s (a .early .now) (a .late .now) (a .mag .now)) s (unitMagnitudes (edges s)) (a .early .now) (a .late .now) (a .mag .now) (rw n at (left .1 .0)) (rw n at (left .1 .1 .0)) (rw n at (left .1 .1 .1)) _ (c .before .answer .given .1) (rw n at (left .0))
-
-same-length-4 : tie.Need-same-length-4
-same-length-4 c = search needs
-
-same-length-5 : tie.Need-same-length-5
-same-length-5 c = search needs
-
-same-length-6 : tie.Need-same-length-6
-same-length-6 c = search needs
-
-returns-2 : tie.Need-returns-2
-returns-2 c =
-    let a = c .before .before .before .before .before .before .before .before .before .before .before .before .before .before .before .before .before .args in
-    let s = stripNumbered (a .kind) (a .w) (a .l) (a .periodic) in
-    let n = c .before .before .before .before .before .before .before .before .before .before .before .before .before .strip-numbered .ensures in
-    let left = c .before .before .before .before .before .before .before .before .before .raw-edges .ensures in
-    edges-refused (rawRefusal s (a .early .now) (a .late .now) (a .mag .now)) s (unitMagnitudes (edges s)) (a .early .now) (a .late .now) (a .mag .now) (rw n at (left .1 .0)) (rw n at (left .1 .1 .0)) (rw n at (left .1 .1 .1)) _ (c .before .answer2 .given .1) (rw n at (left .0))
+    let n = c .before .before .before .before .before .before .before .before .before .before .before .before .strip-numbered .ensures in
+    let left = c .before .before .before .before .before .before .before .before .raw-edges .ensures in
+    edges-told (rawRefusal s (a .early .now) (a .late .now) (a .mag .now)) s (unitMagnitudes (edges s)) (a .early .now) (a .late .now) (a .mag .now) (rw n at (left .1 .0)) (rw n at (left .1 .1 .0)) (rw n at (left .1 .1 .1)) (rw n at (left .0)) (c .tell-number .ensures)
 
 pub copperhook-raw-edges-spec : {M : Type 1} → statement M
 copperhook-raw-edges-spec =
@@ -59,13 +39,8 @@ copperhook-raw-edges-spec =
     (tie.spec
     strip-numbered-requires
     raw-edges-requires
-    enum-known-answer
-    enum-known-answer-2
+    tell-number-requires
     same-length
     same-length-2
     same-length-3
-    returns
-    same-length-4
-    same-length-5
-    same-length-6
-    returns-2)
+    returns)

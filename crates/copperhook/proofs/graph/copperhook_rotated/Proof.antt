@@ -1,5 +1,5 @@
--- What the answer holds, taken apart.
-use Rattle.copperhook.proofs.Told.{kept-told, kept-refused}
+-- What the answer that was told says.
+use Rattle.copperhook.proofs.Told.{kept-told}
 use borrow.Author.Needs.{needs}
 use Rattle.copperhook.proofs.graph.copperhook_rotated.Statement.{statement}
 use Rattle.copperhook.proofs.graph.copperhook_rotated.Tie as tie
@@ -7,11 +7,8 @@ use Rattle.copperhook.proofs.graph.copperhook_rotated.Tie as tie
 rotated-requires : tie.Need-rotated-requires
 rotated-requires c κs = search needs
 
-enum-known-answer : tie.Need-enum-known-answer
-enum-known-answer c = search needs
-
-enum-known-answer-2 : tie.Need-enum-known-answer-2
-enum-known-answer-2 c = search needs
+tell-graph-requires : tie.Need-tell-graph-requires
+tell-graph-requires c κs = search needs
 
 same-length : tie.Need-same-length
 same-length c = search needs
@@ -23,32 +20,9 @@ same-length-3 : tie.Need-same-length-3
 same-length-3 c = search needs
 
 returns : tie.Need-returns
-returns c = kept-told _ _ _ _ _ (c .before .answer .given .1) (c .before .before .before .before .before .before .before .before .before .rotated .ensures)
-
-same-length-4 : tie.Need-same-length-4
-same-length-4 c = search needs
-
-same-length-5 : tie.Need-same-length-5
-same-length-5 c = search needs
-
-same-length-6 : tie.Need-same-length-6
-same-length-6 c = search needs
-
-returns-2 : tie.Need-returns-2
-returns-2 c = kept-refused _ _ _ _ _ (c .before .answer2 .given .1) (c .before .before .before .before .before .before .before .before .before .rotated .ensures)
+returns c = kept-told _ _ _ _ (c .before .before .before .before .before .before .before .before .before .rotated .ensures) (c .tell-graph .ensures)
 
 pub copperhook-rotated-spec : {M : Type 1} → statement M
 copperhook-rotated-spec =
     tie.close
-    (tie.spec
-    rotated-requires
-    enum-known-answer
-    enum-known-answer-2
-    same-length
-    same-length-2
-    same-length-3
-    returns
-    same-length-4
-    same-length-5
-    same-length-6
-    returns-2)
+    (tie.spec rotated-requires tell-graph-requires same-length same-length-2 same-length-3 returns)

@@ -50,11 +50,11 @@ use Rattle.records.proofs.gather.Symbol as gather-def
 use Rattle.records.proofs.gather.Symbol.{name as #records·gather}
 use Rattle.records.proofs.gather.Met as gather-thm
 use Rattle.glass.specs.Correlations.{Correlated}
-use Rattle.copperhook.specs.Manners.{mannerNumbered}
-use Rattle.copperhook.proofs.pair_records.correlations_between as between
-use Rattle.copperhook.proofs.pair_records.correlations_between.Symbol as between-def
-use Rattle.copperhook.proofs.pair_records.correlations_between.Symbol.{name as #copperhook·between}
-use Rattle.copperhook.proofs.pair_records.correlations_between.Met as between-thm
+use Rattle.numbered.specs.Manners.{mannerNumbered}
+use Rattle.between.proofs.correlations_between as between
+use Rattle.between.proofs.correlations_between.Symbol as between-def
+use Rattle.between.proofs.correlations_between.Symbol.{name as #between·between}
+use Rattle.between.proofs.correlations_between.Met as between-thm
 use Rattle.copperhook.proofs.pair_records.copperhook_correlations_of.Key.{name as #copperhook·of}
 use Rattle.copperhook.proofs.pair_records.copperhook_correlations_of as f
 use Rattle.copperhook.proofs.pair_records.copperhook_correlations_of.Statement as stated
@@ -236,7 +236,7 @@ module _ {M : Type 1} (𝓤 : URA M) (H : Heap 𝓤) (A : Atoms 𝓤) (W : Given
       frame ! $ done !
 
   module _ (C : Calls 𝓤 H) (Λ : Loops 𝓤 H) (fm : FmC 𝓤 H (W .laws) C) (known-gather : Triple 𝓤 (C #records·gather) (Gather 𝓤 H A mem run))
-      (known-between : Triple 𝓤 (C #copperhook·between) (Between 𝓤 H A mem run))
+      (known-between : Triple 𝓤 (C #between·between) (Between 𝓤 H A mem run))
       (gn : n < 2 ^ 64) (gf : floor < 2 ^ 64) (gm : manner < 2 ^ 64) (ra : Room usize (length (now a))) (rb : Room usize (length (now b)))
       (rm : Room f64 (length (now m))) (rp : Room P.the-row (length (now pairs)))
       (rf : Room f64 (length (now factors))) (rr : Room f64 (length (now results))) (rw′ : Room f64 (length (now work))) where
@@ -319,7 +319,7 @@ module _ {M : Type 1} (𝓤 : URA M) (H : Heap 𝓤) (A : Atoms 𝓤) (W : Given
 
 module _ {M : Type 1} (𝓤 : URA M) (H : Heap 𝓤) (A : Atoms 𝓤) (W : Given 𝓤 H A) (mem : Memory → SProp 𝓤) (run : Routine → Fun 𝓤) (𝓣 : Tables 𝓤 H)
     (known-gather : Triple 𝓤 (𝓣 .C #records·gather) (Gather 𝓤 H A mem run))
-    (known-between : Triple 𝓤 (𝓣 .C #copperhook·between) (Between 𝓤 H A mem run)) where
+    (known-between : Triple 𝓤 (𝓣 .C #between·between) (Between 𝓤 H A mem run)) where
   abbrev body : Fun 𝓤
   body = WpFn 𝓤 H (𝓣 .C) (𝓣 .Λ) code.function
 
@@ -400,4 +400,4 @@ copperhook-correlations-of-spec 𝓤 H 𝓜 𝓖 𝓡 =
     (meets 𝓤 H (𝓖 .A) (givenOf 𝓤 H 𝓜 𝓖) (𝓜 .mem) (𝓡 .run) (tablesOf 𝓤 H 𝓜 (tables 𝓤 H 𝓜 𝓡 code.env))
     (cited 𝓤 H (Gather 𝓤 H (𝓖 .A) (𝓜 .mem) (𝓡 .run)) 𝓜 𝓡 code.env #records·gather gather-def.routine code.calls-records·gather
     (gather-thm.met 𝓤 H 𝓜 𝓖 𝓡))
-    (cited 𝓤 H (Between 𝓤 H (𝓖 .A) (𝓜 .mem) (𝓡 .run)) 𝓜 𝓡 code.env #copperhook·between between-def.routine code.calls-copperhook·pair-records·correlations-between (between-thm.met 𝓤 H 𝓜 𝓖 𝓡)))
+    (cited 𝓤 H (Between 𝓤 H (𝓖 .A) (𝓜 .mem) (𝓡 .run)) 𝓜 𝓡 code.env #between·between between-def.routine code.calls-between·correlations-between (between-thm.met 𝓤 H 𝓜 𝓖 𝓡)))

@@ -1,5 +1,5 @@
--- What the answer holds, taken apart.
-use Rattle.copperhook.proofs.Told.{number-told, refused-told}
+-- What the answer that was told says.
+use Rattle.told.specs.Numbers.{told}
 use borrow.Author.Needs.{needs}
 use Rattle.copperhook.proofs.room.copperhook_room.Statement.{statement}
 use Rattle.copperhook.proofs.room.copperhook_room.Tie as tie
@@ -7,18 +7,11 @@ use Rattle.copperhook.proofs.room.copperhook_room.Tie as tie
 room-requires : tie.Need-room-requires
 room-requires c κs = search needs
 
-enum-known-answer : tie.Need-enum-known-answer
-enum-known-answer c = search needs
-
-enum-known-answer-2 : tie.Need-enum-known-answer-2
-enum-known-answer-2 c = search needs
+tell-number-requires : tie.Need-tell-number-requires
+tell-number-requires c κs = search needs
 
 returns : tie.Need-returns
-returns c = number-told _ _ _ (c .before .answer .given .1) (c .before .before .before .room .ensures)
-
-returns-2 : tie.Need-returns-2
-returns-2 c = refused-told _ _ _ (c .before .answer2 .given .1) (c .before .before .before .room .ensures) _ _
+returns c = told _ _ (c .before .before .room .ensures) (c .tell-number .ensures)
 
 pub copperhook-room-spec : {M : Type 1} → statement M
-copperhook-room-spec =
-    tie.close (tie.spec room-requires enum-known-answer enum-known-answer-2 returns returns-2)
+copperhook-room-spec = tie.close (tie.spec room-requires tell-number-requires returns)

@@ -1,5 +1,5 @@
 -- The checks in order; then the pairs are written.
-use Rattle.strip.proofs.Calls.{sides-passed}
+use Rattle.strip.specs.Sides.{sides-passed}
 use Rattle.pairset.proofs.Calls.{pairs-15, pairs-12, pairs-0, pairs-room}
 use Rattle.checks.specs.declared.Answer.the-variants.{Number}
 use Rattle.checks.specs.First.{told}

@@ -1,7 +1,7 @@
 -- The candidate is taken where its test holds; its vertices then are small.
 use native.Mathlib.Omega.{arith}
 use mathlib.Core.Path.{refl}
-use Rattle.strip.specs.Sites.{sides-narrow, sides-short}
+use Rattle.strip.specs.Sides.{sides-narrow, sides-short}
 use Rattle.pairset.proofs.Pairing.{taken-low, pick-taken, pick-omitted}
 use Rattle.pairset.proofs.standard.picked.Statement.{statement}
 use Rattle.pairset.proofs.standard.picked.Tie as tie

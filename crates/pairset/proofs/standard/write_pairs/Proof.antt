@@ -1,9 +1,8 @@
 -- The pairs among the first i candidates stand at the fronts of the buffers.
-use Rattle.pairset.proofs.Pairing.{pairs-more, shown-at}
+use Rattle.pairset.proofs.Pairing.{pairs-more, shown-at, no-ends, no-pairs-written, all-pairs, lengths, next-room}
 use Prim.Native.Nat.{_-_, _≤_}
 use Rattle.pairset.specs.PairSet.{pairsBelow}
 use Rattle.pairset.specs.PairListing.{Ends, PairsWritten}
-use Rattle.pairset.proofs.Pairing.{no-ends, no-pairs-written, all-pairs, lengths, next-room}
 use native.Mathlib.Omega.{arith}
 use Rattle.pairset.proofs.standard.write_pairs.Statement.{statement}
 use Rattle.pairset.proofs.standard.write_pairs.Tie as tie

@@ -1,6 +1,6 @@
 -- The product is compared by a quotient.
 use native.Mathlib.Omega.{arith}
-use Rattle.strip.proofs.Calls.{quotient-test}
+use Rattle.strip.proofs.Quotient.{quotient-test}
 use borrow.Author.Tests.{eq-eqb, ne-eqb}
 use borrow.Author.Needs.{needs}
 use Rattle.strip.proofs.refuse.bad_sides.Statement.{statement}

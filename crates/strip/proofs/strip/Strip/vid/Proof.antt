@@ -1,7 +1,7 @@
 use native.Mathlib.Omega.{arith}
 use mathlib.Core.Path.{refl}
 use Rattle.checks.specs.First.{here, past, told}
-use Rattle.strip.proofs.Calls.{sides-passed}
+use Rattle.strip.specs.Sides.{sides-passed}
 use Rattle.strip.proofs.Siting.{site-refused, beyond, beside, within, small}
 use borrow.Author.Needs.{needs}
 use Rattle.strip.proofs.strip.Strip.vid.Statement.{statement}

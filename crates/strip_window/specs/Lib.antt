@@ -1,0 +1,4 @@
+pub mod Window
+pub mod Reach
+pub mod EdgeLaws
+pub mod WindowLaw

@@ -1,0 +1,5 @@
+pub mod Numbers
+pub mod Graphs
+pub mod Distances
+pub mod Vertices
+pub mod Estimated
