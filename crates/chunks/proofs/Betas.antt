@@ -17,8 +17,9 @@ use Rattle.transfer.specs.Rounded.{ieee}
 use Rattle.transfer.specs.Sweep as S
 use Rattle.transfer.specs.Totals.{square, fourth}
 use Rattle.answers.specs.Sound.{unsound, Outcome}
+use Rattle.powers.specs.Added.{addedAt, addedTo}
 use Rattle.chunks.specs.Passing.{one-passed, one-failed}
-use Rattle.chunks.specs.Powers.{addedAt, addedTo, pairAt, correlationAt, pair-numbered, AddedPowers}
+use Rattle.chunks.specs.Powers.{pairAt, correlationAt, pair-numbered, AddedPowers}
 use Rattle.chunks.specs.Lists.{put-all}
 use Rattle.chunks.specs.SoFar.{partly, SoFar}
 

@@ -1,4 +1,3 @@
--- Laws that the proofs share.
-mod Adding
-mod Betas
-mod Staging
+-- Laws that the proofs share, here and where every correlation is stored.
+pub mod Betas
+pub mod Staging

@@ -12,8 +12,8 @@ use Rattle.vector.specs.Tabulate.{tabulate, tabulate-at, tabulate-ext}
 use Rattle.transfer.specs.Arithmetic.{sum}
 use Rattle.transfer.specs.Rounded.{ieee}
 use Rattle.transfer.specs.Totals.{square, fourth}
+use Rattle.powers.specs.Added.{addedTo}
 use Rattle.chunks.specs.Passing.{one-passed, one-failed}
-use Rattle.chunks.specs.Powers.{addedTo}
 use Rattle.chunks.specs.Sums.{sumsOf, sums-add, sums-none, Sums}
 
 -- Lists of n sums each: those of a chunk, and the totals.

@@ -8,4 +8,3 @@ pub mod Sums
 pub mod Chunked
 pub mod Lists
 pub mod Nothing
-pub mod Stored

@@ -1,28 +1,19 @@
--- Squares and fourth powers added to two lists.
+-- Correlations by number, and their squares and fourth powers added to two lists.
 use mathlib.Core.Path.{_≡_, ap, _∙_}
 use mathlib.Core.Bool.{Bool, true, not}
 use mathlib.Core.List.{List}
 use Prim.Native.Nat.{ℕ, _+_, _*_, _/_, _%_, _<_}
 use native.Mathlib.Nat.{add-zero, mul-add-div-right, mul-add-mod-self-right, mod-eq-of-lt, div-eq-of-lt}
 use native.Mathlib.Omega.{arith}
-use lib.Ieee.{Float, nan, binary64, add}
+use lib.Ieee.{Float}
 use lib.ListN.{length, getD}
-use Rattle.vector.specs.Tabulate.{tabulate}
-use Rattle.vector.specs.Part.{put}
 use Rattle.transfer.specs.Job.{Job}
 use Rattle.transfer.specs.Rounded.{ieee}
 use Rattle.transfer.specs.Sweep as S
 use Rattle.transfer.specs.Totals.{square, fourth}
 use Rattle.vertex.specs.Ready.{Backward}
 use Rattle.answers.specs.Sound.{unsound}
-
--- The n numbers of a list from `at` on, each with a term added.
-abbrev pub addedAt : List Float → ℕ → ℕ → (ℕ → Float) → List Float
-addedAt l at n term = put l at (tabulate (λ i. add binary64 (getD l (at + i) nan) (term i)) n)
-
--- All numbers of a list, each with a term added.
-abbrev pub addedTo : List Float → ℕ → (ℕ → Float) → List Float
-addedTo l n term = tabulate (λ k. add binary64 (getD l k nan) (term k)) n
+use Rattle.powers.specs.Added.{addedTo}
 
 -- The correlation of pair p.
 abbrev pub pairAt : Job Float → List ℕ → List ℕ → ℕ → Float

@@ -12,8 +12,9 @@ use Rattle.vector.specs.Tabulate.{tabulate, tabulate-length, tabulate-at, tabul
 use Rattle.transfer.specs.Arithmetic.{sum}
 use Rattle.transfer.specs.Rounded.{ieee}
 use Rattle.transfer.specs.Totals.{square, fourth}
+use Rattle.powers.specs.Added.{addedTo}
 use Rattle.chunks.specs.Passing.{one-passed, one-failed}
-use Rattle.chunks.specs.Powers.{addedTo, AddedPowers}
+use Rattle.chunks.specs.Powers.{AddedPowers}
 
 -- n sums of the first j terms that a rule gives, from zero.
 abbrev pub sumsOf : (ℕ → ℕ → Float) → (j n : ℕ) → List Float

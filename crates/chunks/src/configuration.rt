@@ -9,17 +9,18 @@ ghost use Rattle.transfer.specs.Job.{Job};
 ghost use Rattle.vertex.specs.Ready.{PlanOf, Backward};
 ghost use Rattle.sweeps.specs.Begun.{Stands};
 ghost use Rattle.answers.specs.Sound.{unsound, Outcome};
-ghost use Rattle.chunks.specs.Signed.{signedFactors, PlanOfAll};
+ghost use Rattle.signed.specs.Signed.{signedFactors};
+ghost use Rattle.chunks.specs.Signed.{PlanOfAll};
 ghost use Rattle.chunks.specs.Powers.{correlationAt, AddedPowers, AddedBeta};
 ghost use Rattle.chunks.specs.Stage.{Stage, Lent};
-use crate::powers::add_powers;
-use crate::signed::lay_signed;
 use answers::answer_pairs;
+use powers::add_powers;
+use signed::lay_signed;
 use sweeps::sweep;
 
 // The correlations at beta b, with these signs. Answers whether every pair's Z is finite and above zero. The kept backward vectors from
 // vertex `changed` on stand already; none does where `changed` is the last vertex or more.
-pub(crate) fn answer_signed(
+pub fn answer_signed(
     room: &mut [f64],
     plan: &[usize],
     n: usize,

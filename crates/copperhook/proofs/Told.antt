@@ -82,23 +82,14 @@ pairs-told k ps us vs labels u v l q t =
 pub kept-told : (k n floor : ℕ) (es : List Edges.Kept) {a : Made} {r : ℕ} {early early′ late late′ : List ℕ} {mag mag′ : List Float} {window window′ count count′ : ℕ}
     → Set k n floor es a early early′ late late′ mag mag′ → Graphs.Tells a r window window′ count count′
     → Listed k floor es r early early′ late late′ mag mag′ window window′ count count′
-kept-told zero n floor es {window = window} {count = count} q t =
+kept-told k n floor es {window = window} {count = count} q t =
     record {
-      answer = t .number ∙ ap Graphs.numberOf (q .answer);
+      answer = t .number ∙ ap Graphs.numberOf (q .answer) ∙ Graphs.number-made k _;
       earlies = q .earlies;
       lates = q .lates;
       mags = q .mags;
-      windowed = t .windowed ∙ ap (λ z. Graphs.windowIn z window) (q .answer);
-      counted = t .counted ∙ ap (λ z. Graphs.edgesIn z count) (q .answer);
-    }
-kept-told (suc k) n floor es {window = window} {count = count} q t =
-    record {
-      answer = t .number ∙ ap Graphs.numberOf (q .answer);
-      earlies = q .earlies;
-      lates = q .lates;
-      mags = q .mags;
-      windowed = t .windowed ∙ ap (λ z. Graphs.windowIn z window) (q .answer);
-      counted = t .counted ∙ ap (λ z. Graphs.edgesIn z count) (q .answer);
+      windowed = t .windowed ∙ ap (λ z. Graphs.windowIn z window) (q .answer) ∙ Graphs.window-made k _ window;
+      counted = t .counted ∙ ap (λ z. Graphs.edgesIn z count) (q .answer) ∙ Graphs.edges-made k _ count;
     }
 
 -- ---- the distance of two vertices

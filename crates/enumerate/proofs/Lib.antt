@@ -1,4 +1,3 @@
 -- Laws that the proofs share.
-mod Blocks
 mod Standing
 mod Ranges

@@ -14,8 +14,8 @@ use Rattle.transfer.specs.Configuration.{enumeratedMinus, lentAt}
 use Rattle.vertex.specs.Ready.{Ready, PlanOf, Backward}
 use Rattle.sweeps.specs.Begun.{Stands}
 use Rattle.sweeps.specs.Reuse.{reads-map, backward-stands}
-use Rattle.chunks.specs.Signed.{signedFactors}
-use Rattle.enumerate.specs.Settled.{Settled, EdgesIn, StandingFrom}
+use Rattle.signed.specs.Signed.{signedFactors}
+use Rattle.standing.specs.Settled.{Settled, EdgesIn, StandingFrom}
 use Rattle.enumerate.specs.Configurations.{signsOf, PlanOfBeta}
 
 -- the plan's edges can be read

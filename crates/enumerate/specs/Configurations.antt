@@ -14,9 +14,9 @@ use Rattle.transfer.specs.Rounded.{ieee}
 use Rattle.transfer.specs.Totals.{square, fourth}
 use Rattle.vertex.specs.Ready.{PlanOf, Backward}
 use Rattle.answers.specs.Sound.{unsound}
-use Rattle.chunks.specs.Signed.{signedFactors, PlanOfAll}
+use Rattle.signed.specs.Signed.{signedFactors}
+use Rattle.chunks.specs.Signed.{PlanOfAll}
 use Rattle.chunks.specs.Powers.{pairAt, correlationAt}
-use Rattle.chunks.specs.Stored.{Stored}
 use Rattle.chunks.specs.Sums.{Passed}
 
 -- Marks of the tree edges, a sign for each edge, few enough free edges, and numbers that fit.
@@ -68,14 +68,3 @@ pub record Ranging (plan us vs : List ℕ) (lent : List Float) (tree : List Bool
   pub fourthds : length fourths ≡ length fourths₀
   pub summed : (J : ℕ → ℕ → Job Float) → PlanOfEach J plan lent tree betas n w each
       → Summed (λ j i. unsound (J (first + j) i) us vs) (λ j. correlationAt (J (first + j)) us vs) size b (b * length us) squares fourths
-
--- Before configuration x, where each is stored.
-pub record Keeping (plan us vs : List ℕ) (lent : List Float) (tree : List Bool) (betas n w : ℕ) (each : Bool) (x all : ℕ)
-    (room₀ room : List Float) (signs₀ signs : List Bool) (c₀ c stored₀ stored : List Float) : Type 0 where
-  pub below : x ≤ all
-  pub rooms : length room ≡ length room₀
-  pub marks : length signs ≡ length signs₀
-  pub results : length c ≡ length c₀
-  pub storeds : length stored ≡ length stored₀
-  pub so-far : (J : ℕ → ℕ → Job Float) → PlanOfEach J plan lent tree betas n w each → (some (λ y. some (λ b. unsound (J y b) us vs) betas) x ≡ false)
-      × Stored (λ y. correlationAt (J y) us vs) all (betas * length us) x 0 stored

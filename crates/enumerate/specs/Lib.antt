@@ -1,4 +1,2 @@
 -- The definitions that the contracts cite.
-pub mod Settled
 pub mod Configurations
-pub mod Totals

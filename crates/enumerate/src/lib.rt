@@ -1,9 +1,141 @@
-// An enumeration: chunks of configurations, each summed from zero, then added in order; or every correlation stored.
-mod changed;
-mod chunk;
-mod store;
-mod totals;
+// One chunk of configurations.
+ghost use mathlib.Core.Path.{_≡_};
+ghost use mathlib.Core.Bool.{true, not};
+ghost use Prim.Native.Nat.{ℕ, _+_, _*_};
+ghost use lib.Ieee.{Float};
+ghost use lib.ListN.{length};
+ghost use Rattle.vector.specs.Search.{some};
+ghost use Rattle.transfer.specs.Job.{Job};
+ghost use Rattle.answers.specs.Sound.{unsound};
+ghost use Rattle.chunks.specs.Powers.{pairAt, correlationAt};
+ghost use Rattle.chunks.specs.Stage.{Stage, Lent};
+ghost use Rattle.chunks.specs.Sums.{Sums};
+ghost use Rattle.enumerate.specs.Configurations.{Enumerates, PlanOfBeta, PlanOfEach};
+use chunks::add_beta;
+use signs::enumerated_signs;
+use standing::standing_from;
+use sweep::fill;
 
-pub use chunk::enumerated_chunk;
-pub use store::stored_correlations;
-pub use totals::enumerated_totals;
+// The sums of `size` configurations from number `first` on at beta b, a number a pair, from zero. Answers whether every Z was finite and
+// above zero; at the first that is not it stops. Between configurations few signs change, and most backward vectors stand.
+fn enumerated_run(
+    room: &mut [f64],
+    plan: &[usize],
+    n: usize,
+    w: usize,
+    scales: usize,
+    each: bool,
+    us: &[usize],
+    vs: &[usize],
+    order: &[usize],
+    lent: &[f64],
+    b: usize,
+    tree: &[bool],
+    signs: &mut [bool],
+    first: usize,
+    size: usize,
+    c: &mut [f64],
+    squares: &mut [f64],
+    fourths: &mut [f64],
+) -> bool
+    requires { ⌜ Stage (now plan) (now us) (now vs) (now order) (length (now tree)) n w scales (length (now room)) (length (now c))
+        × Lent (length (now lent)) (length (now tree)) (b + 1) × Enumerates (now tree) (length (now signs)) first size
+        × (length (now squares) ≡ length (now us)) × (length (now fourths) ≡ length (now us)) ⌝ }
+    ensures { λ r. ⌜ ((J : ℕ → Job Float) → PlanOfBeta J (now (plan .entry)) (now (lent .entry)) (now (tree .entry)) b n w each
+        → (r ≡ not (some (λ j. unsound (J (first + j)) (now (us .entry)) (now (vs .entry))) size))
+        × (r ≡ true → Sums (λ j. pairAt (J (first + j)) (now (us .entry)) (now (vs .entry))) size (length (now (us .entry)))
+        (now (squares .exit)) (now (fourths .exit)))) ⌝ }
+{
+    let sums = squares.len();
+    fill(squares, 0, sums, 0.0);
+    fill(fourths, 0, sums, 0.0);
+    let mut j = 0usize;
+    while j < size {
+        let last = enumerated_signs(signs, tree, first + j);
+        let changed = standing_from(plan, n, tree, last, j);
+        if !add_beta(
+            room,
+            plan,
+            n,
+            w,
+            scales,
+            each,
+            us,
+            vs,
+            order,
+            lent,
+            b,
+            signs,
+            changed,
+            c,
+            squares,
+            fourths,
+        ) {
+            return false;
+        }
+        j += 1;
+    }
+    true
+}
+
+// The sums of `size` configurations from number `first` on, from zero, beta after beta. Answers whether every Z was finite and above zero;
+// at the first that is not it stops.
+pub fn enumerated_chunk(
+    room: &mut [f64],
+    plan: &[usize],
+    n: usize,
+    w: usize,
+    scales: usize,
+    each: bool,
+    us: &[usize],
+    vs: &[usize],
+    order: &[usize],
+    lent: &[f64],
+    betas: usize,
+    tree: &[bool],
+    signs: &mut [bool],
+    first: usize,
+    size: usize,
+    c: &mut [f64],
+    squares: &mut [f64],
+    fourths: &mut [f64],
+) -> bool
+    requires { ⌜ Stage (now plan) (now us) (now vs) (now order) (length (now tree)) n w scales (length (now room)) (length (now c))
+        × Lent (length (now lent)) (length (now tree)) betas × Enumerates (now tree) (length (now signs)) first size
+        × (length (now squares) ≡ betas * length (now us)) × (length (now fourths) ≡ betas * length (now us)) ⌝ }
+    ensures { λ r. ⌜ ((J : ℕ → ℕ → Job Float) → PlanOfEach J (now (plan .entry)) (now (lent .entry)) (now (tree .entry)) betas n w each
+        → (r ≡ not (some (λ j. some (λ b. unsound (J (first + j) b) (now (us .entry)) (now (vs .entry))) betas) size))
+        × (r ≡ true → Sums (λ j. correlationAt (J (first + j)) (now (us .entry)) (now (vs .entry))) size (betas * length (now (us .entry)))
+        (now (squares .exit)) (now (fourths .exit)))) ⌝ }
+{
+    let pairs = us.len();
+    let mut b = 0usize;
+    while b < betas {
+        let at = b * pairs;
+        let end = at + pairs;
+        if !enumerated_run(
+            room,
+            plan,
+            n,
+            w,
+            scales,
+            each,
+            us,
+            vs,
+            order,
+            lent,
+            b,
+            tree,
+            signs,
+            first,
+            size,
+            c,
+            &mut squares[at..end],
+            &mut fourths[at..end],
+        ) {
+            return false;
+        }
+        b += 1;
+    }
+    true
+}

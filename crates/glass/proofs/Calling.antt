@@ -24,9 +24,10 @@ use Rattle.kept.specs.Fronts.{front-early, front-late}
 use Rattle.refuse.specs.Checked.{ReadyJob}
 use Rattle.refuse.specs.Plannable.{edge-count, plannable}
 use Rattle.answers.specs.Sound.{unsound}
-use Rattle.glass.specs.Correlations.{mannerOf, jobGiven, zeros, settled, cleared, Correlated}
+use Rattle.planned.specs.Zeros.{zeros}
+use Rattle.passed.specs.Passed.{Passed, Finished}
+use Rattle.glass.specs.Correlations.{mannerOf, jobGiven, settled, cleared, Correlated}
 use Rattle.glass.specs.Settling.{settled-not, cleared-not, not-14}
-use Rattle.glass.specs.Passed.{Passed, Finished}
 use Rattle.glass.specs.declared.Manner.{Manner}
 
 module _ (n floor : ℕ) (a b : List ℕ) (m : List Float) (us vs : List ℕ) (factors : List Float) (manner : Manner) (results work : List Float) where

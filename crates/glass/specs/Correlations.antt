@@ -5,7 +5,7 @@ use mathlib.Core.List.{List}
 use Prim.Native.Nat.{ℕ}
 use lib.Dec.{eqb}
 use lib.Ieee.{Float, nan}
-use lib.ListN.{length, replicate}
+use lib.ListN.{length}
 use Rattle.vector.specs.Front.{over}
 use Rattle.transfer.specs.Job as Job
 use Rattle.transfer.specs.Job.{Job, block, perElement}
@@ -17,6 +17,7 @@ use Rattle.checks.specs.Edges.{kept, earlyEnds, lateEnds, windowFrom}
 use Rattle.checks.specs.Request.{correlationRequest}
 use Rattle.checks.specs.Refusal.{refusal, ofCorrelations}
 use Rattle.answers.specs.Sound.{unsound}
+use Rattle.planned.specs.Zeros.{zeros}
 use Rattle.glass.specs.declared.Manner.{Manner}
 use Rattle.glass.specs.declared.Manner.the-variants.{Block, PerElement}
 
@@ -29,10 +30,6 @@ mannerOf PerElement = perElement
 abbrev pub jobGiven : (n floor : ℕ) → (a b : List ℕ) → (m factors : List Float) → Manner → Job Float
 jobGiven n floor a b m factors manner =
     jobOf nan n (windowFrom floor a b m) (earlyEnds (kept a b m)) (lateEnds (kept a b m)) factors (mannerOf manner)
-
--- n times +0.0
-abbrev pub zeros : ℕ → List Float
-zeros n = replicate n (ieee .𝟘)
 
 -- What a call leaves in the results: the answers where it is accepted, +0.0 throughout where it is refused for 14, else what was there.
 unfoldable pub settled : ℕ → List Float → List Float → List Float

@@ -1,4 +1,3 @@
 -- The definitions that the contracts cite.
 pub mod Correlations
 pub mod Settling
-pub mod Passed

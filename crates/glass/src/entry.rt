@@ -1,9 +1,9 @@
 // The pair correlations of one configuration, for callers.
 ghost use Rattle.glass.specs.Correlations.{Correlated};
 use crate::Manner;
-use crate::job::answer_job;
 use crate::rescaling::is_each;
 use lent::check_lists;
+use passed::answer_job;
 use refuse::check_job;
 
 // Writes the correlation of each pair to `results`. The edges come in three lists of ends and magnitudes, the pairs in two lists of ends;

@@ -1,12 +1,9 @@
 // The pair correlations of one configuration: a job is checked, planned, swept and answered.
 mod entry;
-mod job;
 mod rescaling;
-mod run;
 
 pub use entry::correlations;
 pub use rescaling::is_each;
-pub use run::clear;
 
 // How often a sweep is rescaled: every fourth step, or every step.
 pub enum Manner {

@@ -14,10 +14,12 @@ use Rattle.vector.specs.Front.{over, over-more, over-length}
 use Rattle.strip.specs.Tests.{and-true}
 use Rattle.strip.specs.Vertices.{vertex}
 use Rattle.strip.specs.Sides.{Sides}
-use Rattle.pairset.specs.PairSet.{Pair, candidateAt, taken, pairAt, pairsBelow, firsts, seconds, labelBytes}
-use Rattle.pairset.specs.PairListing.{LabelFits, shown, Counted, Put, PairRoom, PairsWritten, Ends, PairPlaced}
-use Rattle.pairset.specs.declared.candidates.Seats.{Seats}
-use Rattle.pairset.specs.declared.candidates.Label.{Label}
+use Rattle.seats.specs.Candidates.{candidateAt}
+use Rattle.seats.specs.declared.Seats.{Seats}
+use Rattle.labels.specs.Labels.{LabelFits}
+use Rattle.labels.specs.declared.Label.{Label}
+use Rattle.pairset.specs.PairSet.{Pair, taken, pairAt, pairsBelow, firsts, seconds, labelBytes}
+use Rattle.pairset.specs.PairListing.{shown, Counted, Put, PairRoom, PairsWritten, Ends, PairPlaced}
 use Rattle.pairset.specs.declared.standard.Pick.{Pick}
 use Rattle.pairset.specs.declared.standard.Pick.the-variants as Pick
 use Rattle.pairset.specs.declared.standard.Filled.{Filled}

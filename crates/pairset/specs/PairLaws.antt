@@ -4,7 +4,8 @@ use mathlib.Core.List.{[], _∷_}
 use Prim.Native.Nat.{ℕ, zero, suc, _≤_}
 use native.Mathlib.Omega.{arith}
 use lib.ListN.{length, length-append}
-use Rattle.pairset.specs.PairSet.{Pair, candidateAt, taken, pairOf, pairAt, pairsBelow, pairSet}
+use Rattle.seats.specs.Candidates.{candidateAt}
+use Rattle.pairset.specs.PairSet.{Pair, taken, pairOf, pairAt, pairsBelow, pairSet}
 use Rattle.strip.specs.declared.strip.Strip.{Strip}
 
 one-most : (t : Bool) (p : Pair) → length (cond t (p ∷ []) []) ≤ 1

@@ -5,15 +5,9 @@ use Prim.Native.Nat.{ℕ, _+_, _≤_}
 use lib.ListN.{length}
 use Rattle.vector.specs.Front.{over}
 use Rattle.pairset.specs.PairSet.{Pair, firsts, seconds, labelBytes}
-use Rattle.pairset.specs.declared.candidates.Label.{Label}
 use Rattle.pairset.specs.declared.standard.Pick.{Pick}
 use Rattle.pairset.specs.declared.standard.Pick.the-variants as Pick
 use Rattle.pairset.specs.declared.standard.Filled.{Filled}
-
--- a label's length is within its bytes
-pub record LabelFits (name : Label) : Type 0 where
-  pub short : name .len ≤ 16
-  pub held : name .len ≤ length (name .bytes)
 
 -- the pair that was picked, under its label
 abbrev pub shown : Pick → List ℕ → List Pair

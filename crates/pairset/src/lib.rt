@@ -1,5 +1,4 @@
 // The standard pair set of a strip, with its labels.
-mod candidates;
 mod standard;
 
 pub use standard::pairs;

@@ -1,4 +1,1 @@
--- Laws that the proofs share.
-mod Chunks
 mod Words
-mod Idling

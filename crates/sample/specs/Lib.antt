@@ -1,3 +1,1 @@
--- The definitions that the contracts cite.
 pub mod Samples
-pub mod Totals

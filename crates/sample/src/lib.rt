@@ -1,6 +1,79 @@
-// The totals of a sampling: chunks of samples, each summed from zero, then added in order.
-mod chunk;
-mod totals;
+// One chunk of samples.
+ghost use mathlib.Core.Path.{_≡_};
+ghost use mathlib.Core.Bool.{true, not};
+ghost use Prim.Native.Nat.{ℕ, _*_};
+ghost use lib.Ieee.{Float};
+ghost use lib.ListN.{length};
+ghost use Rattle.vector.specs.Search.{some};
+ghost use Rattle.transfer.specs.Job.{Job};
+ghost use Rattle.answers.specs.Sound.{unsound};
+ghost use Rattle.chunks.specs.Powers.{correlationAt};
+ghost use Rattle.chunks.specs.Stage.{Stage, Lent};
+ghost use Rattle.chunks.specs.Sums.{Sums};
+ghost use Rattle.sample.specs.Samples.{PlanOfSamples};
+use chunks::add_configuration;
+use rng::Rng;
+use signs::sampled_signs;
+use sweep::fill;
 
-pub use chunk::sampled_chunk;
-pub use totals::sampled_totals;
+// The sums of the samples of a chunk, from zero: chunk number c uses the stream of the seed and c. Answers whether every Z was finite and
+// above zero; at the first that is not it stops.
+pub fn sampled_chunk(
+    room: &mut [f64],
+    plan: &[usize],
+    n: usize,
+    w: usize,
+    scales: usize,
+    each: bool,
+    us: &[usize],
+    vs: &[usize],
+    order: &[usize],
+    lent: &[f64],
+    betas: usize,
+    seed: u64,
+    chunk: u64,
+    samples: usize,
+    signs: &mut [bool],
+    c: &mut [f64],
+    squares: &mut [f64],
+    fourths: &mut [f64],
+) -> bool
+    requires { ⌜ Stage (now plan) (now us) (now vs) (now order) (length (now signs)) n w scales (length (now room)) (length (now c))
+        × Lent (length (now lent)) (length (now signs)) betas
+        × (length (now squares) ≡ betas * length (now us)) × (length (now fourths) ≡ betas * length (now us)) ⌝ }
+    ensures { λ r. ⌜ ((J : ℕ → ℕ → Job Float)
+        → PlanOfSamples J (now (plan .entry)) (now (lent .entry)) (length (now (signs .entry))) seed chunk betas n w each
+        → (r ≡ not (some (λ j. some (λ b. unsound (J j b) (now (us .entry)) (now (vs .entry))) betas) samples))
+        × (r ≡ true → Sums (λ j. correlationAt (J j) (now (us .entry)) (now (vs .entry))) samples (betas * length (now (us .entry)))
+        (now (squares .exit)) (now (fourths .exit)))) ⌝ }
+{
+    let sums = squares.len();
+    fill(squares, 0, sums, 0.0);
+    fill(fourths, 0, sums, 0.0);
+    let mut rng = Rng::stream(seed, chunk);
+    let mut j = 0usize;
+    while j < samples {
+        rng = sampled_signs(signs, rng);
+        if !add_configuration(
+            room,
+            plan,
+            n,
+            w,
+            scales,
+            each,
+            us,
+            vs,
+            order,
+            lent,
+            betas,
+            signs,
+            c,
+            squares,
+            fourths,
+        ) {
+            return false;
+        }
+        j += 1;
+    }
+    true
+}

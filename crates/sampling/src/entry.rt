@@ -1,25 +1,12 @@
 // The totals of drawn configurations, for callers.
-ghost use mathlib.Core.Path.{_≡_};
-ghost use Prim.Native.Nat.{_-_, _*_, _≤_};
-ghost use Rattle.transfer.specs.Totals.{sampledCount};
 ghost use Rattle.totals.specs.Calls.{Sampled};
 use crate::job::sample_job;
 use checks::Answer;
+use counting::sampled_count;
 use glass::Manner;
 use glass::is_each;
 use lent::check_sampling;
 use refuse::check_with_betas;
-
-// How many configurations there are: chunks times samples per chunk, 0 where there is no chunk.
-fn sampled_count(from: u64, to: u64, samples: usize) -> usize
-    requires { ⌜ (to - from) * samples ≤ 4294967296 ⌝ }
-    ensures { λ r. ⌜ r ≡ sampledCount from to samples ⌝ }
-{
-    if to <= from {
-        return 0;
-    }
-    (to - from) as usize * samples
-}
 
 // Writes the sums of the squares and of the fourth powers of every correlation, over the samples of the chunks from `from` up to, and
 // without, `to`, for each beta and pair. Two factors are lent for each beta and kept edge. Answers the count of configurations, or the

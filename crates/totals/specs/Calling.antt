@@ -9,7 +9,8 @@ use Rattle.checks.specs.Answers.{answered}
 use Rattle.checks.specs.Later.{orElse}
 use Rattle.checks.specs.declared.Answer.{Answer}
 use Rattle.checks.specs.declared.Answer.the-variants.{Number, Refused}
-use Rattle.glass.specs.Correlations.{zeros, settled, cleared}
+use Rattle.planned.specs.Zeros.{zeros}
+use Rattle.glass.specs.Correlations.{settled, cleared}
 use Rattle.glass.specs.Settling.{settled-not, cleared-not}
 use Rattle.totals.specs.Calls.{Totalled, Stored}
 use Rattle.totals.specs.Finished.{Finished}

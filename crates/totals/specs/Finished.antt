@@ -7,7 +7,7 @@ use lib.Ieee.{Float}
 use lib.ListN.{length}
 use Rattle.vector.specs.Front.{over}
 use Rattle.places.specs.Plannable.{Plannable}
-use Rattle.glass.specs.Correlations.{zeros}
+use Rattle.planned.specs.Zeros.{zeros}
 
 -- a job that a plan can be made of, and two factors for each of its edges at each beta
 pub record Passed (n w : ℕ) (early late us vs : List ℕ) (lent betas work : ℕ) : Type 0 where

@@ -16,7 +16,7 @@ use Rattle.lattice.specs.Graphs.{freeCount}
 use Rattle.places.specs.Work.{Planned}
 use Rattle.vertex.specs.Ready.{PlanOf}
 use Rattle.answers.specs.Planning.{plan-of}
-use Rattle.chunks.specs.Signed.{signedFactors}
+use Rattle.signed.specs.Signed.{signedFactors}
 use Rattle.enumerate.specs.Configurations.{signsOf, PlanOfEach}
 use Rattle.sample.specs.Samples.{PlanOfChunks}
 use Rattle.totals.specs.Jobs.{jobSigned, jobEnumerated, jobSampled}

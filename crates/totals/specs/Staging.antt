@@ -25,7 +25,7 @@ use Rattle.answers.specs.Sound.{unsound}
 use Rattle.chunks.specs.Powers.{correlationAt}
 use Rattle.chunks.specs.Stage.{Stage, Lent}
 use Rattle.enumerate.specs.Configurations.{Enumerates}
-use Rattle.glass.specs.Correlations.{zeros}
+use Rattle.planned.specs.Zeros.{zeros}
 use Rattle.totals.specs.Finished.{Passed, Finished, Told}
 use Rattle.totals.specs.Entering.{few-products}
 use Rattle.totals.specs.Signing.{marks-long, marks-free}

@@ -2,8 +2,8 @@
 ghost use mathlib.Core.Path.{_≡_};
 ghost use mathlib.Core.Bool.{cond};
 ghost use lib.ListN.{length};
-ghost use Rattle.glass.specs.Correlations.{zeros};
-use glass::clear;
+ghost use Rattle.planned.specs.Zeros.{zeros};
+use planned::clear;
 
 // All of a list at +0.0, unless every Z was finite and above zero.
 pub fn clear_unsound(sound: bool, list: &mut [f64])

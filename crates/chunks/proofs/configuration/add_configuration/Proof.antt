@@ -16,7 +16,7 @@ use Rattle.chunks.proofs.configuration.add_configuration.Tie as tie
 use Rattle.chunks.proofs.configuration.add_configuration.Reads as reads
 use Rattle.chunks.proofs.configuration.add_configuration.Lts as lts
 use Rattle.chunks.proofs.configuration.answer_signed.Reads as answer-signed-reads
-use Rattle.chunks.proofs.powers.add_powers.Reads as add-powers-reads
+use Rattle.powers.proofs.add_powers.Reads as add-powers-reads
 
 abbrev Inv-loop : tie.InvT-loop
 Inv-loop room₀ plan n w scales each us vs order lent betas signs c₀ squares₀ fourths₀ b₀ room c squares fourths b = Betas plan us vs lent signs betas n w each b room₀ room c₀ c squares₀ squares fourths₀ fourths

@@ -6,7 +6,7 @@ use native.Mathlib.Numerals.{add-one}
 use lib.ListN.{length}
 use Rattle.vector.specs.Tabulate.{tabulate-length}
 use Rattle.vertex.specs.Ready.{Ready}
-use Rattle.chunks.specs.Signed.{signedFactors}
+use Rattle.signed.specs.Signed.{signedFactors}
 use Rattle.chunks.proofs.Staging.{told-of}
 use borrow.Author.Needs.{needs}
 use Rattle.chunks.proofs.configuration.answer_signed.Statement.{statement}
@@ -14,7 +14,7 @@ use Rattle.chunks.proofs.configuration.answer_signed.Tie as tie
 use Rattle.chunks.proofs.configuration.answer_signed.Reads as reads
 use Rattle.chunks.proofs.configuration.answer_signed.Lts as lts
 use Rattle.answers.proofs.answer_pairs.Reads as answer-pairs-reads
-use Rattle.chunks.proofs.signed.lay_signed.Reads as lay-signed-reads
+use Rattle.signed.proofs.lay_signed.Reads as lay-signed-reads
 use Rattle.sweeps.proofs.sweep.Reads as sweep-reads
 
 -- src/configuration.rt:40:22

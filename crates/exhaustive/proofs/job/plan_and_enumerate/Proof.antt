@@ -10,7 +10,7 @@ use Rattle.transfer.specs.Totals.{square, fourth}
 use Rattle.plan.specs.Layout.{Holds}
 use Rattle.answers.specs.Planning.{end-fits}
 use Rattle.lattice.specs.Graphs.{freeCount}
-use Rattle.glass.specs.Correlations.{zeros}
+use Rattle.planned.specs.Zeros.{zeros}
 use Rattle.totals.specs.Jobs.{jobEnumerated, unsoundEnumeration, enumeratedTotals}
 use Rattle.totals.specs.Signing.{marks-long, enumerated-plan}
 use Rattle.totals.specs.Entering.{joins}
@@ -20,9 +20,9 @@ use Rattle.exhaustive.proofs.job.plan_and_enumerate.Statement.{statemen
 use Rattle.exhaustive.proofs.job.plan_and_enumerate.Tie as tie
 use Rattle.exhaustive.proofs.job.plan_and_enumerate.Reads as reads
 use Rattle.exhaustive.proofs.job.plan_and_enumerate.Lts as lts
-use Rattle.enumerate.proofs.enumerated_totals.Reads as enumerated-totals-reads
+use Rattle.enumerated_totals.proofs.enumerated_totals.Reads as enumerated-totals-reads
 use Rattle.forest.proofs.spanning_forest.Reads as spanning-forest-reads
-use Rattle.glass.proofs.clear.Reads as clear-reads
+use Rattle.planned.proofs.clear.Reads as clear-reads
 use Rattle.places.proofs.order_pairs.Reads as order-pairs-reads
 use Rattle.places.proofs.make_plan.Reads as make-plan-reads
 use Rattle.totals.proofs.clear_unsound.Reads as clear-unsound-reads

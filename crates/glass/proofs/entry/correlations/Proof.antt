@@ -8,7 +8,7 @@ use Rattle.glass.proofs.entry.correlations.Statement.{statement}
 use Rattle.glass.proofs.entry.correlations.Tie as tie
 use Rattle.glass.proofs.entry.correlations.Reads as reads
 use Rattle.glass.proofs.entry.correlations.Lts as lts
-use Rattle.glass.proofs.job.answer_job.Reads as answer-job-reads
+use Rattle.passed.proofs.answer_job.Reads as answer-job-reads
 use Rattle.glass.proofs.rescaling.is_each.Reads as is-each-reads
 use Rattle.refuse.proofs.check_job.Reads as check-job-reads
 use Rattle.lent.proofs.check_lists.Reads as check-lists-reads

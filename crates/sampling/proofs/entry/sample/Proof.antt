@@ -16,7 +16,7 @@ use Rattle.sampling.proofs.entry.sample.Lts as lts
 use Rattle.glass.proofs.is_each.Reads as is-each-reads
 use Rattle.refuse.proofs.check_with_betas.Reads as check-with-betas-reads
 use Rattle.lent.proofs.check_sampling.Reads as check-sampling-reads
-use Rattle.sampling.proofs.entry.sampled_count.Reads as sampled-count-reads
+use Rattle.counting.proofs.sampled_count.Reads as sampled-count-reads
 use Rattle.sampling.proofs.job.sample_job.Reads as sample-job-reads
 
 -- src/entry.rt:62:9

@@ -9,7 +9,7 @@ use Rattle.transfer.specs.Rounded.{ieee}
 use Rattle.transfer.specs.Totals.{square, fourth}
 use Rattle.plan.specs.Layout.{Holds}
 use Rattle.answers.specs.Planning.{end-fits}
-use Rattle.glass.specs.Correlations.{zeros}
+use Rattle.planned.specs.Zeros.{zeros}
 use Rattle.totals.specs.Jobs.{jobSampled, unsoundSampling, sampledTotals}
 use Rattle.totals.specs.Signing.{sampled-plan}
 use Rattle.totals.specs.Staging.{lent-of, staged, finished, told-settled}
@@ -20,8 +20,8 @@ use Rattle.sampling.proofs.job.plan_and_sample.Reads as reads
 use Rattle.sampling.proofs.job.plan_and_sample.Lts as lts
 use Rattle.places.proofs.order_pairs.Reads as order-pairs-reads
 use Rattle.places.proofs.make_plan.Reads as make-plan-reads
-use Rattle.sample.proofs.sampled_totals.Reads as sampled-totals-reads
-use Rattle.glass.proofs.clear.Reads as clear-reads
+use Rattle.sampled_totals.proofs.sampled_totals.Reads as sampled-totals-reads
+use Rattle.planned.proofs.clear.Reads as clear-reads
 use Rattle.totals.proofs.clear_unsound.Reads as clear-unsound-reads
 
 make-plan-requires : tie.Need-make-plan-requires

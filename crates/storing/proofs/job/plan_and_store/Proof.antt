@@ -8,7 +8,7 @@ use Rattle.transfer.specs.Job.{block, perElement}
 use Rattle.plan.specs.Layout.{Holds}
 use Rattle.answers.specs.Planning.{end-fits}
 use Rattle.lattice.specs.Graphs.{freeCount}
-use Rattle.glass.specs.Correlations.{zeros}
+use Rattle.planned.specs.Zeros.{zeros}
 use Rattle.totals.specs.Jobs.{jobEnumerated, unsoundEnumeration, storedCorrelations}
 use Rattle.totals.specs.Signing.{marks-long, enumerated-plan}
 use Rattle.totals.specs.Entering.{joins}
@@ -21,8 +21,8 @@ use Rattle.storing.proofs.job.plan_and_store.Lts as lts
 use Rattle.forest.proofs.spanning_forest.Reads as spanning-forest-reads
 use Rattle.places.proofs.order_pairs.Reads as order-pairs-reads
 use Rattle.places.proofs.make_plan.Reads as make-plan-reads
-use Rattle.enumerate.proofs.stored_correlations.Reads as stored-correlations-reads
-use Rattle.glass.proofs.clear.Reads as clear-reads
+use Rattle.stored_correlations.proofs.stored_correlations.Reads as stored-correlations-reads
+use Rattle.planned.proofs.clear.Reads as clear-reads
 use Rattle.totals.proofs.clear_unsound.Reads as clear-unsound-reads
 
 make-plan-requires : tie.Need-make-plan-requires

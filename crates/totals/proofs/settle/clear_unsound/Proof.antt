@@ -5,7 +5,7 @@ use Rattle.totals.proofs.settle.clear_unsound.Statement.{statement}
 use Rattle.totals.proofs.settle.clear_unsound.Tie as tie
 use Rattle.totals.proofs.settle.clear_unsound.Reads as reads
 use Rattle.totals.proofs.settle.clear_unsound.Lts as lts
-use Rattle.glass.proofs.clear.Reads as clear-reads
+use Rattle.planned.proofs.clear.Reads as clear-reads
 
 -- src/settle.rt:13:9
 clear-requires : tie.Need-clear-requires

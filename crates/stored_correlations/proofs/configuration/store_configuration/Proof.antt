@@ -1,0 +1,158 @@
+use mathlib.Core.Path.{_≡_, refl, sym, ap, _∙_, subst}
+use mathlib.Core.Bool.{true, false, not}
+use Prim.Native.Nat.{ℕ, _+_, _-_, _*_, _≤_, _<_}
+use native.Mathlib.Nat.{zero-mul}
+use native.Mathlib.Omega.{arith}
+use lib.ListN.{length}
+use borrow.Author.Tests.{not-true, not-false}
+use Rattle.vector.specs.Search as Search
+use Rattle.stored_correlations.specs.Stored.{Stored, Storing, number-small}
+use Rattle.chunks.specs.Lists.{lent-first, part-of}
+use Rattle.chunks.proofs.Staging.{stage-keep, part-stored}
+use Rattle.chunks.proofs.Betas.{some-unsound, sound-more, results-value}
+use borrow.Author.Needs.{needs}
+use Rattle.stored_correlations.proofs.configuration.store_configuration.Statement.{statement}
+use Rattle.stored_correlations.proofs.configuration.store_configuration.Tie as tie
+use Rattle.stored_correlations.proofs.configuration.store_configuration.Reads as reads
+use Rattle.stored_correlations.proofs.configuration.store_configuration.Lts as lts
+use Rattle.chunks.proofs.answer_signed.Reads as answer-signed-reads
+use Rattle.stored_correlations.proofs.configuration.store_results.Reads as store-results-reads
+
+abbrev Inv-loop : tie.InvT-loop
+Inv-loop room₀ plan n w scales each us vs order lent betas signs x all c₀ stored₀ b₀ room c stored b = Storing plan us vs lent signs betas n w each all x b room₀ room c₀ c stored₀ stored
+
+abbrev μ-loop : tie.MeasureT-loop
+μ-loop room₀ plan n w scales each us vs order lent betas signs x all c₀ stored₀ b₀ room c stored b = betas - b
+
+-- src/store.rt:59:5
+loop-holds : tie.Need-loop-holds Inv-loop μ-loop
+loop-holds c =
+    record {
+      below = omega arith;
+      rooms = refl;
+      results = refl;
+      storeds = refl;
+      so-far = λ J of. (Search.start _, λ value same g. rw (zero-mul (length (c .before .before .before .before .before .before .before .before .before .args .us .now))) g);
+    }
+
+-- src/store.rt:60:13
+answer-signed-requires : tie.Need-answer-signed-requires Inv-loop μ-loop
+answer-signed-requires c κs =
+    let p = c .before .before .before .before .before .before .before .before .before .before .before .before .before .pre in
+    let i = c .before .before .before .loop .inv in
+    (stage-keep (p .0) (i .rooms) (i .results), lent-first _ (p .1) (omega arith))
+
+-- src/store.rt:75:13
+same-length : tie.Need-same-length Inv-loop μ-loop
+same-length c = c .before .before .before .before .before .answer-signed .kept .0 ∙ c .before .before .before .before .before .before .before .before .before .loop .inv .rooms
+
+-- src/store.rt:75:13
+same-length-2 : tie.Need-same-length-2 Inv-loop μ-loop
+same-length-2 c = c .before .before .before .before .before .answer-signed .kept .1 .1 .1 .1 .1 .1 .1 .1 .1 .1 .1 .1 .1 .0 ∙ c .before .before .before .before .before .before .before .before .before .loop .inv .results
+
+-- src/store.rt:75:13
+same-length-3 : tie.Need-same-length-3 Inv-loop μ-loop
+same-length-3 c = c .before .before .before .before .before .before .before .before .before .loop .inv .storeds
+
+-- src/store.rt:75:13
+returns : tie.Need-returns Inv-loop μ-loop
+returns c =
+    let l = c .before .before .before .before .before .before .before .before .before .loop in
+    let a = c .before .before .before .before .before .answer-signed in
+    let no : true ≡ false → ⊥ = λ z. (let z′ : _≡_ {A = ℕ} 0 1 = cc in omega arith) in
+    λ J of. (some-unsound J _ _ _ (l .b) _ (a .ensures (J (l .b)) (of (l .b) (omega arith)) (λ z. absurd (omega arith)) .0) _ (omega arith) (not-true _ (c .if1 .taken)), λ z. absurd (no (sym z)))
+
+-- src/store.rt:77:39
+mul-store-results : tie.Need-mul-store-results Inv-loop μ-loop
+mul-store-results c =
+    let s = c .before .before .before .before .before .before .before .before .before .before .before .before .before .before .before .before .before .before .before .before in
+    let l = c .before .before .before .before .before .before .before .before .before .before .loop in
+    let np = length (s .args .us .now) in
+    let h = part-of (l .b) (s .args .betas) np (omega arith) in
+    omega (arith, h, number-small (s .args .all) (s .args .betas * np) 0 (omega (arith, s .pre .2)), s .pre .3, s .good)
+
+-- src/store.rt:77:9
+store-results-requires : tie.Need-store-results-requires Inv-loop μ-loop
+store-results-requires c κs =
+    let s = c .before .before .before .before .before .before .before .before .before .before .before .before .before .before .before .before .before .before .before .before .before in
+    let l = c .before .before .before .before .before .before .before .before .before .before .before .loop in
+    let i = l .inv in
+    let np = length (s .args .us .now) in
+    let e : length (c .before .before .before .before .before .before .before .answer-signed .last .1 .1 .1 .1 .1 .1 .1 .1 .1 .1 .1 .1 .1 .0) ≡ np = c .before .before .before .before .before .before .before .answer-signed .kept .1 .1 .1 .1 .1 .1 .1 .1 .1 .1 .1 .1 .1 .0 ∙ i .results ∙ s .pre .0 .fitting in
+    (s .pre .2, rw (e, i .storeds, s .pre .3) (part-stored (l .b) (s .args .betas) np (s .args .all) (omega arith)))
+
+-- src/store.rt:78:9
+add-b : tie.Need-add-b Inv-loop μ-loop
+add-b c = search needs
+
+-- src/store.rt:59:5
+loop-less : tie.Need-loop-less Inv-loop μ-loop
+loop-less c = search needs
+
+-- src/store.rt:59:5
+loop-again : tie.Need-loop-again Inv-loop μ-loop
+loop-again c =
+    let s = c .before .before .before .before .before .before .before .before .before .before .before .before .before .before .before .before .before .before .before .before .before .before .before .before in
+    let l = c .before .before .before .before .before .before .before .before .before .before .before .before .before .before .loop in
+    let i = l .inv in
+    let a = c .before .before .before .before .before .before .before .before .before .before .answer-signed in
+    let r = c .before .before .store-results in
+    let yes = not-false _ (c .before .before .before .before .before .if1 .left) in
+    let t : l .b < s .args .betas = omega (arith, c .before .before .before .before .before .before .before .before .before .before .before .before .before .loop-test .taken) in
+    let e = a .kept .1 .1 .1 .1 .1 .1 .1 .1 .1 .1 .1 .1 .1 .0 ∙ i .results in
+    let m : l .b * length (s .args .us .now) + length (s .args .us .now) ≡ (l .b + 1) * length (s .args .us .now) = omega arith in
+    record {
+      below = omega arith;
+      rooms = a .kept .0 ∙ i .rooms;
+      results = e;
+      storeds = r .kept .0 ∙ i .storeds;
+      so-far = λ J of.
+          let o = a .ensures (J (l .b)) (of (l .b) t) (λ z. absurd (omega arith)) .0 in
+          let g = i .so-far J of in (
+            sound-more J _ _ _ (l .b) _ o (g .0) yes,
+            λ value same h. rw (e ∙ s .pre .0 .fitting, m) at
+                (r .ensures value _ (λ p k. results-value J (s .args .us .now) (s .args .vs .now) value (s .args .all) _ (s .args .betas) (l .b) _ same t (o .values yes) p (rw (e ∙ s .pre .0 .fitting) at k)) (g .1 value same h)),
+          );
+    }
+
+-- src/store.rt:31:1
+same-length-4 : tie.Need-same-length-4 Inv-loop μ-loop
+same-length-4 c = c .before .loop .inv .rooms
+
+-- src/store.rt:31:1
+same-length-5 : tie.Need-same-length-5 Inv-loop μ-loop
+same-length-5 c = c .before .loop .inv .results
+
+-- src/store.rt:31:1
+same-length-6 : tie.Need-same-length-6 Inv-loop μ-loop
+same-length-6 c = c .before .loop .inv .storeds
+
+-- src/store.rt:31:1
+returns-2 : tie.Need-returns-2 Inv-loop μ-loop
+returns-2 c =
+    let s = c .before .before .before .before .before .before .before .before .before .before .before in
+    let i = c .before .loop .inv in
+    let e : c .before .loop .b ≡ s .args .betas = omega (arith, i .below) in
+    λ J of. let g = rw e at (i .so-far J of) in (sym (ap not (g .0)), λ _. g .1)
+
+pub store-configuration-spec : {M : Type 1} → statement M
+store-configuration-spec =
+    tie.close
+    (tie.spec
+    Inv-loop
+    μ-loop
+    loop-holds
+    answer-signed-requires
+    same-length
+    same-length-2
+    same-length-3
+    returns
+    mul-store-results
+    store-results-requires
+    add-b
+    loop-less
+    loop-again
+    same-length-4
+    same-length-5
+    same-length-6
+    returns-2)

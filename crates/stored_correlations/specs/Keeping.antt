@@ -1,0 +1,24 @@
+-- Configurations that are stored, one after the other.
+use mathlib.Core.Path.{_≡_}
+use mathlib.Core.Bool.{Bool, false}
+use mathlib.Core.List.{List}
+use Prim.Native.Nat.{ℕ, _*_, _≤_}
+use lib.Ieee.{Float}
+use lib.ListN.{length}
+use Rattle.vector.specs.Search.{some}
+use Rattle.transfer.specs.Job.{Job}
+use Rattle.answers.specs.Sound.{unsound}
+use Rattle.chunks.specs.Powers.{correlationAt}
+use Rattle.stored_correlations.specs.Stored.{Stored}
+use Rattle.enumerate.specs.Configurations.{PlanOfEach}
+
+-- Before configuration x, where each is stored.
+pub record Keeping (plan us vs : List ℕ) (lent : List Float) (tree : List Bool) (betas n w : ℕ) (each : Bool) (x all : ℕ)
+    (room₀ room : List Float) (signs₀ signs : List Bool) (c₀ c stored₀ stored : List Float) : Type 0 where
+  pub below : x ≤ all
+  pub rooms : length room ≡ length room₀
+  pub marks : length signs ≡ length signs₀
+  pub results : length c ≡ length c₀
+  pub storeds : length stored ≡ length stored₀
+  pub so-far : (J : ℕ → ℕ → Job Float) → PlanOfEach J plan lent tree betas n w each → (some (λ y. some (λ b. unsound (J y b) us vs) betas) x ≡ false)
+      × Stored (λ y. correlationAt (J y) us vs) all (betas * length us) x 0 stored
