@@ -8,3 +8,6 @@ pub mod Configurations
 pub mod Exhaustive
 pub mod Storing
 pub mod Sampling
+pub mod Summed
+pub mod Calls
+pub mod Alone
