@@ -61,7 +61,7 @@ module _ {n floor : ℕ} {a b : List ℕ} {m : List Float} {us vs : List ℕ} {b
 
   -- and the correlations summed are, without rounding, the textbook ratios: of every configuration, beta and pair.
   pub enumeration-exact : (x beta : ℕ) → x < 2 ^ free → beta < length betas → Exact (configuration x beta) us vs
-  enumeration-exact x beta h l = exact (enumeration-sound x beta h l)
+  enumeration-exact x beta h l = exact (enumeration-sound x beta (omega arith) l)
 
   -- Bounded: in every total 0 ≤ fourth powers ≤ squares ≤ count,
   pub enumeration-bounded : (k : ℕ) → k < length betas * length us → Ordered binary64 (getD fourths′ k nan) (getD squares′ k nan) count
