@@ -1,3 +1,5 @@
 pub mod Estimates
+pub mod Cases
+pub mod Counted
 pub mod Examples
 pub mod Controls

@@ -1,2 +1,4 @@
 -- Laws that the proofs share.
-mod Cases
+mod Rows
+mod Sums
+mod Refusals

@@ -1,6 +1,6 @@
 -- By the tests in turn.
-use Rattle.estimate.proofs.error.in_order.Statement.{statement}
-use Rattle.estimate.proofs.error.in_order.Tie as tie
+use Rattle.estimate.proofs.order.in_order.Statement.{statement}
+use Rattle.estimate.proofs.order.in_order.Tie as tie
 
 returns : tie.Need-returns
 returns c = rw (c .before .if1 .taken, c .if2 .taken)
