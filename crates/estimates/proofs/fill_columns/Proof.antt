@@ -57,10 +57,10 @@ estimate-requires c κs = search needs
 put-estimate-requires : tie.Need-put-estimate-requires Inv-loop μ-loop
 put-estimate-requires c κs =
     let s = c .before .before .before .before .before .before .before .before .before .before .before in
-    let l = c .before .before .before .before .before .before .loop in (
-      omega (arith, means-long s (l .i) (l .means) (l .inv .0) (l .inv .1)),
-      omega (arith, errors-long s (l .i) (l .errors) (l .inv .0) (l .inv .2)),
-    )
+    let l = c .before .before .before .before .before .before .loop in
+    let m = means-long s (l .i) (l .means) (l .inv .0) (l .inv .1) in
+    let e = errors-long s (l .i) (l .errors) (l .inv .0) (l .inv .2) in
+    (omega arith, omega arith)
 
 add-i : tie.Need-add-i Inv-loop μ-loop
 add-i c = search needs

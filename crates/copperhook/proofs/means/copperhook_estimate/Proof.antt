@@ -1,7 +1,7 @@
 -- What the answer that was told says.
 use borrow.Author.Needs.{needs}
-use Rattle.copperhook.proofs.estimates.copperhook_estimate.Statement.{statement}
-use Rattle.copperhook.proofs.estimates.copperhook_estimate.Tie as tie
+use Rattle.copperhook.proofs.means.copperhook_estimate.Statement.{statement}
+use Rattle.copperhook.proofs.means.copperhook_estimate.Tie as tie
 
 estimate-requires : tie.Need-estimate-requires
 estimate-requires c κs = search needs
