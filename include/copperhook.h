@@ -12,8 +12,8 @@
  *   - What is written overlaps no other argument of the call, and nobody else touches what is lent before the call returns.
  *   - The calling thread has C's default floating-point environment: rounding to the nearest, no traps, and neither flush-to-zero nor
  *     denormals-are-zero. gcc turns the last two on in a program that is linked with -ffast-math or -Ofast, and before gcc 13 in one that
- *     loads a shared library linked so. fesetenv(FE_DFL_ENV) of <fenv.h> sets all of it right; a thread starts with the environment of the
- *     one that made it.
+ *     loads a shared library linked so. fesetenv(FE_DFL_ENV) of <fenv.h>, with -lm, sets all of it right; a thread starts with the
+ *     environment of the one that made it.
  * Then, whatever the lists hold and however long they are, the call ends, and touches nothing but what it is lent.
  *
  * Answers. A function that can refuse a job returns the refusal's number, 0 for accepted; of several that fit, the first in checking order

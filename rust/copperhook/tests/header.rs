@@ -129,14 +129,14 @@ fn printed_by(name: &str, options: &[&str]) -> String {
     let program = folder(name).join(name);
     let source = repository().join(format!("rust/copperhook/tests/{name}.c"));
     let mut compile = Command::new("gcc");
-    compile.arg("-std=c11").args(STRICT).arg(include()).arg(source).arg(copperhook::ARCHIVE).args(options).arg("-lm").arg("-o").arg(&program);
+    compile.arg("-std=c11").args(STRICT).arg(include()).arg(source).arg(copperhook::ARCHIVE).args(options).arg("-o").arg(&program);
     succeeded(compile.output().expect("gcc runs"));
     succeeded(Command::new(program).output().unwrap())
 }
 
 #[test]
 fn fast_math_turns_subnormals_off_and_the_default_environment_on_again() {
-    assert_eq!(printed_by("environment", &["-ffast-math"]), "0 0000000000000000\n0 0000000000000001\n");
+    assert_eq!(printed_by("environment", &["-ffast-math", "-lm"]), "0 0000000000000000\n0 0000000000000001\n");
 }
 
 #[test]
