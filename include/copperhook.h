@@ -4,12 +4,13 @@
  *     rt staticlib copperhook                         makes target/staticlib/libcopperhook.a
  *     cc -std=c11 -Iinclude sheet.c target/staticlib/libcopperhook.a
  *
- * Lists. A list is a pointer and, right behind it, the number of its elements (not of bytes). What is read is `const`; what is written is not.
+ * Lists. A list is a pointer and, right behind it, the number of its elements (not of bytes). One that is read is `const`; one that is
+ * written is not.
  *
  * What a caller owes:
- *   - Every pointer is aligned and not NULL, that of an empty list too, and points to as many elements as its list has; one that a value goes
- *     out through to one, `state` to four, the `name` that is written to six.
- *   - What is written overlaps no other argument of the call, and nobody else touches what is lent before the call returns.
+ *   - Every pointer is aligned and not NULL, that of an empty list too, and points to as many elements as its list has: `state` to four, a
+ *     `name` that is written to six, one through which a value goes out to one.
+ *   - What is written overlaps no other argument of the call. Before the call returns nobody else touches it, or writes what is read.
  *   - The calling thread has C's default floating-point environment: rounding to the nearest, no traps, and neither flush-to-zero nor
  *     denormals-are-zero. gcc turns the last two on in a program that is linked with -ffast-math or -Ofast, and before gcc 13 in one that
  *     loads a shared library linked so. fesetenv(FE_DFL_ENV) of <fenv.h>, with -lm, sets all of it right; a thread starts with the
@@ -24,8 +25,8 @@
  * magnitude m[i]. An edge of magnitude +0.0 or -0.0 is dropped; the others are kept, in their order. `floor` is a lower bound for the
  * window; 0 for none.
  *
- * Doubles are IEEE 754 binary64. The library keeps no state, and calls of several threads do not meet. A call takes less than 1 MB of stack,
- * and no heap. Of the C library the archive needs memcpy and memset alone.
+ * Doubles are IEEE 754 binary64. The library keeps no state, and calls of several threads do not meet. A call takes less than 1 MB of
+ * stack, and no heap. Of the C library the archive needs memcpy and memset alone.
  */
 #ifndef COPPERHOOK_H
 #define COPPERHOOK_H
@@ -288,7 +289,7 @@ size_t copperhook_boundary_name(bool periodic, uint8_t *name);
 /* The state of a seed. */
 void copperhook_rng_new(uint64_t seed, uint64_t *state);
 
-/* The state of an independent stream of a seed. */
+/* The state of stream `index` of a seed. */
 void copperhook_rng_stream(uint64_t seed, uint64_t index, uint64_t *state);
 
 /* The next word. */
