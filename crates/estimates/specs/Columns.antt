@@ -20,8 +20,8 @@ at l i = getD l i nan
 abbrev pub badSums : ℕ → List Float → List Float → Bool
 badSums count squares fourths = badCount count || some (λ i. not (inOrder (number count) (at squares i) (at fourths i))) (length squares)
 
--- The first that fits, of columns as long as `means` and `errors`: 2 where the lists of sums differ in length, 12 where a column is not exactly as
--- long as they are, 18; 0 where none does.
+-- The first that fits: 2 where the lists of sums differ in length, 12 where a column is not exactly as long as they are, 18; 0 where none does.
+-- `means` and `errors` are the lengths of the columns.
 abbrev pub refusalOf : ℕ → List Float → List Float → (means errors : ℕ) → ℕ
 refusalOf count squares fourths means errors =
     cond (not (eqb (length squares) (length fourths))) 2
@@ -32,7 +32,7 @@ refusalOf count squares fourths means errors =
 abbrev pub estimateAt : ℕ → List Float → List Float → ℕ → Estimate
 estimateAt count squares fourths i = estimateOf count (at squares i) (at fourths i)
 
--- the columns: each place's mean and error; where its estimate has no error, what was there
+-- the columns of an accepted call: each place's mean and error; where its estimate has no error, what was there
 abbrev pub meanColumn : ℕ → List Float → List Float → List Float → List Float
 meanColumn count squares fourths old = tabulate (λ i. meanIn (estimateAt count squares fourths i) (at old i)) (length squares)
 

@@ -1,5 +1,4 @@
 // The columns of a sheet: the mean and the standard error of every beta and pair, from their sums.
-ghost use Prim.Native.Nat.{_<_};
 ghost use mathlib.Core.Path.{_≡_};
 ghost use lib.ListN.{length};
 ghost use Rattle.estimates.specs.Columns.{meanColumn, errorColumn, Columns};
