@@ -1,5 +1,4 @@
 pub mod Estimates
 pub mod Cases
 pub mod Counted
-pub mod Examples
 pub mod Controls
