@@ -227,12 +227,12 @@ size_t copperhook_components(size_t n, const size_t *a, size_t a_len, const size
                              size_t *names, size_t names_len);
 
 /*
- * Whether a walk of kept edges leads from u to v, in *joined, and the least number of its edges, in *length, which stays as it was where
+ * Whether a walk of kept edges leads from u to v, in *joined, and the least number of its edges, in *edges, which stays as it was where
  * there is none. Equal ends are allowed.
  * Refusals: 1 to 5, 8 (an end outside the graph).
  */
 size_t copperhook_distance(size_t n, const size_t *a, size_t a_len, const size_t *b, size_t b_len, const double *m, size_t m_len,
-                           size_t u, size_t v, bool *joined, size_t *length);
+                           size_t u, size_t v, bool *joined, size_t *edges);
 
 /* ---- Strips: w vertices across and l along, free or periodic across. Vertex (x, y), x along and y across, is x * w + y. */
 

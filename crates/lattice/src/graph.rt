@@ -11,7 +11,8 @@ ghost use Rattle.checks.specs.Refusal.{refusal, ofGraph, ofGraphWithBuffers, of
 ghost use Rattle.checks.specs.Answers.{answered, left};
 ghost use Rattle.forest.specs.Paths.{Spans};
 ghost use Rattle.forest.specs.Components.{componentCount};
-ghost use Rattle.lattice.specs.Graphs.{tooShort, freeCount, treeMarks, componentNames, Set, Distanced, rotate, Turned};
+ghost use Rattle.lattice.specs.Graphs.{tooShort, freeCount, treeMarks, componentNames, Set, rotate, Turned};
+ghost use Rattle.lattice.specs.Reached.{Distanced};
 use checks::Answer;
 use distance::Reach;
 use kept::build::build;

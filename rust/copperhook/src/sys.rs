@@ -284,7 +284,7 @@ extern "C" {
         u: usize,
         v: usize,
         joined: *mut bool,
-        length: *mut usize,
+        edges: *mut usize,
     ) -> usize;
 
     pub fn copperhook_strip_n(kind: usize, w: usize, l: usize, periodic: bool, n: *mut usize) -> usize;
