@@ -7,8 +7,8 @@ use lib.ListN.{length}
 use Rattle.forest.specs.Labels.{labels}
 use Rattle.forest.proofs.Growth.{Labelled, labelled-none, union-takes, union-labels, found-label, found-keeps}
 use Rattle.forest.proofs.Filled.{Filled, filled-none, filled-more, filled-all}
-use Rattle.forest.proofs.components.Statement.{statement}
-use Rattle.forest.proofs.components.Tie as tie
+use Rattle.forest.proofs.name_components.Statement.{statement}
+use Rattle.forest.proofs.name_components.Tie as tie
 
 abbrev Inv-loop : tie.InvT-loop
 Inv-loop n early late out p₀ e₀ p e = Labelled n early late e p × (e ≤ length early)
@@ -100,8 +100,8 @@ same-length c = omega arith
 returns : tie.Need-returns Inv-loop μ-loop Inv-loop2 μ-loop2
 returns c = filled-all (c .before .before .loop2 .inv .1) (c .before .loop2-test .left)
 
-pub components-spec : {M : Type 1} → statement M
-components-spec =
+pub name-components-spec : {M : Type 1} → statement M
+name-components-spec =
     tie.close
     (tie.spec
     Inv-loop

@@ -3,8 +3,8 @@ use native.Mathlib.Omega.{arith}
 use borrow.Author.Needs.{needs}
 use Rattle.places.specs.Work.{room-is}
 use Rattle.places.specs.Places.{places-most}
-use Rattle.places.proofs.work.room.Statement.{statement}
-use Rattle.places.proofs.work.room.Tie as tie
+use Rattle.places.proofs.work.room_needed.Statement.{statement}
+use Rattle.places.proofs.work.room_needed.Tie as tie
 
 count-places-requires : tie.Need-count-places-requires
 count-places-requires c κs = search needs
@@ -21,5 +21,5 @@ returns c =
     let e = c .work-of .ensures in
     room-is _ _ _ (s .args .us .now) (s .args .vs .now) _ _ _ (rw (e .0, c .before .count-places .ensures) at (e .1))
 
-pub room-spec : {M : Type 1} → statement M
-room-spec = tie.close (tie.spec count-places-requires work-of-requires returns)
+pub room-needed-spec : {M : Type 1} → statement M
+room-needed-spec = tie.close (tie.spec count-places-requires work-of-requires returns)

@@ -1,9 +1,9 @@
--- `distance` meets its contract: `settle` leaves the distances from u.
+-- `shortest_walk` meets its contract: `settle` leaves the distances from u.
 use native.Mathlib.Omega.{arith}
 use borrow.Author.Needs.{needs}
 use Rattle.distance.proofs.Distances.{only-ready, far-not-joined, known-length}
-use Rattle.distance.proofs.distance.Statement.{statement}
-use Rattle.distance.proofs.distance.Tie as tie
+use Rattle.distance.proofs.shortest_walk.Statement.{statement}
+use Rattle.distance.proofs.shortest_walk.Tie as tie
 
 mul-d : tie.Need-mul-d
 mul-d c = search needs
@@ -37,8 +37,8 @@ returns-2 c =
     let z = c .before .before .settle .ensures in
     known-length 1024 _ (omega arith) (s .pre .2) (s .pre .1) (z .0) (z .1) _ (s .pre .3) (c .if1 .left)
 
-pub distance-spec : {M : Type 1} → statement M
-distance-spec =
+pub shortest-walk-spec : {M : Type 1} → statement M
+shortest-walk-spec =
     tie.close
     (tie.spec
     mul-d

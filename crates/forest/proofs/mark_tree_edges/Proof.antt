@@ -8,8 +8,8 @@ use lib.ListN.{length}
 use Rattle.forest.specs.Labels.{isTree, trees-span}
 use Rattle.forest.proofs.Growth.{Labelled, labelled-none, union-takes, union-tree, union-labels}
 use Rattle.forest.proofs.Filled.{Filled, filled-none, filled-more, filled-all}
-use Rattle.forest.proofs.spanning_forest.Statement.{statement}
-use Rattle.forest.proofs.spanning_forest.Tie as tie
+use Rattle.forest.proofs.mark_tree_edges.Statement.{statement}
+use Rattle.forest.proofs.mark_tree_edges.Tie as tie
 
 abbrev Inv-loop : tie.InvT-loop
 Inv-loop n early late tree₀ p₀ e₀ tree p e = Labelled n early late e p × Filled false (isTree early late) (length early) e tree
@@ -75,8 +75,8 @@ returns c =
     let t = filled-all (c .before .before .loop .inv .1) (c .before .loop-test .left) in
     (t, rw t (trees-span _ _))
 
-pub spanning-forest-spec : {M : Type 1} → statement M
-spanning-forest-spec =
+pub mark-tree-edges-spec : {M : Type 1} → statement M
+mark-tree-edges-spec =
     tie.close
     (tie.spec
     Inv-loop

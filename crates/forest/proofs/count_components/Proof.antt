@@ -11,8 +11,8 @@ use Rattle.vector.specs.Tabulate.{tabulate, tabulate-length, tabulate-at}
 use Rattle.vector.specs.Count.{count, count-zero, count-hit, count-miss}
 use Rattle.forest.specs.Labels.{labels}
 use Rattle.forest.specs.Components.{stands, componentCount}
-use Rattle.forest.proofs.n_components.Statement.{statement}
-use Rattle.forest.proofs.n_components.Tie as tie
+use Rattle.forest.proofs.count_components.Statement.{statement}
+use Rattle.forest.proofs.count_components.Tie as tie
 
 numbers-length : (f : ℕ → ℕ) (n : ℕ) {l : List ℕ} → l ≡ tabulate f n → length l ≡ n
 numbers-length f n e = rw e (tabulate-length f n)
@@ -34,11 +34,11 @@ array-borrow-prefix-numbers c = omega arith
 slice-aggregate-c : tie.Need-slice-aggregate-c Inv-loop μ-loop
 slice-aggregate-c c = sym (length-take-le _ _ (omega arith))
 
-components-requires : tie.Need-components-requires Inv-loop μ-loop
-components-requires c κs = let s = c .before .before .before .before in (s .pre .0, s .pre .1, length-take-le _ _ (omega arith))
+name-components-requires : tie.Need-name-components-requires Inv-loop μ-loop
+name-components-requires c κs = let s = c .before .before .before .before in (s .pre .0, s .pre .1, length-take-le _ _ (omega arith))
 
 loop-holds : tie.Need-loop-holds Inv-loop μ-loop
-loop-holds c = (c .before .before .components .ensures, sym (count-zero _), omega arith, omega arith)
+loop-holds c = (c .before .before .name-components .ensures, sym (count-zero _), omega arith, omega arith)
 
 mul-own : tie.Need-mul-own Inv-loop μ-loop
 mul-own c = omega arith
@@ -78,15 +78,15 @@ returns c =
     let all : l .v ≡ s .args .n = omega arith in
     rw all at (l .inv .1)
 
-pub n-components-spec : {M : Type 1} → statement M
-n-components-spec =
+pub count-components-spec : {M : Type 1} → statement M
+count-components-spec =
     tie.close
     (tie.spec
     Inv-loop
     μ-loop
     array-borrow-prefix-numbers
     slice-aggregate-c
-    components-requires
+    name-components-requires
     loop-holds
     mul-own
     slice-read-own
