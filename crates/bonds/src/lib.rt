@@ -37,11 +37,11 @@ pub fn across(s: Strip, x: usize, y: usize) -> Bond
 {
     let w = s.w;
     let kind = s.kind;
-    let next = y + 1 < w;
+    let next = y + 1;
     bond_if(
-        next & has_brick(kind, x, y),
+        (next < w) & has_brick(kind, x, y),
         vertex_at(w, x, y),
-        vertex_at(w, x, y + 1),
+        vertex_at(w, x, next),
     )
 }
 

@@ -13,9 +13,6 @@ has-brick-requires c κs = search needs
 vertex-at-requires : tie.Need-vertex-at-requires
 vertex-at-requires c κs = search needs
 
-add-vertex-at : tie.Need-add-vertex-at
-add-vertex-at c = search needs
-
 vertex-at-requires-2 : tie.Need-vertex-at-requires-2
 vertex-at-requires-2 c κs = search needs
 
@@ -33,7 +30,6 @@ across-spec =
     add-next
     has-brick-requires
     vertex-at-requires
-    add-vertex-at
     vertex-at-requires-2
     bond-if-requires
     returns)
