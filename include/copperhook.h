@@ -4,21 +4,29 @@
  *     rt staticlib copperhook                         makes target/staticlib/libcopperhook.a
  *     cc -std=c11 -Iinclude sheet.c target/staticlib/libcopperhook.a
  *
- * Lists. A list is a pointer and, right behind it, the number of its elements (not of bytes). A list that is read is `const`; one that is
- * written is not. The pointer is aligned and not NULL, of an empty list too. A list that is written overlaps no other argument of the call,
- * and nobody else touches a lent list before the call returns. That is all that a caller owes: whatever the lists hold and however long
- * they are, the call ends, and touches nothing but what it is lent.
+ * Lists. A list is a pointer and, right behind it, the number of its elements (not of bytes). One that is read is `const`; one that is
+ * written is not.
  *
- * Answers. A function that can refuse a job returns the refusal's number, 0 for accepted; of several that fit, the first is returned. What
- * an accepted call answers goes out through pointers. A refused call leaves every list and every value as it was, but for refusal 14,
- * COPPERHOOK_PARTITION_SUM, which sets the results and the work memory's room to +0.0.
+ * What a caller owes:
+ *   - Every pointer is aligned and not NULL, that of an empty list too, and points to as many elements as its list has: `state` to four, a
+ *     `name` that is written to six, one through which a value goes out to one.
+ *   - What is written overlaps no other argument of the call. Before the call returns nobody else touches it, or writes what is read.
+ *   - The calling thread has C's default floating-point environment: rounding to the nearest, no traps, and neither flush-to-zero nor
+ *     denormals-are-zero. gcc turns the last two on in a program that is linked with -ffast-math or -Ofast, and before gcc 13 in one that
+ *     loads a shared library linked so. fesetenv(FE_DFL_ENV) of <fenv.h>, with -lm, sets all of it right; a thread starts with the
+ *     environment of the one that made it.
+ * Then, whatever the lists hold and however long they are, the call ends, and touches nothing but what it is lent.
+ *
+ * Answers. A function that can refuse a job returns the refusal's number, 0 for accepted; of several that fit, the first in checking order
+ * is returned. What an accepted call answers goes out through pointers. A refused call leaves every list and every value as it was, but for
+ * refusal 14, COPPERHOOK_PARTITION_SUM, which sets the results and the work memory's room to +0.0.
  *
  * A graph is its number of vertices `n` and three lists of one length: edge i joins vertices a[i] and b[i], in either order, with
  * magnitude m[i]. An edge of magnitude +0.0 or -0.0 is dropped; the others are kept, in their order. `floor` is a lower bound for the
  * window; 0 for none.
  *
- * Doubles are IEEE 754 binary64, in the default rounding. The library keeps no state, and calls of several threads do not meet. A call takes
- * less than 1 MB of stack, and no heap. Of the C library the archive needs memcpy and memset alone.
+ * Doubles are IEEE 754 binary64. The library keeps no state, and calls of several threads do not meet. A call takes less than 1 MB of
+ * stack, and no heap. Of the C library the archive needs memcpy and memset alone.
  */
 #ifndef COPPERHOOK_H
 #define COPPERHOOK_H
@@ -31,7 +39,7 @@
 extern "C" {
 #endif
 
-/* Why a call is refused, in checking order. */
+/* Why a call is refused, in checking order; calls for strips check 15 to 17 before 12. */
 enum copperhook_refusal {
     COPPERHOOK_ACCEPTED = 0,
     COPPERHOOK_VERTEX_COUNT = 1,    /* the vertex count is 0 or above 1,024 */
@@ -160,6 +168,15 @@ size_t copperhook_sample(size_t n, size_t floor, const size_t *a, size_t a_len, 
  */
 size_t copperhook_estimate(size_t count, double squares, double fourths, bool *enough, double *mean, double *error);
 
+/*
+ * The same of all betas and pairs at once: with the sums at i of `squares` and `fourths`, the mean is at i of `means` and the error at i of
+ * `errors`. All four lists have one length, whichever it is. At count 1 `errors` stays as it was. 18 is asked of the count and of every
+ * place before anything is written.
+ * Refusals: 2 (the lists of sums), 12, 18.
+ */
+size_t copperhook_estimates(size_t count, const double *squares, size_t squares_len, const double *fourths, size_t fourths_len,
+                            double *means, size_t means_len, double *errors, size_t errors_len);
+
 /* The square root of IEEE 754, rounded to the nearest, of any double. No call is refused. */
 double copperhook_sqrt(double x);
 
@@ -210,12 +227,12 @@ size_t copperhook_components(size_t n, const size_t *a, size_t a_len, const size
                              size_t *names, size_t names_len);
 
 /*
- * Whether a walk of kept edges leads from u to v, in *joined, and the least number of its edges, in *length, which stays as it was where
+ * Whether a walk of kept edges leads from u to v, in *joined, and the least number of its edges, in *edges, which stays as it was where
  * there is none. Equal ends are allowed.
  * Refusals: 1 to 5, 8 (an end outside the graph).
  */
 size_t copperhook_distance(size_t n, const size_t *a, size_t a_len, const size_t *b, size_t b_len, const double *m, size_t m_len,
-                           size_t u, size_t v, bool *joined, size_t *length);
+                           size_t u, size_t v, bool *joined, size_t *edges);
 
 /* ---- Strips: w vertices across and l along, free or periodic across. Vertex (x, y), x along and y across, is x * w + y. */
 
@@ -272,7 +289,7 @@ size_t copperhook_boundary_name(bool periodic, uint8_t *name);
 /* The state of a seed. */
 void copperhook_rng_new(uint64_t seed, uint64_t *state);
 
-/* The state of an independent stream of a seed. */
+/* The state of stream `index` of a seed. */
 void copperhook_rng_stream(uint64_t seed, uint64_t index, uint64_t *state);
 
 /* The next word. */

@@ -1,3 +1,4 @@
 pub mod Edges
+pub mod Square
 pub mod Bonds
 pub mod Sites

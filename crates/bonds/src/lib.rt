@@ -8,7 +8,7 @@ use kind::Kind;
 use kind::is_honey;
 use kind::is_tri;
 use strip::Strip;
-use strip::vid;
+use strip::vertex_at;
 
 pub enum Bond {
     Joins(usize, usize),
@@ -37,8 +37,12 @@ pub fn across(s: Strip, x: usize, y: usize) -> Bond
 {
     let w = s.w;
     let kind = s.kind;
-    let next = y + 1 < w;
-    bond_if(next & has_brick(kind, x, y), vid(w, x, y), vid(w, x, y + 1))
+    let next = y + 1;
+    bond_if(
+        (next < w) & has_brick(kind, x, y),
+        vertex_at(w, x, y),
+        vertex_at(w, x, next),
+    )
 }
 
 pub fn wrap(s: Strip, x: usize, y: usize) -> Bond
@@ -48,7 +52,11 @@ pub fn wrap(s: Strip, x: usize, y: usize) -> Bond
     let w = s.w;
     let kind = s.kind;
     let round = s.periodic & (y + 1 == w) & (2 < w);
-    bond_if(round & has_brick(kind, x, y), vid(w, x, 0), vid(w, x, y))
+    bond_if(
+        round & has_brick(kind, x, y),
+        vertex_at(w, x, 0),
+        vertex_at(w, x, y),
+    )
 }
 
 pub fn along(s: Strip, x: usize, y: usize) -> Bond
@@ -56,7 +64,7 @@ pub fn along(s: Strip, x: usize, y: usize) -> Bond
     ensures { λ r. ⌜ listed r ≡ along s x y ⌝ }
 {
     let w = s.w;
-    bond_if(x + 1 < s.l, vid(w, x, y), vid(w, x + 1, y))
+    bond_if(x + 1 < s.l, vertex_at(w, x, y), vertex_at(w, x + 1, y))
 }
 
 pub fn rising(s: Strip, x: usize, y: usize) -> Bond
@@ -67,7 +75,11 @@ pub fn rising(s: Strip, x: usize, y: usize) -> Bond
     let kind = s.kind;
     let diagonal = is_tri(kind) & s.periodic & (x + 1 < s.l);
     let next = (2 < w) | (y + 1 < w);
-    bond_if(diagonal & next, vid(w, x, y), vid(w, x + 1, (y + 1) % w))
+    bond_if(
+        diagonal & next,
+        vertex_at(w, x, y),
+        vertex_at(w, x + 1, (y + 1) % w),
+    )
 }
 
 pub fn falling(s: Strip, x: usize, y: usize) -> Bond
@@ -77,5 +89,9 @@ pub fn falling(s: Strip, x: usize, y: usize) -> Bond
     let w = s.w;
     let kind = s.kind;
     let diagonal = is_tri(kind) & !s.periodic & (x + 1 < s.l);
-    bond_if(diagonal & (y + 1 < w), vid(w, x, y + 1), vid(w, x + 1, y))
+    bond_if(
+        diagonal & (y + 1 < w),
+        vertex_at(w, x, y + 1),
+        vertex_at(w, x + 1, y),
+    )
 }

@@ -1,6 +1,7 @@
 -- What bounds the rounded vectors, answers and totals, with no tolerance and whatever overflows on the way.
 -- Of a job only its factors matter, finite and above zero, and of a pair its Z, which is to be so too.
 use mathlib.Core.Path.{_≡_}
+use mathlib.Core.List.{List}
 use Prim.Native.Nat.{ℕ, _+_, _*_, _-_, _^_, _≤_, _<_, min, max}
 use native.Mathlib.Nat.{le-trans, min-le-left, le-max-left}
 use native.Mathlib.Omega.{arith}
@@ -16,48 +17,83 @@ use Rattle.rounding.specs.Powers.{Ordered}
 use Rattle.transfer.specs.Job.{Job}
 use Rattle.transfer.specs.Checked.{Checked}
 use Rattle.transfer.specs.Rounded.{ieee}
-use Rattle.transfer.specs.Sweep.{at, forward, backward, propagated, Z, N, answer}
+use Rattle.transfer.specs.Sweep.{at, forward, scale, backward, propagated, Z, N, answer}
 use Rattle.transfer.specs.Totals.{chunkSize, chunkCount, enumeratedCount, sampledCount, square, fourth, enumerated, sampled}
+use Rattle.exactness.specs.AnyScales.{propagatedOf, ZOf, answerOf}
+use Rattle.exactness.specs.Own as Own
+use Rattle.exactness.specs.Literal.{literalForward, literalScale, literalPropagated, literalZ, literalAnswer}
 use Rattle.bounds.specs.Factors.{checked-notMinus}
 use Rattle.bounds.specs.Steps.{Finite}
-use Rattle.bounds.specs.Sweeps.{forward-beneath, backward-beneath, propagated-le, earlier-finite}
+use Rattle.bounds.specs.Sweeps.{Fair, own-fair, literal-fair, propagated-beneath, propagated-le, earlier-finite}
 use Rattle.bounds.specs.Pairs.{N-under-Z, Z-finite}
 use Rattle.bounds.specs.Chunks.{chunked-ordered, chunks-cover, configuration-lt}
 
+-- ---- vectors that follow the forward steps, at any scales without a minus sign
+module _ {J : Job Float} {F : ℕ → List Float} {f : ℕ → Float} {B : ℕ → List Float} (fair : Fair J F f B) where
+  -- A finite Z at v has finite forward vectors up to v.
+  forward-finite-of : 1 ≤ J .window → (v t : ℕ) → t ≤ v → T (finite (ZOf ieee J F f B v)) → Finite (J .window) (F t)
+  forward-finite-of wide v t l h =
+      let e : t + (v - t) ≡ v = omega arith in
+      earlier-finite fair wide t (v - t) (rw e (λ j b. Z-finite fair v h j b .0))
+
+  propagated-bounded-of : 1 ≤ J .window → (u v i j : ℕ) → T (positive (ZOf ieee J F f B v)) → u + i ≤ v → j < 2 ^ J .window
+      → T (le (abs (at ieee (propagatedOf ieee J F f B u i) j)) (at ieee (F (u + i)) j))
+  propagated-bounded-of wide u v i j p l b =
+      propagated-le fair u i j (forward-finite-of wide v (u + i) l (positive-finite (ZOf ieee J F f B v) p) j b)
+
+  correlation-under-of : (u v : ℕ) → T (positive (ZOf ieee J F f B (max u v))) → Under (answerOf ieee J F f B u v) unit
+  unfolding answerOf
+  correlation-under-of u v p = div-under binary64 (N-under-Z fair (min u v) (max u v) (le-trans (min-le-left u v) (le-max-left u v))) p
+
 -- ---- one job
 module _ (J : Job Float) (checked : Checked (λ x. T (positive x)) J) where
+  own : Fair J (forward ieee J) (scale ieee J) (backward ieee J)
+  own = own-fair J (checked-notMinus J checked)
+
   pub forward-notMinus : (t j : ℕ) → T (notMinus (at ieee (forward ieee J t) j))
-  forward-notMinus t j = forward-beneath J (checked-notMinus J checked) t j .sign
+  forward-notMinus t j = own .forwards t j .sign
 
   pub backward-notMinus : (t j : ℕ) → T (notMinus (at ieee (backward ieee J t) j))
-  backward-notMinus t j = backward-beneath J (checked-notMinus J checked) t j .sign
+  backward-notMinus t j = own .backwards t j .sign
 
   pub numerator-under : (u v : ℕ) → u ≤ v → Under (N ieee J u v) (Z ieee J v)
-  numerator-under = N-under-Z J (checked-notMinus J checked)
+  numerator-under u v l = rw (Own.N-same ieee J u v, Own.Z-same ieee J v) (N-under-Z own u v l)
 
   -- A finite Z at v has finite forward vectors up to v, and a finite backward vector at v.
   pub forward-finite : (v t : ℕ) → t ≤ v → T (finite (Z ieee J v)) → Finite (J .window) (forward ieee J t)
-  forward-finite v t l h =
-      let e : t + (v - t) ≡ v = omega arith in
-      earlier-finite J (checked .window) t (v - t) (rw e (λ j b. Z-finite J v h j b .0))
+  forward-finite v t l h = forward-finite-of own (checked .window) v t l (rw (Own.Z-same ieee J v) at h)
 
   pub backward-finite : (v : ℕ) → T (finite (Z ieee J v)) → Finite (J .window) (backward ieee J v)
-  backward-finite v h j b = Z-finite J v h j b .1
+  backward-finite v h j b = Z-finite own v (rw (Own.Z-same ieee J v) at h) j b .1
+
+  pub propagated-under : (u i j : ℕ) → Under (at ieee (propagated ieee J u i) j) (at ieee (forward ieee J (u + i)) j)
+  propagated-under u i j = rw (Own.propagated-same ieee J u i) (propagated-beneath own u i j)
 
   -- No entry of a propagated vector exceeds the forward vector's in size, up to the vertex's last pair.
   pub propagated-bounded : (u v i j : ℕ) → T (positive (Z ieee J v)) → u + i ≤ v → j < 2 ^ J .window
       → T (le (abs (at ieee (propagated ieee J u i) j)) (at ieee (forward ieee J (u + i)) j))
   propagated-bounded u v i j p l b =
-      propagated-le J (checked-notMinus J checked) u i j (forward-finite v (u + i) l (positive-finite (Z ieee J v) p) j b)
+      rw (Own.propagated-same ieee J u i) (propagated-bounded-of own (checked .window) u v i j (rw (Own.Z-same ieee J v) at p) l b)
 
   pub correlation-under : (u v : ℕ) → T (positive (Z ieee J (max u v))) → Under (answer ieee J u v) unit
-  unfolding answer
-  correlation-under u v p = div-under binary64 (numerator-under (min u v) (max u v) (le-trans (min-le-left u v) (le-max-left u v))) p
+  correlation-under u v p = rw (Own.answer-same ieee J u v) (correlation-under-of own u v (rw (Own.Z-same ieee J (max u v)) at p))
 
   -- An answer lies in [-1, 1].
   pub correlation-bounded : (u v : ℕ) → T (positive (Z ieee J (max u v)))
       → T (le (neg unit) (answer ieee J u v)) × T (le (answer ieee J u v) unit)
   correlation-bounded u v p = in-unit (correlation-under u v p)
+
+  -- ---- where no step is taken at vertex 0: the same
+  literal : Fair J (literalForward ieee J) (literalScale ieee J) (backward ieee J)
+  literal = literal-fair J (checked-notMinus J checked)
+
+  pub literal-propagated-bounded : (u v i j : ℕ) → T (positive (literalZ ieee J v)) → u + i ≤ v → j < 2 ^ J .window
+      → T (le (abs (at ieee (literalPropagated ieee J u i) j)) (at ieee (literalForward ieee J (u + i)) j))
+  literal-propagated-bounded = propagated-bounded-of literal (checked .window)
+
+  pub literal-correlation-bounded : (u v : ℕ) → T (positive (literalZ ieee J (max u v)))
+      → T (le (neg unit) (literalAnswer ieee J u v)) × T (le (literalAnswer ieee J u v) unit)
+  literal-correlation-bounded u v p = in-unit (correlation-under-of literal u v p)
 
 -- ---- totals: the fourth powers' is at least zero, at most the squares', and that at most the count
 pub enumerated-bounded : (free : ℕ) (c : ℕ → Float) → free ≤ 53 → Each (2 ^ free) (λ x. Under (c x) unit)

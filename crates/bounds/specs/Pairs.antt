@@ -1,6 +1,7 @@
 -- N and Z of a pair as rounded sums: N is under Z, whatever overflows, and a finite Z has finite vectors.
 use mathlib.Core.Path.{_≡_, refl, ap}
 use mathlib.Core.Bool.{Bool, cond}
+use mathlib.Core.List.{List}
 use Prim.Native.Nat.{ℕ, zero, suc, _+_, _-_, _^_, _≤_}
 use native.Mathlib.Omega.{arith}
 use lib.Dec.{T, ltb}
@@ -12,9 +13,9 @@ use Rattle.rounding.specs.Sums.{Each, total, signed, total-finite, signed-under
 use Rattle.transfer.specs.Job.{Job}
 use Rattle.transfer.specs.Arithmetic.{sum, signedSum}
 use Rattle.transfer.specs.Rounded.{ieee}
-use Rattle.transfer.specs.Sweep.{at, forward, backward, Z, N, directN, propagatedN}
-use Rattle.bounds.specs.Factors.{EdgesNotMinus}
-use Rattle.bounds.specs.Sweeps.{forward-beneath, backward-beneath, propagated-beneath}
+use Rattle.transfer.specs.Sweep.{at}
+use Rattle.exactness.specs.AnyScales.{NOf, ZOf, directNOf, propagatedNOf}
+use Rattle.bounds.specs.Sweeps.{Fair, propagated-beneath}
 
 -- The sums of the definition are those that the laws of rounding speak of.
 pub sum-is : (n : ℕ) (f : ℕ → Float) → sum ieee n f ≡ total binary64 f n
@@ -32,24 +33,23 @@ signedSum-under : (n : ℕ) (minus : ℕ → Bool) (f g : ℕ → Float) → Eac
     → Under (signedSum ieee n minus f) (sum ieee n g)
 signedSum-under n minus f g h = rw (signedSum-is n minus f, sum-is n g) (signed-under binary64 minus f g n h)
 
--- With no condition on overflow: `Under` says nothing of a Z that is not finite.
-pub N-under-Z : (J : Job Float) → EdgesNotMinus (J .edges) → (u v : ℕ) → u ≤ v → Under (N ieee J u v) (Z ieee J v)
-unfolding N Z directN propagatedN
-N-under-Z J fair u v l =
-    let e : u + (v - u) ≡ v = omega arith in
-    let near = forward-beneath J fair v in
-    let far = rw e at (propagated-beneath J fair u (v - u)) in
-    let b = backward-beneath J fair v in
-    either-under (ltb (v - u) (J .window))
-    (signedSum-under (2 ^ J .window) _ _ _ (λ j _. mul-under binary64 (near j) (b j)))
-    (signedSum-under (2 ^ J .window) _ _ _ (λ j _. mul-under binary64 (far j) (b j)))
+module _ {J : Job Float} {F : ℕ → List Float} {f : ℕ → Float} {B : ℕ → List Float} (fair : Fair J F f B) where
+  -- With no condition on overflow: `Under` says nothing of a Z that is not finite.
+  pub N-under-Z : (u v : ℕ) → u ≤ v → Under (NOf ieee J F f B u v) (ZOf ieee J F f B v)
+  unfolding NOf ZOf directNOf propagatedNOf
+  N-under-Z u v l =
+      let e : u + (v - u) ≡ v = omega arith in
+      let near = fair .forwards v in
+      let far = rw e at (propagated-beneath fair u (v - u)) in
+      let b = fair .backwards v in
+      either-under (ltb (v - u) (J .window))
+      (signedSum-under (2 ^ J .window) _ _ _ (λ j _. mul-under binary64 (near j) (b j)))
+      (signedSum-under (2 ^ J .window) _ _ _ (λ j _. mul-under binary64 (far j) (b j)))
 
--- A finite Z has a finite forward and a finite backward vector at its vertex.
-pub Z-finite : (J : Job Float) (v : ℕ) → T (finite (Z ieee J v))
-    → Each (2 ^ J .window) (λ j. T (finite (at ieee (forward ieee J v) j)) × T (finite (at ieee (backward ieee J v) j)))
-unfolding Z
-Z-finite J v h j l =
-    let f = at ieee (forward ieee J v) in
-    let b = at ieee (backward ieee J v) in
-    let t : ℕ → Float = λ i. mul binary64 (f i) (b i) in
-    mul-finite binary64 (f j) (b j) (total-finite binary64 t (2 ^ J .window) (rw (sum-is (2 ^ J .window) t) at h) j l)
+  -- A finite Z has a finite forward and a finite backward vector at its vertex.
+  pub Z-finite : (v : ℕ) → T (finite (ZOf ieee J F f B v))
+      → Each (2 ^ J .window) (λ j. T (finite (at ieee (F v) j)) × T (finite (at ieee (B v) j)))
+  unfolding ZOf
+  Z-finite v h j l =
+      let t : ℕ → Float = λ i. mul binary64 (at ieee (F v) i) (at ieee (B v) i) in
+      mul-finite binary64 (at ieee (F v) j) (at ieee (B v) j) (total-finite binary64 t (2 ^ J .window) (rw (sum-is (2 ^ J .window) t) at h) j l)

@@ -1,5 +1,6 @@
--- The vectors of the sweeps: no entry of a forward or backward vector has a minus sign, a propagated vector stays under the forward
--- vector, and a finite forward vector has finite ones before it.
+-- The vectors of the sweeps: no entry of a forward or backward vector has a minus sign. Of vectors that follow the forward steps with any
+-- scales: a propagated vector stays under the forward vector, and a finite forward vector has finite ones before it.
+use mathlib.Core.Path.{_≡_, refl}
 use mathlib.Core.List.{List}
 use Prim.Native.Nat.{ℕ, zero, suc, _+_, _-_, _^_, _≤_}
 use native.Mathlib.Nat.{add-zero, add-suc}
@@ -12,7 +13,9 @@ use Rattle.vector.specs.Bits.{bit}
 use Rattle.transfer.specs.Job.{Job, stepOf}
 use Rattle.transfer.specs.Rounded.{ieee}
 use Rattle.transfer.specs.Sweep.{at, alternate, forwardStep, sweepForward, beforeStep, forward, scale}
-use Rattle.transfer.specs.Sweep.{backwardStep, sweepBackward, afterSteps, backward, propagated}
+use Rattle.transfer.specs.Sweep.{backwardStep, sweepBackward, afterSteps, backward}
+use Rattle.exactness.specs.AnyScales.{propagatedOf}
+use Rattle.exactness.specs.Literal.{literally, literalForward, literalScale}
 use Rattle.bounds.specs.Factors.{EdgesNotMinus, StepNotMinus, stepOf-notMinus}
 use Rattle.bounds.specs.Steps.{Beneath, Finite, tabulate-entry, start-beneath, forwardStep-beneath, backwardStep-beneath}
 use Rattle.bounds.specs.Steps.{stored-notMinus, forwardStep-finite}
@@ -64,30 +67,56 @@ module _ (J : Job Float) (fair : EdgesNotMinus (J .edges)) where
   unfolding backward
   backward-beneath t = afterSteps-notMinus (J .last - t) .entries
 
-  -- ---- propagation: the forward vectors take the same steps, by the same scales
-  step-beneath : (t : ℕ) (g : List Float) → Beneath g (forward ieee J t)
-      → Beneath (forwardStep ieee (J .window) (stepOf J (suc t)) (scale ieee J (suc t)) g) (forward ieee J (suc t))
-  unfolding forward scale
-  step-beneath t g h =
-      let s = beforeStep ieee J (suc t) in
-      forwardStep-beneath (J .window) (stepOf J (suc t)) (scale ieee J (suc t)) (multipliers (suc t) s (beforeStep-notMinus (suc t))) g (s .0) h
+-- ---- vectors that follow the forward steps, at any scales without a minus sign
 
-  pub propagated-beneath : (u i : ℕ) → Beneath (propagated ieee J u i) (forward ieee J (u + i))
-  unfolding propagated
-  propagated-beneath u zero = rw add-zero (alternate-beneath (J .window) (forward ieee J u) (forward-beneath u))
-  propagated-beneath u (suc i) = rw add-suc (step-beneath (u + i) (propagated ieee J u i) (propagated-beneath u i))
+-- F t and B t are forward and backward vectors at vertex t without a minus sign; the forward step at t takes the scale f t.
+pub record Fair (J : Job Float) (F : ℕ → List Float) (f : ℕ → Float) (B : ℕ → List Float) : Type 0 where
+  pub forwards : (t : ℕ) → Beneath (F t) (F t)
+  pub backwards : (t : ℕ) → Beneath (B t) (B t)
+  pub steps : (t : ℕ) → StepNotMinus (stepOf J (suc t)) (f (suc t))
+  pub stepped : (t : ℕ) → F (suc t) ≡ forwardStep ieee (J .window) (stepOf J (suc t)) (f (suc t)) (F t)
+
+-- the definition's own
+pub own-fair : (J : Job Float) → EdgesNotMinus (J .edges) → Fair J (forward ieee J) (scale ieee J) (backward ieee J)
+unfolding forward scale
+own-fair J fair = record {
+  forwards = forward-beneath J fair;
+  backwards = backward-beneath J fair;
+  steps = λ t. multipliers J fair (suc t) (beforeStep ieee J (suc t)) (beforeStep-notMinus J fair (suc t));
+  stepped = λ t. refl;
+}
+
+-- those of the literal reading, which takes no step at vertex 0
+pub literal-fair : (J : Job Float) → EdgesNotMinus (J .edges) → Fair J (literalForward ieee J) (literalScale ieee J) (backward ieee J)
+unfolding literally literalForward literalScale sweepForward
+literal-fair J fair = record {
+  forwards = λ t. literally-notMinus t .entries;
+  backwards = backward-beneath J fair;
+  steps = λ t. multipliers J fair (suc t) (literally ieee J t) (literally-notMinus t);
+  stepped = λ t. refl;
+}
+  where
+    literally-notMinus : (t : ℕ) → SweptNotMinus (literally ieee J t)
+    literally-notMinus zero = record { entries = start-beneath (J .window); largest = tt }
+    literally-notMinus (suc t) = sweepForward-notMinus J fair (suc t) (literally ieee J t) (literally-notMinus t)
+
+module _ {J : Job Float} {F : ℕ → List Float} {f : ℕ → Float} {B : ℕ → List Float} (fair : Fair J F f B) where
+  -- propagated vectors take the same steps, by the same scales
+  pub propagated-beneath : (u i : ℕ) → Beneath (propagatedOf ieee J F f B u i) (F (u + i))
+  unfolding propagatedOf
+  propagated-beneath u zero = rw add-zero (alternate-beneath (J .window) (F u) (fair .forwards u))
+  propagated-beneath u (suc i) =
+      rw (add-suc u i, fair .stepped (u + i))
+      (forwardStep-beneath (J .window) (stepOf J (suc (u + i))) (f (suc (u + i))) (fair .steps (u + i)) (propagatedOf ieee J F f B u i) (F (u + i)) (propagated-beneath u i))
 
   -- By the comparisons of a program, where the forward entry is finite.
-  pub propagated-le : (u i j : ℕ) → T (finite (at ieee (forward ieee J (u + i)) j))
-      → T (le (abs (at ieee (propagated ieee J u i) j)) (at ieee (forward ieee J (u + i)) j))
+  pub propagated-le : (u i j : ℕ) → T (finite (at ieee (F (u + i)) j)) → T (le (abs (at ieee (propagatedOf ieee J F f B u i) j)) (at ieee (F (u + i)) j))
   propagated-le u i j k = under-le (abs-under (propagated-beneath u i j)) k
 
--- ---- finite vectors
-module _ (J : Job Float) (wide : 1 ≤ J .window) where
-  before-finite : (t : ℕ) → Finite (J .window) (forward ieee J (suc t)) → Finite (J .window) (forward ieee J t)
-  unfolding forward scale
-  before-finite t h = forwardStep-finite (J .window) (stepOf J (suc t)) (scale ieee J (suc t)) (forward ieee J t) wide h
+  -- a finite vector came from finite ones
+  before-finite : 1 ≤ J .window → (t : ℕ) → Finite (J .window) (F (suc t)) → Finite (J .window) (F t)
+  before-finite wide t h = forwardStep-finite (J .window) (stepOf J (suc t)) (f (suc t)) (F t) wide (rw (fair .stepped t) at h)
 
-  pub earlier-finite : (t i : ℕ) → Finite (J .window) (forward ieee J (t + i)) → Finite (J .window) (forward ieee J t)
-  earlier-finite t zero h = rw add-zero at h
-  earlier-finite t (suc i) h = earlier-finite t i (before-finite (t + i) (rw add-suc at h))
+  pub earlier-finite : 1 ≤ J .window → (t i : ℕ) → Finite (J .window) (F (t + i)) → Finite (J .window) (F t)
+  earlier-finite wide t zero h = rw add-zero at h
+  earlier-finite wide t (suc i) h = earlier-finite wide t i (before-finite wide (t + i) (rw add-suc at h))

@@ -1,18 +1,18 @@
 -- What an answer that was told says of the refusal's number and of the references.
-use mathlib.Core.Path.{_≡_, refl, ap, _∙_, subst}
+use mathlib.Core.Path.{_≡_, ap, _∙_, subst}
 use mathlib.Core.Bool.{Bool}
 use mathlib.Core.List.{List}
-use Prim.Native.Nat.{ℕ, zero, suc}
+use Prim.Native.Nat.{ℕ}
 use lib.Ieee.{Float}
 use lib.ListN.{length}
 use Rattle.vector.specs.Front.{over}
 use Rattle.checks.specs.Edges as Edges
 use Rattle.checks.specs.Answers.{answered, left}
 use Rattle.checks.specs.declared.Answer.{Answer}
-use Rattle.lattice.specs.Graphs.{Set, Distanced}
+use Rattle.lattice.specs.Graphs.{Set}
+use Rattle.lattice.specs.Reached.{Distanced}
 use Rattle.lattice.specs.declared.graph.Made.{Made}
 use Rattle.lattice.specs.declared.graph.Reached.{Reached}
-use Rattle.lattice.specs.declared.graph.Reached.the-variants.{Length, NotJoined, Refused}
 use Rattle.glass.specs.declared.Manner.{Manner}
 use Rattle.strip.specs.declared.strip.Strip.{Strip}
 use Rattle.bonds.specs.Edges.{edges, earlyEnds, lateEnds}
@@ -94,11 +94,6 @@ kept-told k n floor es {window = window} {count = count} q t =
 
 -- ---- the distance of two vertices
 
-pub distance-told : (k : ℕ) (early late : List ℕ) (u v : ℕ) (a : Reached) {r : ℕ} {joined joined′ : Bool} {length length′ : ℕ} → Distanced k early late u v a
-    → Distances.Tells a r joined joined′ length length′ → Told k early late u v r joined joined′ length length′
-distance-told zero early late u v (Length d) q t = rw (t .number, t .joins, t .long) record { answer = refl; told = q; held = refl }
-distance-told zero early late u v NotJoined q t = rw (t .number, t .joins, t .long) record { answer = refl; told = q; held = refl }
-distance-told zero early late u v (Refused i) q t = absurd q
-distance-told (suc k) early late u v a q t =
-    let e = rw q at t in
-    rw (e .number, e .joins, e .long) record { answer = refl; told = refl; held = (refl, refl) }
+pub distance-told : (k : ℕ) (early late : List ℕ) (u v : ℕ) (a : Reached) {r : ℕ} {joined joined′ : Bool} {edges edges′ : ℕ} → Distanced k early late u v a
+    → Distances.Tells a r joined joined′ edges edges′ → Told k early late u v r joined joined′ edges edges′
+distance-told k early late u v a q t = record { number = t .number ∙ q .number; answer = a; right = q; tells = t }

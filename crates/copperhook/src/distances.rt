@@ -6,8 +6,8 @@ ghost use Rattle.checks.specs.Refusal.{refusal, ofDistance};
 ghost use Rattle.copperhook.specs.Distances.{Told};
 use told::tell_distance;
 
-// As `lattice::distance`: `joined` tells whether a walk leads from u to v, and `length` the least number of its edges. Where the call is
-// refused both keep what they held, and where no walk leads there `length` does.
+// As `lattice::distance`: `joined` tells whether a walk leads from u to v, and `edges` the least number of its edges. Where the call is
+// refused both keep what they held, and where no walk leads there `edges` does.
 #[no_mangle]
 pub extern "C" fn copperhook_distance(
     n: usize,
@@ -17,12 +17,12 @@ pub extern "C" fn copperhook_distance(
     u: usize,
     v: usize,
     joined: &mut bool,
-    length: &mut usize,
+    edges: &mut usize,
 ) -> usize
     ensures { λ r. ⌜ Told (refusal ofDistance (distanceRequest n (now (a .entry)) (now (b .entry)) (now (m .entry)) u v))
         (earlyEnds (kept (now (a .entry)) (now (b .entry)) (now (m .entry)))) (lateEnds (kept (now (a .entry)) (now (b .entry)) (now (m .entry))))
-        u v r (now (joined .entry)) (now (joined .exit)) (now (length .entry)) (now (length .exit)) ⌝ }
+        u v r (now (joined .entry)) (now (joined .exit)) (now (edges .entry)) (now (edges .exit)) ⌝ }
 {
     let answer = lattice::distance(n, a, b, m, u, v);
-    tell_distance(answer, joined, length)
+    tell_distance(answer, joined, edges)
 }

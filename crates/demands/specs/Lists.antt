@@ -1,11 +1,14 @@
--- Facts of every edge of a list that is made by index.
-use mathlib.Core.Path.{_≡_, refl}
+-- Facts of every entry of a list that is made by index.
+use mathlib.Core.Path.{_≡_, ap, _∙_}
 use mathlib.Core.List.{List, [], _∷_, _++_}
 use Prim.Native.Nat.{ℕ, zero, suc, _<_}
 use native.Mathlib.Omega.{arith}
-use Rattle.vector.specs.Tabulate.{tabulate}
+use lib.Ieee.{Float, nan}
+use lib.ListN.{getD}
+use Rattle.vector.specs.Tabulate.{tabulate, tabulate-at}
 use Rattle.transfer.specs.Job.{Edge}
 use Rattle.transfer.specs.Checked.{All, SameEnds, Apart}
+use Rattle.glass.specs.Correlations.{settled}
 
 module _ {A : Type 0} (P : A → Type 0) where
   all-more : (xs : List A) (x : A) → All P xs → P x → All P (xs ++ (x ∷ []))
@@ -28,3 +31,10 @@ module _ {K : Type 0} where
   apart-made f zero h = tt
   apart-made f (suc n) h =
       apart-more (tabulate f n) (f n) (apart-made f n (λ i j k l. h i j k (omega arith))) (all-made (λ x. SameEnds x (f n) → ⊥) f n (λ i l. h i n l (omega arith)))
+
+-- the list that an accepted call leaves, by index
+pub settled-at : (refused : ℕ) (f : ℕ → Float) (size : ℕ) (old new : List Float) → refused ≡ 0 → new ≡ settled refused (tabulate f size) old
+    → (k : ℕ) → k < size → getD new k nan ≡ f k
+unfolding settled
+settled-at refused f size old new accepted is k l =
+    ap (λ (x : List Float). getD x k nan) (is ∙ ap (λ (r : ℕ). settled r (tabulate f size) old) accepted) ∙ tabulate-at f size k nan l

@@ -84,7 +84,7 @@ fn settle(early: &[usize], late: &[usize], d: &mut [usize])
 }
 
 // 1024 stands for a length that is not known: a shortest walk meets no vertex twice, so it has fewer edges.
-pub fn distance(early: &[usize], late: &[usize], u: usize, v: usize) -> Reach
+pub fn shortest_walk(early: &[usize], late: &[usize], u: usize, v: usize) -> Reach
     requires { ⌜ (length (now late) ≡ length (now early)) × Inside (now early) (now late) 1024 × (u < 1024) × (v < 1024) ⌝ }
     ensures { λ r. ⌜ Distance (now (early .entry)) (now (late .entry)) u v r ⌝ }
 {

@@ -16,7 +16,7 @@ use bonds::falling;
 use bonds::rising;
 use bonds::wrap;
 use strip::Strip;
-use strip::n;
+use strip::vertex_count;
 
 fn size(b: Bond) -> usize
     ensures { λ r. ⌜ (r ≡ length (listed b)) × (r ≤ 1) ⌝ }
@@ -43,7 +43,7 @@ pub fn count_edges(s: Strip) -> usize
     ensures { λ r. ⌜ r ≡ length (edges s) ⌝ }
 {
     let w = s.w;
-    let sites = n(w, s.l);
+    let sites = vertex_count(w, s.l);
     let mut k: usize = 0;
     let mut v: usize = 0;
     while v < sites {
@@ -93,7 +93,7 @@ pub fn write_edges(s: Strip, early: &mut [usize], late: &mut [usize], mag: &mut 
     ensures { λ r. ⌜ Written (edges s) (length (edges s)) (now (early .entry)) (now (early .exit)) (now (late .entry)) (now (late .exit)) (now (mag .entry)) (now (mag .exit)) ⌝ }
 {
     let w = s.w;
-    let sites = n(w, s.l);
+    let sites = vertex_count(w, s.l);
     let mut k: usize = 0;
     let mut v: usize = 0;
     while v < sites {

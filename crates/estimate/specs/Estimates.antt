@@ -8,6 +8,7 @@ use lib.Ieee.{Float, binary64, lt, le, ofInt, ofBits}
 use Rattle.transfer.specs.Arithmetic.{Ops}
 use Rattle.transfer.specs.Rounded.{ieee}
 use Rattle.root.specs.Sqrt.{sqrt}
+use Rattle.estimate.specs.declared.answer.MeanError.{MeanError}
 use Rattle.estimate.specs.declared.answer.Estimate.{Estimate}
 use Rattle.estimate.specs.declared.answer.Estimate.the-variants.{Estimated, TooFew, Refused}
 open Ops ieee using (_⊖_, _⊗_, _⊘_)
@@ -39,17 +40,36 @@ atLeastZero v = cond (lt +0·0 v) v +0·0
 abbrev pub errorOf : Float → Float → Float → Float
 errorOf n squares fourths = sqrt binary64 (atLeastZero (varianceOf n squares fourths) ⊘ n)
 
+-- the record of mean and standard error
+abbrev pub meanErrorOf : Float → Float → Float → MeanError
+meanErrorOf n squares fourths = record { mean = meanOf n squares; error = errorOf n squares fourths }
+
+-- the count is 0 or above 2 ^ 53
+abbrev pub badCount : ℕ → Bool
+badCount count = eqb count 0 || ltb (2 ^ 53) count
+
 -- 0 ≤ fourth powers ≤ squares ≤ count; a NaN fails it
 abbrev pub inOrder : Float → Float → Float → Bool
 inOrder n squares fourths = le +0·0 fourths && le fourths squares && le squares n
 
 -- check 18
 abbrev pub refuses : ℕ → Float → Float → Bool
-refuses count squares fourths = eqb count 0 || ltb (2 ^ 53) count || not (inOrder (number count) squares fourths)
+refuses count squares fourths = badCount count || not (inOrder (number count) squares fourths)
 
 unfoldable pub estimateOf : ℕ → Float → Float → Estimate
 estimateOf count squares fourths =
     let n = number count in
     cond (refuses count squares fourths) (Refused 18)
     (cond (eqb count 1) (TooFew (meanOf n squares))
-    (Estimated (record { mean = meanOf n squares; error = errorOf n squares fourths })))
+    (Estimated (meanErrorOf n squares fourths)))
+
+-- what an estimate leaves where a mean is to stand, and where an error is: what is there already where it has none
+abbrev pub meanIn : Estimate → Float → Float
+meanIn (Estimated e) old = e .mean
+meanIn (TooFew mean) old = mean
+meanIn (Refused k) old = old
+
+abbrev pub errorIn : Estimate → Float → Float
+errorIn (Estimated e) old = e .error
+errorIn (TooFew mean) old = old
+errorIn (Refused k) old = old

@@ -1,3 +1,4 @@
 pub mod Estimates
-pub mod Examples
+pub mod Cases
+pub mod Counted
 pub mod Controls

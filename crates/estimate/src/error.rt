@@ -1,6 +1,7 @@
-// The standard error of a mean, and the order that its sums must have.
+// The mean of a total, and its standard error.
 ghost use mathlib.Core.Path.{_≡_};
-ghost use Rattle.estimate.specs.Estimates.{atLeastZero, errorOf, inOrder};
+ghost use Rattle.estimate.specs.Estimates.{atLeastZero, errorOf, meanErrorOf};
+use crate::MeanError;
 use root::sqrt;
 
 // A variance below zero is one that rounding has made; -0.0 is none.
@@ -10,7 +11,7 @@ fn at_least_zero(v: f64) -> f64
     if 0.0 < v { v } else { 0.0 }
 }
 
-pub fn error_of(n: f64, squares: f64, fourths: f64) -> f64
+fn error_of(n: f64, squares: f64, fourths: f64) -> f64
     ensures { λ r. ⌜ r ≡ errorOf n squares fourths ⌝ }
 {
     let m = squares / n;
@@ -18,13 +19,12 @@ pub fn error_of(n: f64, squares: f64, fourths: f64) -> f64
     sqrt(at_least_zero(variance) / n)
 }
 
-pub fn in_order(n: f64, squares: f64, fourths: f64) -> bool
-    ensures { λ r. ⌜ r ≡ inOrder n squares fourths ⌝ }
+// For two configurations or more.
+pub fn mean_error(n: f64, squares: f64, fourths: f64) -> MeanError
+    ensures { λ r. ⌜ r ≡ meanErrorOf n squares fourths ⌝ }
 {
-    if 0.0 <= fourths {
-        if fourths <= squares {
-            return squares <= n;
-        }
+    MeanError {
+        mean: squares / n,
+        error: error_of(n, squares, fourths),
     }
-    false
 }

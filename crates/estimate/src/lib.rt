@@ -4,22 +4,18 @@ ghost use Rattle.estimate.specs.Estimates.{estimateOf};
 
 mod answer;
 mod error;
+mod order;
 
 pub use answer::Estimate;
 pub use answer::MeanError;
-use error::error_of;
-use error::in_order;
-
-// Up to 2^53 every count is a double.
-const MOST: usize = 0x0020_0000_0000_0000;
+use error::mean_error;
+pub use order::bad_count;
+pub use order::in_order;
 
 pub fn estimate(count: usize, squares: f64, fourths: f64) -> Estimate
     ensures { λ r. ⌜ r ≡ estimateOf count squares fourths ⌝ }
 {
-    if count == 0 {
-        return Estimate::Refused(18);
-    }
-    if MOST < count {
+    if bad_count(count) {
         return Estimate::Refused(18);
     }
     let n = count as f64;
@@ -29,8 +25,5 @@ pub fn estimate(count: usize, squares: f64, fourths: f64) -> Estimate
     if count == 1 {
         return Estimate::TooFew(squares / n);
     }
-    Estimate::Estimated(MeanError {
-        mean: squares / n,
-        error: error_of(n, squares, fourths),
-    })
+    Estimate::Estimated(mean_error(n, squares, fourths))
 }

@@ -12,8 +12,9 @@ use Rattle.transfer.specs.Arithmetic.{Ops}
 use Rattle.transfer.specs.Job.{Edge, perElement, Job}
 use Rattle.transfer.specs.Checked.{All, Kept, SameEnds, Apart, Checked}
 use Rattle.transfer.specs.Sweep.{answer}
-use Rattle.exactness.specs.Textbook.{textbook}
-use Rattle.exactness.specs.Exactness.{exactly}
+use Rattle.exactness.specs.Textbook.{partitionSum, textbook}
+use Rattle.exactness.specs.Exactness.{exactly, partition-sum-positive}
+use Rattle.exactness.specs.Literal.{literalAnswer, exactly-literal}
 use Rattle.exactness.specs.Algebra.{Laws, Pos}
 
 abbrev pub rational : Ops
@@ -95,13 +96,22 @@ apart : (es : List (Edge Float)) → Apart es → Apart (map edgeAtValue es)
 apart [] h = tt
 apart (e ∷ es) h = (other-ends e es (h .0), apart es (h .1))
 
-checked-values : (J : Job Float) → Checked (λ x. T (positive x)) J → Checked (Pos rational) (atValues J)
+pub checked-values : (J : Job Float) → Checked (λ x. T (positive x)) J → Checked (Pos rational) (atValues J)
 checked-values J ok = record { window = ok .window; edges = kept J (J .edges) (ok .edges); apart = apart (J .edges) (ok .apart) }
 
 -- The theorem for a job of doubles.
 pub exact-answer-of-doubles : (J : Job Float) → Checked (λ x. T (positive x)) J
     → (u v : ℕ) → (u ≡ v → ⊥) → u ≤ J .last → v ≤ J .last → answer rational (atValues J) u v ≡ textbook rational (atValues J) u v
 exact-answer-of-doubles J ok = exact-answer (atValues J) (checked-values J ok)
+
+-- The same where no step is taken at vertex 0.
+pub literal-answer-of-doubles : (J : Job Float) → Checked (λ x. T (positive x)) J
+    → (u v : ℕ) → (u ≡ v → ⊥) → u ≤ J .last → v ≤ J .last → literalAnswer rational (atValues J) u v ≡ textbook rational (atValues J) u v
+literal-answer-of-doubles J ok = exactly-literal rational (atValues J) rational-laws (checked-values J ok)
+
+-- The ratio's sum of weights is above zero: the fractions' inverse of zero, which is zero, does not come in.
+pub partition-sum-of-doubles : (J : Job Float) → Checked (λ x. T (positive x)) J → Posℚ (partitionSum rational (atValues J))
+partition-sum-of-doubles J ok = above _ (partition-sum-positive rational rational-laws (atValues J) (checked-values J ok))
 
 -- ---- examples, every factor 2: two vertices with an edge, window 1; and the square 2 by 2, its opposite corners
 

@@ -1,25 +1,25 @@
 -- In exact arithmetic the sweeps' answer is the textbook ratio: in either manner, for the ends of a pair in either order, in any window that
 -- reaches every edge, and with any scales above zero. The modules below hold the proof, one idea each.
-use mathlib.Core.Path.{_≡_, refl, _∙_, ap₂}
+use mathlib.Core.Path.{_≡_, _∙_, ap₂}
 use mathlib.Core.List.{List}
-use Prim.Native.Nat.{ℕ, zero, suc, _≤_, _<_, min, max}
+use Prim.Native.Nat.{ℕ, suc, _≤_, _<_, min, max}
 use native.Mathlib.Omega.{arith}
 use native.Mathlib.Decide.{decLt}
 use native.Mathlib.Nat.{min-eq-left, min-eq-right, max-eq-left, max-eq-right}
 use Rattle.transfer.specs.Arithmetic.{Ops}
 use Rattle.transfer.specs.Job.{Job}
 use Rattle.transfer.specs.Checked.{Checked}
-use Rattle.transfer.specs.Sweep.{Swept, start, sweepForward, backward, answer}
-use Rattle.exactness.specs.Textbook.{textbook}
+use Rattle.transfer.specs.Sweep.{answer}
+use Rattle.exactness.specs.Textbook.{partitionSum, textbook}
+use Rattle.exactness.specs.Settings as Settings
 use Rattle.exactness.specs.Positive as Positive
 use Rattle.exactness.specs.Pair as Pair
 use Rattle.exactness.specs.Own as Own
-use Rattle.exactness.specs.Start as Start
 use Rattle.exactness.specs.Algebra.{Laws, Pos}
 use Rattle.exactness.specs.AnyScales.{Scaled, NOf, ZOf, answerOf}
 
 module _ (O : Ops) where
-  open Ops O using (K, 𝟙, _⊘_)
+  open Ops O using (K, _⊘_)
 
   infixl 70 _⊘_
   -- The answer read off any vectors that follow the job's steps, with any scales above zero.
@@ -44,49 +44,6 @@ module _ (O : Ops) where
       → (u v : ℕ) → (u ≡ v → ⊥) → u ≤ J .last → v ≤ J .last → answer O J u v ≡ textbook O J u v
   exactly L J ok u v differ k l = Own.answer-same O J u v ∙ exactly-scaled L J ok (Own.sweeps O J L ok) u v differ k l
 
-  -- ---- the literal reading of "the forward vector at vertex 0 is the start": steps run from vertex 1 on
-
-  module _ (J : Job K) where
-    -- The forward vector at t, with the stored largest entry after the step at t.
-    unfoldable pub literally : ℕ → Swept O J
-    literally zero = (start O (J .window), 𝟙)
-    literally (suc t) = sweepForward O J (suc t) (literally t)
-
-    unfoldable pub literalForward : ℕ → List K
-    literalForward t = (literally t) .0
-
-    -- The scale of the step at t, 1.0 at first. No step takes the one at 0: with one half a step there would leave the start as it is.
-    unfoldable pub literalScale : ℕ → K
-    literalScale zero = Start.oneHalf O
-    literalScale (suc t) = 𝟙 ⊘ (literally t) .1
-
-    unfoldable pub literalAnswer : ℕ → ℕ → K
-    literalAnswer u v = answerOf O J literalForward literalScale (backward O J) u v
-
-    module _ (L : Laws O) (ok : Checked (Pos O) J) where
-      open Laws L using (pos-inv)
-
-      literally-positive : (t : ℕ) → Positive.PositiveSwept O L J ok (literally t)
-      unfolding literally
-      literally-positive zero = Positive.start-pos O L J ok
-      literally-positive (suc t) = Positive.forward-pos O L J ok (suc t) _ (literally-positive t)
-
-      literal-sweeps : Scaled O J literalForward literalScale (backward O J) (Own.backwardScale O J)
-      unfolding literally literalForward literalScale sweepForward
-      literal-sweeps = record {
-        first = Start.start-stays O L J ok;
-        later = λ t. refl;
-        final = Own.final O J;
-        earlier = Own.earlier O J;
-        forward-positive = scale-positive;
-        backward-positive = Own.backward-positive O J L ok;
-      }
-        where
-          scale-positive : (t : ℕ) → Pos O (literalScale t)
-          scale-positive zero = Start.half-positive O L J ok
-          scale-positive (suc t) = pos-inv _ (literally-positive t .kept)
-
-      -- Its exact answer is the same.
-      pub exactly-literal : (u v : ℕ) → (u ≡ v → ⊥) → u ≤ J .last → v ≤ J .last → literalAnswer u v ≡ textbook O J u v
-      unfolding literalAnswer
-      exactly-literal u v differ k l = exactly-scaled L J ok literal-sweeps u v differ k l
+  -- The sum of weights is above zero, so the ratio is one of numbers.
+  pub partition-sum-positive : (L : Laws O) (J : Job K) → Checked (Pos O) J → Pos O (partitionSum O J)
+  partition-sum-positive L J ok = Settings.over-pos O L (suc (J .last)) _ (Positive.weight-pos O L J ok (J .edges) (ok .edges))

@@ -13,4 +13,5 @@ pub mod Pair
 pub mod Own
 pub mod Start
 pub mod Exactness
+pub mod Literal
 pub mod Exact

@@ -25,12 +25,12 @@ module _ (O : Ops) (J : Job (O .K)) where
   abbrev own : ℕ → ℕ → List K
   own = propagatedOf O J (forward O J) (scale O J) (backward O J)
 
-  propagated-same : (u i : ℕ) → propagated O J u i ≡ own u i
+  pub propagated-same : (u i : ℕ) → propagated O J u i ≡ own u i
   unfolding propagated propagatedOf
   propagated-same u zero = refl
   propagated-same u (suc i) = ap (forwardStep O (J .window) (stepOf J (u + suc i)) (scale O J (u + suc i))) (propagated-same u i)
 
-  Z-same : (v : ℕ) → Z O J v ≡ ZOf O J (forward O J) (scale O J) (backward O J) v
+  pub Z-same : (v : ℕ) → Z O J v ≡ ZOf O J (forward O J) (scale O J) (backward O J) v
   unfolding Z ZOf
   Z-same v = refl
 
@@ -43,7 +43,7 @@ module _ (O : Ops) (J : Job (O .K)) where
   far-same u v =
       ap (λ g. signedSum O (2 ^ J .window) (λ j. bit 0 j) (λ j. at O g j ⊗ at O (backward O J v) j)) (propagated-same u (v - u))
 
-  N-same : (u v : ℕ) → N O J u v ≡ NOf O J (forward O J) (scale O J) (backward O J) u v
+  pub N-same : (u v : ℕ) → N O J u v ≡ NOf O J (forward O J) (scale O J) (backward O J) u v
   unfolding N NOf
   N-same u v = ap₂ (cond (ltb (v - u) (J .window))) (direct-same u v) (far-same u v)
 

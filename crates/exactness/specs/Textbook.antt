@@ -34,8 +34,11 @@ module _ (O : Ops) where
   weight [] s = 𝟙
   weight (e ∷ es) s = cond (Bool·beq (s (e .early)) (s (e .late))) (e .factor) (𝟙 ⊘ e .factor) ⊗ weight es s
 
+  -- The sum of weights.
+  abbrev pub partitionSum : Job K → K
+  partitionSum J = overSettings (suc (J .last)) (weight (J .edges))
+
   -- The sum of weights times both spins of the pair is divided by the sum of weights.
   unfoldable pub textbook : Job K → ℕ → ℕ → K
   unfolding overSettings weight
-  textbook J u v =
-      overSettings (suc (J .last)) (λ s. weight (J .edges) s ⊗ (spin s u ⊗ spin s v)) ⊘ overSettings (suc (J .last)) (weight (J .edges))
+  textbook J u v = overSettings (suc (J .last)) (λ s. weight (J .edges) s ⊗ (spin s u ⊗ spin s v)) ⊘ partitionSum J

@@ -2,7 +2,7 @@
 ghost use Rattle.totals.specs.Calls.{Enumerated};
 use crate::job::enumerate_job;
 use checks::Answer;
-use forest::cyclomatic;
+use forest::count_free_edges;
 use glass::Manner;
 use glass::is_each;
 use lent::check_enumeration;
@@ -55,7 +55,7 @@ pub fn exhaustive(
     }
     let w = job.window;
     let edges = job.edges;
-    let free = cyclomatic(n, &early[..edges], &late[..edges]);
+    let free = count_free_edges(n, &early[..edges], &late[..edges]);
     let unfit = check_enumeration(
         n,
         w,

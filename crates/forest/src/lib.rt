@@ -17,7 +17,7 @@ use union_find::start;
 use union_find::union;
 
 // Marks the tree edges: those whose ends no path of earlier edges joins.
-pub fn spanning_forest(n: usize, early: &[usize], late: &[usize], tree: &mut [bool])
+pub fn mark_tree_edges(n: usize, early: &[usize], late: &[usize], tree: &mut [bool])
     requires { ⌜ Edges n (now early) (now late) × (n ≤ 1024) × (length (now tree) ≡ length (now early)) ⌝ }
     ensures { λ _. ⌜ now (tree .exit) ≡ tabulate (isTree (now (early .entry)) (now (late .entry))) (length (now (early .entry))) ⌝ }
     ensures { λ _. ⌜ Spans (now (early .entry)) (now (late .entry)) (now (tree .exit)) ⌝ }
@@ -33,7 +33,7 @@ pub fn spanning_forest(n: usize, early: &[usize], late: &[usize], tree: &mut [bo
 }
 
 // The number of each vertex's component: the root above the vertex when all edges have joined their ends.
-pub fn components(n: usize, early: &[usize], late: &[usize], out: &mut [usize])
+pub fn name_components(n: usize, early: &[usize], late: &[usize], out: &mut [usize])
     requires { ⌜ Edges n (now early) (now late) × (n ≤ 1024) × (length (now out) ≡ n) ⌝ }
     ensures { λ _. ⌜ now (out .exit) ≡ tabulate (labels (now (early .entry)) (now (late .entry)) (length (now (early .entry)))) n ⌝ }
 {
@@ -53,13 +53,13 @@ pub fn components(n: usize, early: &[usize], late: &[usize], out: &mut [usize])
 }
 
 // How many components there are: a vertex whose number is its own counts for its component.
-pub fn n_components(n: usize, early: &[usize], late: &[usize]) -> usize
+pub fn count_components(n: usize, early: &[usize], late: &[usize]) -> usize
     requires { ⌜ Edges n (now early) (now late) × (n ≤ 1024) ⌝ }
     ensures { λ r. ⌜ r ≡ componentCount n (now (early .entry)) (now (late .entry)) ⌝ }
 {
     let mut numbers = [0usize; 1024];
     let c = &mut numbers[..n];
-    components(n, early, late, c);
+    name_components(n, early, late, c);
     let mut k: usize = 0;
     let mut v: usize = 0;
     while v < n {
@@ -73,10 +73,10 @@ pub fn n_components(n: usize, early: &[usize], late: &[usize]) -> usize
 }
 
 // The number of independent cycles, which is the number of free edges: those that are no tree edges.
-pub fn cyclomatic(n: usize, early: &[usize], late: &[usize]) -> usize
+pub fn count_free_edges(n: usize, early: &[usize], late: &[usize]) -> usize
     requires { ⌜ Edges n (now early) (now late) × (n ≤ 1024) ⌝ }
     ensures { λ r. ⌜ r ≡ length (now (early .entry)) + componentCount n (now (early .entry)) (now (late .entry)) - n ⌝ }
     ensures { λ r. ⌜ r ≡ count (λ e. not (isTree (now (early .entry)) (now (late .entry)) e)) (length (now (early .entry))) ⌝ }
 {
-    early.len() + n_components(n, early, late) - n
+    early.len() + count_components(n, early, late) - n
 }

@@ -15,7 +15,8 @@ use Rattle.checks.specs.Request.{outside}
 use Rattle.kept.specs.Keep.{Written, Holds}
 use Rattle.distance.specs.Walks.{Distance}
 use Rattle.distance.specs.declared.Reach.the-variants as Reach
-use Rattle.lattice.specs.Graphs.{Set, tooShort, Distanced}
+use Rattle.lattice.specs.Graphs.{Set, tooShort}
+use Rattle.lattice.specs.Reached.{Distanced}
 use Rattle.lattice.specs.declared.graph.Reached.the-variants as Reached
 use Rattle.lattice.specs.declared.graph.Made.the-variants as Made
 
@@ -41,16 +42,13 @@ holds-all k early late mag h =
 
 -- ---- the answer of `distance`
 pub refused-distance : (K : ℕ) (early late : List ℕ) (u v r : ℕ) → r ≡ K → (r ≡ 0 → ⊥) → Distanced K early late u v (Reached.Refused r)
-refused-distance zero early late u v r e z = absurd (z e)
-refused-distance (suc k) early late u v r e z = ap Reached.Refused e
+refused-distance K early late u v r e z = record { number = e; values = λ k. absurd (z (e ∙ k)) }
 
 pub length-distance : (K : ℕ) (early late : List ℕ) (u v k : ℕ) → 0 ≡ K → Distance early late u v (Reach.Length k) → Distanced K early late u v (Reached.Length k)
-length-distance zero early late u v k e d = d
-length-distance (suc j) early late u v k e d = absurd (omega arith)
+length-distance K early late u v k e d = record { number = e; values = λ z joined length. d }
 
 pub no-distance : (K : ℕ) (early late : List ℕ) (u v : ℕ) → 0 ≡ K → Distance early late u v Reach.NotJoined → Distanced K early late u v Reached.NotJoined
-no-distance zero early late u v e d = d
-no-distance (suc j) early late u v e d = absurd (omega arith)
+no-distance K early late u v e d = record { number = e; values = λ z joined length. d }
 
 pub inside-both : (n u v : ℕ) → outside n u v ≡ false → (u < n) × (v < n)
 inside-both n u v h = let p = or-false (leb n u) (leb n v) h in (leb-false n u (p .0), leb-false n v (p .1))

@@ -12,11 +12,6 @@ use Rattle.forest.specs.Labels.{isTree, labels}
 use Rattle.lattice.specs.declared.graph.Graph.{Graph}
 use Rattle.lattice.specs.declared.graph.Made.{Made}
 use Rattle.lattice.specs.declared.graph.Made.the-variants.{Kept, Refused}
-use Rattle.lattice.specs.declared.graph.Reached.{Reached}
-use Rattle.lattice.specs.declared.graph.Reached.the-variants as Reached
-use Rattle.lattice.specs.declared.graph.Reached.the-variants.{Length, NotJoined}
-use Rattle.distance.specs.Walks.{Distance}
-use Rattle.distance.specs.declared.Reach.the-variants as Reach
 use Rattle.transfer.specs.Job.{windowOf}
 use Rattle.checks.specs.Edges as Edges
 use Rattle.checks.specs.Edges.{earlyEnds, lateEnds, magnitudes}
@@ -62,10 +57,3 @@ rotate n es = map (λ e. record { early = turned n (e .late); late = turned n (e
 pub record Turned (n k : ℕ) (early early′ late late′ : List ℕ) : Type 0 where
   pub earlies : early′ ≡ over (tabulate (λ e. turned n (getD late e 0)) k) early
   pub lates : late′ ≡ over (tabulate (λ e. turned n (getD early e 0)) k) late
-
--- What `distance` answers: the refusal, or the distance as walks have it.
-abbrev pub Distanced : ℕ → List ℕ → List ℕ → ℕ → ℕ → Reached → Type 0
-Distanced zero early late u v (Length k) = Distance early late u v (Reach.Length k)
-Distanced zero early late u v NotJoined = Distance early late u v Reach.NotJoined
-Distanced zero early late u v (Reached.Refused k) = ⊥
-Distanced (suc j) early late u v r = r ≡ Reached.Refused (suc j)

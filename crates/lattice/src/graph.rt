@@ -11,7 +11,8 @@ ghost use Rattle.checks.specs.Refusal.{refusal, ofGraph, ofGraphWithBuffers, of
 ghost use Rattle.checks.specs.Answers.{answered, left};
 ghost use Rattle.forest.specs.Paths.{Spans};
 ghost use Rattle.forest.specs.Components.{componentCount};
-ghost use Rattle.lattice.specs.Graphs.{tooShort, freeCount, treeMarks, componentNames, Set, Distanced, rotate, Turned};
+ghost use Rattle.lattice.specs.Graphs.{tooShort, freeCount, treeMarks, componentNames, Set, rotate, Turned};
+ghost use Rattle.lattice.specs.Reached.{Distanced};
 use checks::Answer;
 use distance::Reach;
 use kept::build::build;
@@ -68,7 +69,7 @@ pub fn n_components(n: usize, a: &[usize], b: &[usize], m: &[f64]) -> Answer
         return Answer::Refused(refusal);
     }
     let edges = g.edges;
-    Answer::Number(forest::n_components(n, &early[..edges], &late[..edges]))
+    Answer::Number(forest::count_components(n, &early[..edges], &late[..edges]))
 }
 
 // How many edges are free: kept edges and components, less the vertices.
@@ -84,7 +85,7 @@ pub fn cyclomatic(n: usize, a: &[usize], b: &[usize], m: &[f64]) -> Answer
         return Answer::Refused(refusal);
     }
     let edges = g.edges;
-    Answer::Number(forest::cyclomatic(n, &early[..edges], &late[..edges]))
+    Answer::Number(forest::count_free_edges(n, &early[..edges], &late[..edges]))
 }
 
 // Marks each kept edge that is a tree edge: no path of earlier kept edges joins its ends. Answers the refusal's number, 0 for accepted.
@@ -103,7 +104,7 @@ pub fn spanning_forest(n: usize, a: &[usize], b: &[usize], m: &[f64], tree: &mut
     if tree.len() != edges {
         return 12;
     }
-    forest::spanning_forest(n, &early[..edges], &late[..edges], tree);
+    forest::mark_tree_edges(n, &early[..edges], &late[..edges], tree);
     0
 }
 
@@ -123,7 +124,7 @@ pub fn components(n: usize, a: &[usize], b: &[usize], m: &[f64], out: &mut [usiz
         return 12;
     }
     let edges = g.edges;
-    forest::components(n, &early[..edges], &late[..edges], out);
+    forest::name_components(n, &early[..edges], &late[..edges], out);
     0
 }
 
@@ -143,7 +144,7 @@ pub fn distance(n: usize, a: &[usize], b: &[usize], m: &[f64], u: usize, v: usiz
         return Reached::Refused(8);
     }
     let edges = g.edges;
-    match distance::distance(&early[..edges], &late[..edges], u, v) {
+    match distance::shortest_walk(&early[..edges], &late[..edges], u, v) {
         Reach::Length(k) => Reached::Length(k),
         Reach::NotJoined => Reached::NotJoined,
     }

@@ -4,7 +4,7 @@ ghost use Prim.Native.Nat.{_≤_};
 ghost use Rattle.checks.specs.AcceptedJob.{buffersRefusal, listsRefusal};
 ghost use Rattle.places.specs.Places.{Pairs};
 use crate::factors::bad_factors;
-use places::room;
+use places::room_needed;
 
 // Checks 12 and 13, of a job that 1 to 8 pass: whether a result buffer misfits is given.
 pub(crate) fn check_buffers(
@@ -22,7 +22,7 @@ pub(crate) fn check_buffers(
     if misfit {
         return 12;
     }
-    if work < room(n, w, edges, us, vs) {
+    if work < room_needed(n, w, edges, us, vs) {
         return 13;
     }
     0

@@ -12,4 +12,4 @@ pub use pairs::is_propagated;
 pub use pairs::later;
 pub use work::Work;
 pub use work::make_plan;
-pub use work::room;
+pub use work::room_needed;

@@ -47,7 +47,7 @@ fn work_of(places: usize, n: usize, w: usize, m: usize) -> Work
 }
 
 // The doubles of work memory that a call needs.
-pub fn room(n: usize, w: usize, m: usize, us: &[usize], vs: &[usize]) -> usize
+pub fn room_needed(n: usize, w: usize, m: usize, us: &[usize], vs: &[usize]) -> usize
     requires { ⌜ Pairs (now us) (now vs) n × (n ≤ 1024) × (w ≤ 24) × (m ≤ 4096) ⌝ }
     ensures { λ r. ⌜ r ≡ roomOf n w m (now (us .entry)) (now (vs .entry)) ⌝ }
 {

@@ -1,8 +1,7 @@
 -- A list of pair records as two lists of ends, and how far they are copied.
-use mathlib.Core.Path.{_≡_}
-use mathlib.Core.List.{List, [], _∷_, _++_, map}
-use Prim.Native.Nat.{ℕ, suc, _≤_}
-use lib.ListN.{take}
+use mathlib.Core.List.{List, _++_, map}
+use Prim.Native.Nat.{ℕ, _+_, _-_, min}
+use lib.ListN.{length, take, set, replicate}
 use Rattle.records.specs.declared.Pair.{Pair}
 use Rattle.records.specs.declared.Ends.{Ends}
 
@@ -18,21 +17,25 @@ seconds pairs = map (λ (p : Pair). p .v) pairs
 abbrev pub mostCopied : ℕ
 mostCopied = 257
 
+-- the first k of a list of ends, and 0 in each place behind them
+abbrev pub padded : List ℕ → ℕ → List ℕ
+padded ends k = take k ends ++ replicate (mostCopied - k) 0
+
+-- the ends of the first k pairs
+abbrev pub endsOf : List Pair → ℕ → Ends
+endsOf pairs k = record { count = k; us = padded (firsts pairs) k; vs = padded (seconds pairs) k }
+
+-- The ends of the pairs, of the first 257 where there are more.
+abbrev pub gathered : List Pair → Ends
+gathered pairs = endsOf pairs (min (length pairs) mostCopied)
+
+-- The ends e with one pair more.
+abbrev pub pushed : Ends → ℕ → ℕ → Ends
+pushed e u v = record { count = e .count + 1; us = set (e .us) (e .count) u; vs = set (e .vs) (e .count) v }
+
 -- the first and the second ends that are held
 abbrev pub firstEnds : Ends → List ℕ
 firstEnds e = take (e .count) (e .us)
 
 abbrev pub secondEnds : Ends → List ℕ
 secondEnds e = take (e .count) (e .vs)
-
--- The ends e with one pair more.
-pub record Pushed (e : Ends) (u v : ℕ) (e′ : Ends) : Type 0 where
-  pub counted : e′ .count ≡ suc (e .count)
-  pub first-ends : firstEnds e′ ≡ firstEnds e ++ (u ∷ [])
-  pub second-ends : secondEnds e′ ≡ secondEnds e ++ (v ∷ [])
-
--- The ends of the pairs, of the first 257 where there are more.
-pub record Gathered (pairs : List Pair) (e : Ends) : Type 0 where
-  pub counted : e .count ≤ mostCopied
-  pub first-ends : firstEnds e ≡ take mostCopied (firsts pairs)
-  pub second-ends : secondEnds e ≡ take mostCopied (seconds pairs)

@@ -18,7 +18,8 @@ use Rattle.glass.specs.Correlations.{Correlated, jobGiven}
 use Rattle.glass.specs.Settling.{settled-not, cleared-not}
 use Rattle.records.specs.declared.Pair.{Pair}
 use Rattle.records.specs.declared.Ends.{Ends}
-use Rattle.records.specs.Columns.{firsts, seconds, firstEnds, secondEnds, mostCopied, Gathered}
+use Rattle.records.specs.Columns.{firsts, seconds, firstEnds, secondEnds, mostCopied, gathered}
+use Rattle.records.specs.Held.{first-ends-held, second-ends-held}
 
 many-pairs : (q : Request) → 256 < length (q .firsts) → badLists q ≡ true
 many-pairs q h = simp (lt-ltb _ _ h, or-true)
@@ -62,8 +63,8 @@ module _ (n floor : ℕ) (a b : List ℕ) (m factors : List Float) (manner : Man
           (subst (λ (l : List ℕ). Answered l (take mostCopied vs)) (take-all mostCopied us (omega arith)) c)
 
   -- a call with the ends that were gathered is one with all pairs
-  pub answered : (pairs : List Pair) (e : Ends) → Gathered pairs e → Answered (firstEnds e) (secondEnds e) → Answered (firsts pairs) (seconds pairs)
+  pub answered : (pairs : List Pair) (e : Ends) → e ≡ gathered pairs → Answered (firstEnds e) (secondEnds e) → Answered (firsts pairs) (seconds pairs)
   answered pairs e g c =
       uncopied (firsts pairs) (seconds pairs) (length-map pairs (λ (p : Pair). p .u) ∙ sym (length-map pairs (λ (p : Pair). p .v)))
-      (subst (λ (l : List ℕ). Answered (take mostCopied (firsts pairs)) l) (g .second-ends)
-      (subst (λ (l : List ℕ). Answered l (secondEnds e)) (g .first-ends) c))
+      (subst (λ (l : List ℕ). Answered (take mostCopied (firsts pairs)) l) (second-ends-held pairs e g)
+      (subst (λ (l : List ℕ). Answered l (secondEnds e)) (first-ends-held pairs e g) c))

@@ -1,7 +1,8 @@
 // Pairs that a caller lends as records, copied into two lists of ends.
 ghost use mathlib.Core.Path.{_≡_};
+ghost use mathlib.Core.List.{[]};
 ghost use Prim.Native.Nat.{_<_, min};
-ghost use Rattle.records.specs.Columns.{mostCopied, Pushed, Gathered};
+ghost use Rattle.records.specs.Columns.{mostCopied, endsOf, gathered, pushed};
 
 // A pair as a caller lends it.
 #[repr(C)]
@@ -10,7 +11,7 @@ pub struct Pair {
     pub v: usize,
 }
 
-// The ends of `count` pairs. There is a place more than a job may have pairs, so that a list that is too long is still too long here.
+// The ends of `count` pairs, and 0 behind them. There is a place more than a job may have pairs, so that a list that is too long is still too long here.
 pub struct Ends {
     pub count: usize,
     pub us: [usize; 257],
@@ -29,7 +30,7 @@ fn copied(pairs: usize) -> usize
 
 // The ends of no pair.
 fn empty() -> Ends
-    ensures { λ r. ⌜ r .count ≡ 0 ⌝ }
+    ensures { λ r. ⌜ r ≡ endsOf [] 0 ⌝ }
 {
     Ends {
         count: 0,
@@ -41,7 +42,7 @@ fn empty() -> Ends
 // One pair more.
 fn push(e: Ends, u: usize, v: usize) -> Ends
     requires { ⌜ e .count < mostCopied ⌝ }
-    ensures { λ r. ⌜ Pushed e u v r ⌝ }
+    ensures { λ r. ⌜ r ≡ pushed e u v ⌝ }
 {
     let at = e.count;
     let mut longer = e;
@@ -53,7 +54,7 @@ fn push(e: Ends, u: usize, v: usize) -> Ends
 
 // The ends of the pairs, of the first 257 where there are more.
 pub fn gather(pairs: &[Pair]) -> Ends
-    ensures { λ r. ⌜ Gathered (now (pairs .entry)) r ⌝ }
+    ensures { λ r. ⌜ r ≡ gathered (now (pairs .entry)) ⌝ }
 {
     let n = copied(pairs.len());
     let mut e = empty();

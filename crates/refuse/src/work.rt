@@ -32,5 +32,5 @@ pub fn room(
     if refusal != 0 {
         return Answer::Refused(refusal);
     }
-    Answer::Number(places::room(n, job.window, job.edges, us, vs))
+    Answer::Number(places::room_needed(n, job.window, job.edges, us, vs))
 }

@@ -1,16 +1,27 @@
 // FNV-1a over words: numbers, marks and doubles.
+ghost use mathlib.Core.Path.{_≡_};
+ghost use mathlib.Core.Bool.{false};
+ghost use lib.Ieee.{binary64, toBits, nan};
+ghost use lib.ListN.{length, getD};
+ghost use Rattle.stored.specs.Words.{mixed, mixedAll, marked};
 
 pub const OFFSET: u64 = 0xcbf2_9ce4_8422_2325;
 
-pub fn mix(hash: u64, word: u64) -> u64 {
+pub fn mix(hash: u64, word: u64) -> u64
+    ensures { λ r. ⌜ r ≡ mixed hash word ⌝ }
+{
     rng::wrapping_mul_u64(hash ^ word, 0x100_0000_01b3)
 }
 
-pub fn mix_number(hash: u64, n: usize) -> u64 {
+pub fn mix_number(hash: u64, n: usize) -> u64
+    ensures { λ r. ⌜ r ≡ mixed hash n ⌝ }
+{
     mix(hash, n as u64)
 }
 
-pub fn mix_numbers(hash: u64, xs: &[usize]) -> u64 {
+pub fn mix_numbers(hash: u64, xs: &[usize]) -> u64
+    ensures { λ r. ⌜ r ≡ mixedAll hash (λ i. getD (now (xs .entry)) i 0) (length (now (xs .entry))) ⌝ }
+{
     let mut h = hash;
     let mut i: usize = 0;
     while i < xs.len() {
@@ -20,11 +31,15 @@ pub fn mix_numbers(hash: u64, xs: &[usize]) -> u64 {
     h
 }
 
-fn mark(x: bool) -> usize {
+fn mark(x: bool) -> usize
+    ensures { λ r. ⌜ r ≡ marked x ⌝ }
+{
     if x { 1 } else { 0 }
 }
 
-pub fn mix_marks(hash: u64, xs: &[bool]) -> u64 {
+pub fn mix_marks(hash: u64, xs: &[bool]) -> u64
+    ensures { λ r. ⌜ r ≡ mixedAll hash (λ i. marked (getD (now (xs .entry)) i false)) (length (now (xs .entry))) ⌝ }
+{
     let mut h = hash;
     let mut i: usize = 0;
     while i < xs.len() {
@@ -34,7 +49,9 @@ pub fn mix_marks(hash: u64, xs: &[bool]) -> u64 {
     h
 }
 
-pub fn mix_doubles(hash: u64, xs: &[f64]) -> u64 {
+pub fn mix_doubles(hash: u64, xs: &[f64]) -> u64
+    ensures { λ r. ⌜ r ≡ mixedAll hash (λ i. toBits binary64 (getD (now (xs .entry)) i nan)) (length (now (xs .entry))) ⌝ }
+{
     let mut h = hash;
     let mut i: usize = 0;
     while i < xs.len() {

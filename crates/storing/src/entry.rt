@@ -4,7 +4,7 @@ ghost use Prim.Native.Nat.{_*_, _^_, _≤_};
 ghost use Rattle.totals.specs.Calls.{EnumeratedEach};
 use crate::job::store_job;
 use checks::Answer;
-use forest::cyclomatic;
+use forest::count_free_edges;
 use glass::Manner;
 use glass::is_each;
 use lent::check_enumeration;
@@ -66,7 +66,7 @@ pub fn exhaustive_c(
     }
     let w = job.window;
     let edges = job.edges;
-    let free = cyclomatic(n, &early[..edges], &late[..edges]);
+    let free = count_free_edges(n, &early[..edges], &late[..edges]);
     let unfit = check_enumeration(
         n,
         w,

@@ -6,6 +6,6 @@ mod vertices;
 pub use refuse::bad_sides;
 pub use refuse::odd_cylinder;
 pub use strip::Strip;
-pub use strip::n;
-pub use strip::vid;
+pub use strip::vertex_at;
+pub use strip::vertex_count;
 pub use vertices::Sited;

@@ -27,7 +27,7 @@ impl Strip {
     }
 }
 
-pub fn vid(w: usize, x: usize, y: usize) -> usize
+pub fn vertex_at(w: usize, x: usize, y: usize) -> usize
     requires { ⌜ x * w + y ≤ 4096 ⌝ }
     ensures { λ r. ⌜ r ≡ vertex w x y ⌝ }
 {
@@ -35,7 +35,7 @@ pub fn vid(w: usize, x: usize, y: usize) -> usize
 }
 
 // The number of vertices.
-pub fn n(w: usize, l: usize) -> usize
+pub fn vertex_count(w: usize, l: usize) -> usize
     requires { ⌜ w * l ≤ 1024 ⌝ }
     ensures { λ r. ⌜ r ≡ w * l ⌝ }
 {

@@ -8,8 +8,8 @@ ghost use Rattle.strip.specs.Requests.{stripRequest};
 ghost use Rattle.strip.specs.Vertices.{sited};
 use crate::refuse::bad_sides;
 use crate::strip::Strip;
-use crate::strip::n;
-use crate::strip::vid;
+use crate::strip::vertex_at;
+use crate::strip::vertex_count;
 use checks::Answer;
 
 // A vertex, that the strip has none there, or the number of a refusal.
@@ -27,7 +27,7 @@ impl Strip {
         if bad_sides(self.w, self.l) {
             return Answer::Refused(15);
         }
-        Answer::Number(n(self.w, self.l))
+        Answer::Number(vertex_count(self.w, self.l))
     }
 
     // The vertex at x along the strip and y across.
@@ -43,6 +43,6 @@ impl Strip {
         if self.w <= y {
             return Sited::Outside;
         }
-        Sited::Vertex(vid(self.w, x, y))
+        Sited::Vertex(vertex_at(self.w, x, y))
     }
 }

@@ -1,4 +1,6 @@
 // Replayed calls that agree, counted by their refusal's number and printed.
+ghost use mathlib.Core.Path.{_≡_};
+ghost use Rattle.tally.specs.Counts.{counted};
 use libc::STDOUT_FILENO;
 
 // How many calls agree, how many there are, and the bytes that are left of their list.
@@ -11,7 +13,9 @@ pub struct Counted {
 // Refusals' numbers, and 0 for accepted.
 pub const NUMBERS: usize = 19;
 
-pub fn count(counts: &mut [usize; NUMBERS], number: usize) {
+pub fn count(counts: &mut [usize; NUMBERS], number: usize)
+    ensures { λ r. ⌜ now (counts .exit) ≡ counted (now (counts .entry)) number ⌝ }
+{
     if number < NUMBERS {
         counts[number] = std::num::wrapping_add_usize(counts[number], 1);
     }

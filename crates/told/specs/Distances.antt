@@ -1,26 +1,11 @@
--- What a distance is as a number, 0 for accepted, and what it leaves in references that held `old`.
+-- What a distance leaves over C: its number, 0 for accepted, and its values in references, which keep what they held where it has none.
 use mathlib.Core.Path.{_≡_}
-use mathlib.Core.Bool.{Bool, true, false}
+use mathlib.Core.Bool.{Bool}
 use Prim.Native.Nat.{ℕ}
+use Rattle.lattice.specs.Reached.{numberOf, joinedOf, lengthOf}
 use Rattle.lattice.specs.declared.graph.Reached.{Reached}
-use Rattle.lattice.specs.declared.graph.Reached.the-variants.{Length, NotJoined, Refused}
 
-abbrev pub numberOf : Reached → ℕ
-numberOf (Length k) = 0
-numberOf NotJoined = 0
-numberOf (Refused k) = k
-
-abbrev pub joinedOf : Reached → Bool → Bool
-joinedOf (Length k) old = true
-joinedOf NotJoined old = false
-joinedOf (Refused k) old = old
-
-abbrev pub lengthOf : Reached → ℕ → ℕ
-lengthOf (Length k) old = k
-lengthOf NotJoined old = old
-lengthOf (Refused k) old = old
-
-pub record Tells (a : Reached) (r : ℕ) (joined joined′ : Bool) (length length′ : ℕ) : Type 0 where
+pub record Tells (a : Reached) (r : ℕ) (joined joined′ : Bool) (edges edges′ : ℕ) : Type 0 where
   pub number : r ≡ numberOf a
   pub joins : joined′ ≡ joinedOf a joined
-  pub long : length′ ≡ lengthOf a length
+  pub long : edges′ ≡ lengthOf a edges

@@ -5,6 +5,7 @@ use Prim.Native.Nat.{ℕ}
 use lib.Ieee.{Float}
 use Rattle.estimate.specs.declared.answer.Estimate.{Estimate}
 use Rattle.estimate.specs.declared.answer.Estimate.the-variants.{Estimated, TooFew, Refused}
+use Rattle.estimate.specs.Estimates.{meanIn, errorIn}
 
 abbrev pub numberOf : Estimate → ℕ
 numberOf (Estimated e) = 0
@@ -16,18 +17,8 @@ enoughOf (Estimated e) old = true
 enoughOf (TooFew mean) old = false
 enoughOf (Refused k) old = old
 
-abbrev pub meanOf : Estimate → Float → Float
-meanOf (Estimated e) old = e .mean
-meanOf (TooFew mean) old = mean
-meanOf (Refused k) old = old
-
-abbrev pub errorOf : Estimate → Float → Float
-errorOf (Estimated e) old = e .error
-errorOf (TooFew mean) old = old
-errorOf (Refused k) old = old
-
 pub record Tells (a : Estimate) (r : ℕ) (enough enough′ : Bool) (mean mean′ error error′ : Float) : Type 0 where
   pub number : r ≡ numberOf a
   pub enoughs : enough′ ≡ enoughOf a enough
-  pub means : mean′ ≡ meanOf a mean
-  pub errors : error′ ≡ errorOf a error
+  pub means : mean′ ≡ meanIn a mean
+  pub errors : error′ ≡ errorIn a error

@@ -2,14 +2,14 @@
 ghost use Rattle.told.specs.Distances.{Tells};
 use lattice::Reached;
 
-// Where the call is refused both keep what they held, and where no walk leads there `length` does.
-pub fn tell_distance(answer: Reached, joined: &mut bool, length: &mut usize) -> usize
-    ensures { λ r. ⌜ Tells answer r (now (joined .entry)) (now (joined .exit)) (now (length .entry)) (now (length .exit)) ⌝ }
+// Where the call is refused both keep what they held, and where no walk leads there `edges` does.
+pub fn tell_distance(answer: Reached, joined: &mut bool, edges: &mut usize) -> usize
+    ensures { λ r. ⌜ Tells answer r (now (joined .entry)) (now (joined .exit)) (now (edges .entry)) (now (edges .exit)) ⌝ }
 {
     match answer {
-        Reached::Length(edges) => {
+        Reached::Length(walked) => {
             *joined = true;
-            *length = edges;
+            *edges = walked;
             0
         }
         Reached::NotJoined => {

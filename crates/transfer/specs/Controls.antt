@@ -1,15 +1,26 @@
--- Computed facts that rule out wrong readings which no settled example reaches: the chunks of a total, and the words of a sample.
+-- Computed facts that rule out wrong readings: where a factor is lent, the room of two pairs, the chunks of a total, and the words of a sample.
 use mathlib.Core.Path.{_≡_, refl}
-use mathlib.Core.Bool.{false, cond}
+use mathlib.Core.Bool.{true, false, cond}
+use mathlib.Core.List.{[], _∷_}
 use Prim.Native.Nat.{ℕ, _+_, _^_}
 use lib.Dec.{eqb}
 use lib.IntN.{pos, negsuc}
 use lib.Ieee.{Float, fin, binary64, round, add, mul, ofBits}
 use Rattle.rng.specs.Xoshiro.{result, next, streamed}
 use Rattle.vector.specs.Bits.{bit}
-use Rattle.transfer.specs.Configuration.{sampledMinus}
+use Rattle.transfer.specs.Room.{room}
+use Rattle.transfer.specs.Configuration.{lentAt, sampledMinus}
 use Rattle.transfer.specs.Totals.{chunkSize, chunkCount, chunked, fourth, sampledCount}
 use Rattle.transfer.specs.Rounded.{ieee}
+
+-- At beta 1 the last of four kept edges has factor 14 for sign plus, and next to it the one for minus.
+pub minus-next-to-plus : (lentAt 4 1 3 false ≡ 14) × (lentAt 4 1 3 true ≡ 15)
+minus-next-to-plus = (refl, refl)
+
+-- Four vertices, window 2, three kept edges, pairs 3-0 (propagated) and 0-1 (direct): two vectors move, forward vectors are kept at 0, 1 and 3, backward ones at 1 and 3.
+pub room-of-two-pairs : room 4 2 3 (3 ∷ 0 ∷ []) (0 ∷ 1 ∷ []) ≡ 35
+unfolding room
+room-of-two-pairs = refl
 
 -- Chunks of 1,024 configurations, or all if fewer.
 pub small-chunk : (chunkSize 3 ≡ 8) × (chunkCount 3 ≡ 1)

@@ -6,7 +6,6 @@ pub mod Room
 pub mod Configuration
 pub mod Totals
 pub mod Rounded
-pub mod Examples
 pub mod Controls
 pub mod Replay
 pub mod Original

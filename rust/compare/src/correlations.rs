@@ -30,6 +30,12 @@ struct Job {
     wide: bool,
 }
 
+/// What the results and the work memory hold before a call.
+struct Before {
+    results: Vec<f64>,
+    work: Vec<f64>,
+}
+
 /// What a call answers and leaves.
 struct Outcome {
     number: usize,
@@ -43,8 +49,7 @@ pub fn try_one(draw: &mut Draw) -> Result<usize, String> {
     for _ in 0..draw.of(&[0, 0, 0, 1, 1, 2]) {
         spoil(draw, &mut job);
     }
-    let before = draw.of(&[0.25, f64::NAN, f64::NEG_INFINITY, -0.0, 1e300]);
-    compare_room(&job).and_then(|()| compare(&job, before)).map_err(|why| format!("{}: {why}", job.told()))
+    compare_room(&job).and_then(|()| compare(draw, &job)).map_err(|why| format!("{}: {why}", job.told()))
 }
 
 /// A job of a window from 19 to 24, with a pair or two: hundreds of megabytes, and seconds.
@@ -59,7 +64,7 @@ pub fn try_wide(draw: &mut Draw) -> Result<usize, String> {
     let (couplings, factors) = factors(draw, &edges, 0);
     let results = pairs.us.len();
     let job = Job { edges, pairs, couplings, factors, each: draw.once_in(2), results, spare: 1, gentle: true, wide: true };
-    compare_room(&job).and_then(|()| compare(&job, 0.25)).map_err(|why| format!("{}: {why}", job.told()))
+    compare_room(&job).and_then(|()| compare(draw, &job)).map_err(|why| format!("{}: {why}", job.told()))
 }
 
 impl Job {
@@ -251,27 +256,25 @@ fn compare_room(job: &Job) -> Result<(), String> {
 }
 
 /// The call with two lists of ends, and where these are of one length that with records.
-fn compare(job: &Job, before: f64) -> Result<usize, String> {
-    let length = work_length(job);
-    let outcome = outcome(job, length, before)?;
+fn compare(draw: &mut Draw, job: &Job) -> Result<usize, String> {
+    let before = Before { results: draw.held(job.results), work: draw.held(work_length(job)) };
+    let outcome = outcome(job, &before)?;
     let lent = Lent::new(job);
     if job.pairs.us.len() == job.pairs.vs.len() {
-        compare_call(&lent, &outcome, length, before, Lent::correlations_of).map_err(|why| format!("pair records: {why}"))?;
+        compare_call(&lent, &outcome, &before, Lent::correlations_of).map_err(|why| format!("pair records: {why}"))?;
     }
-    compare_call(&lent, &outcome, length, before, Lent::correlations)
+    compare_call(&lent, &outcome, &before, Lent::correlations)
 }
 
 type Call<'a> = fn(&Lent<'a>, &mut Guarded<f64>, &mut Guarded<f64>) -> usize;
 
 /// A call, and what it answers and leaves.
-fn compare_call<'a>(lent: &Lent<'a>, outcome: &Outcome, length: usize, before: f64, call: Call<'a>) -> Result<usize, String> {
-    let mut held = vec![before; length];
-    let (mut results, mut work) = (Guarded::new(&vec![before; lent.job.results]), Guarded::new(&held));
+fn compare_call<'a>(lent: &Lent<'a>, outcome: &Outcome, before: &Before, call: Call<'a>) -> Result<usize, String> {
+    let (mut results, mut work) = (Guarded::new(&before.results), Guarded::new(&before.work));
     let number = call(lent, &mut results, &mut work);
     equal("answer", number, outcome.number)?;
     results.holds("results", &outcome.results)?;
-    held[..outcome.cleared].fill(0.0);
-    work.holds("work", &held)?;
+    work.is_cleared("work", outcome.cleared, &before.work)?;
     lent.unchanged()?;
     Ok(number)
 }
@@ -289,14 +292,14 @@ fn work_length(job: &Job) -> usize {
 }
 
 /// By the checks, and where they pass by the sweep rules and the original.
-fn outcome(job: &Job, work: usize, before: f64) -> Result<Outcome, String> {
+fn outcome(job: &Job, before: &Before) -> Result<Outcome, String> {
     let (e, p) = (&job.edges, &job.pairs);
     let number = first(job_refusal(e, p, &[]), || {
         let factors = factor_refusal(&job.factors, e.kept().len());
-        first(factors, || first(unless(job.results == p.us.len(), 12), || unless(work >= room(e, p), 13)))
+        first(factors, || first(unless(job.results == p.us.len(), 12), || unless(before.work.len() >= room(e, p), 13)))
     });
     if number != 0 {
-        return Ok(Outcome { number, results: vec![before; job.results], cleared: 0 });
+        return Ok(Outcome { number, results: before.results.clone(), cleared: 0 });
     }
     let cleared = room(e, p);
     let answers = job.couplings.as_ref().map(|couplings| original_answers(job, couplings));

@@ -31,7 +31,7 @@ pub fn try_one(draw: &mut Draw) -> Result<usize, String> {
     let kept = edges.kept();
     let wanted = betas.len() * kept.len();
     let length = draw.of(&[wanted, wanted, wanted, wanted, wanted + 1, wanted.saturating_sub(1)]);
-    let before = vec![2.5; length];
+    let before = draw.held(length);
     let (a, b, m) = (Guarded::new(&edges.a), Guarded::new(&edges.b), Guarded::new(&edges.m));
     let (lent, mut results) = (Guarded::new(&betas), Guarded::new(&before));
     let number = unsafe {

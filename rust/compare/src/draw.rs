@@ -41,6 +41,22 @@ impl Draw {
         }
     }
 
+    /// A NaN of any payload, quiet or signalling, of either sign.
+    pub fn nan(&mut self) -> f64 {
+        let word = self.word();
+        let infinity = f64::INFINITY.to_bits();
+        f64::from_bits(if word & !(1 << 63) & !infinity == 0 { f64::NAN.to_bits() } else { word | infinity })
+    }
+
+    /// What a lent list of doubles holds before a call: NaNs of any payload, so that what is to stay is told by its bits; or now and then one
+    /// double throughout.
+    pub fn held(&mut self, length: usize) -> Vec<f64> {
+        if self.once_in(4) {
+            return vec![self.of(&[0.25, f64::NEG_INFINITY, -0.0, 1e300]); length];
+        }
+        (0..length).map(|_| self.nan()).collect()
+    }
+
     /// Any double that is finite and above zero, every exponent alike.
     pub fn factor(&mut self) -> f64 {
         f64::from_bits(1 + self.word() % (f64::INFINITY.to_bits() - 1))
@@ -48,18 +64,35 @@ impl Draw {
 
     /// A double that is neither: infinite, not a number, zero or below.
     pub fn no_factor(&mut self) -> f64 {
-        let negative = -self.factor();
-        self.of(&[f64::INFINITY, f64::NEG_INFINITY, f64::NAN, 0.0, -0.0, negative])
+        let (negative, nan) = (-self.factor(), self.nan());
+        self.of(&[f64::INFINITY, f64::NEG_INFINITY, nan, 0.0, -0.0, negative])
     }
 
     /// A double that is no magnitude: not finite, or of a size above 1,024.
     pub fn no_magnitude(&mut self) -> f64 {
-        let above = f64::from_bits(1024f64.to_bits() + 1 + self.word() % 1000);
-        self.of(&[f64::INFINITY, f64::NEG_INFINITY, f64::NAN, above, -above, f64::MAX, -1025.0])
+        let (above, nan) = (f64::from_bits(1024f64.to_bits() + 1 + self.word() % 1000), self.nan());
+        self.of(&[f64::INFINITY, f64::NEG_INFINITY, nan, above, -above, f64::MAX, -1025.0])
     }
 
     /// A number that is no vertex of n: just past the last, or far off.
     pub fn no_vertex(&mut self, n: usize) -> usize {
         self.of(&[n, n.saturating_add(1), 1 << 32, 1 << 63, usize::MAX])
+    }
+}
+
+#[cfg(test)]
+mod tests {
+    use super::Draw;
+
+    #[test]
+    fn nans_of_every_kind_are_held() {
+        let mut draw = Draw::new(1, 0, 0);
+        let lists: Vec<Vec<f64>> = (0..100).map(|_| draw.held(50)).collect();
+        let nans: Vec<u64> = lists.into_iter().filter(|list| list[0].is_nan()).flatten().map(|x| x.to_bits()).collect();
+        assert!(nans.iter().all(|&bits| f64::from_bits(bits).is_nan()) && nans.len() > 3000);
+        for (sign, quiet) in [(0, 0), (0, 1), (1, 0), (1, 1)] {
+            let such = nans.iter().filter(|&bits| bits >> 63 == sign && bits >> 51 & 1 == quiet);
+            assert!(such.count() > 500);
+        }
     }
 }

@@ -94,7 +94,7 @@ fn over<T: Copy>(front: &[T], before: &[T]) -> Vec<T> {
 fn kept(draw: &mut Draw, lent: &Lent, refusal: usize, original: Option<&Graph>, turned: bool) -> Result<usize, String> {
     let wanted = original.map_or(lent.edges.a.len().min(20), |g| g.edges.len());
     let lengths = [wanted + draw.below(3), length(draw, wanted), length(draw, wanted)];
-    let before = (vec![5; lengths[0]], vec![6; lengths[1]], vec![7.5; lengths[2]]);
+    let before = (vec![5; lengths[0]], vec![6; lengths[1]], draw.held(lengths[2]));
     let (mut early, mut late, mut mag) = (Guarded::new(&before.0), Guarded::new(&before.1), Guarded::new(&before.2));
     let (mut window, mut edges) = (BEFORE, BEFORE);
     let (e, l, m) = (early.pointer_mut(), late.pointer_mut(), mag.pointer_mut());

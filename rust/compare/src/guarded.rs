@@ -30,8 +30,9 @@ impl Word for f64 {
     fn bits(self) -> u64 {
         self.to_bits()
     }
+    /// A signalling NaN.
     fn guard(place: usize) -> f64 {
-        -6.25e-130 * (1 + place) as f64
+        f64::from_bits(0xFFF0_A5A5_A5A5_5A5A + place as u64)
     }
 }
 
@@ -97,6 +98,15 @@ impl<T: Word> Guarded<T> {
     }
 }
 
+impl Guarded<f64> {
+    /// That so many doubles are +0.0, what lies past them is as it was, and nothing around was touched.
+    pub fn is_cleared(&self, name: &str, cleared: usize, before: &[f64]) -> Result<(), String> {
+        self.untouched_around(name)?;
+        same(name, &self.list()[..cleared], &vec![0.0; cleared])?;
+        same(&format!("{name} past what is cleared"), &self.list()[cleared..], &before[cleared..])
+    }
+}
+
 /// That two lists hold the same bits.
 pub fn same<T: Word>(name: &str, found: &[T], expected: &[T]) -> Result<(), String> {
     if found.len() != expected.len() {
@@ -131,6 +141,15 @@ mod tests {
     #[test]
     fn zeros_of_either_sign_differ() {
         assert!(Guarded::new(&[0.0]).holds("list", &[-0.0]).is_err());
-        assert!(Guarded::new(&[f64::NAN]).holds("list", &[f64::NAN]).is_ok());
+    }
+
+    #[test]
+    fn nans_differ_by_their_bits() {
+        let nans = [0x7FF8_0000_0000_0000, 0x7FF8_0000_0000_0001, 0x7FF0_0000_0000_0001, 0xFFF8_0000_0000_0000].map(f64::from_bits);
+        for (i, &found) in nans.iter().enumerate() {
+            for (j, &expected) in nans.iter().enumerate() {
+                assert_eq!(Guarded::new(&[found]).holds("list", &[expected]).is_ok(), i == j);
+            }
+        }
     }
 }

@@ -151,7 +151,23 @@ pub fn strip_refusal(kind: usize, w: usize, l: usize, periodic: bool, with_edges
     }
 }
 
+fn countable(count: usize) -> bool {
+    (1..=1 << 53).contains(&count)
+}
+
+fn in_order(count: usize, squares: f64, fourths: f64) -> bool {
+    0.0 <= fourths && fourths <= squares && squares <= count as f64
+}
+
 /// Check 18.
 pub fn estimate_refusal(count: usize, squares: f64, fourths: f64) -> usize {
-    unless((1..=1 << 53).contains(&count) && 0.0 <= fourths && fourths <= squares && squares <= count as f64, 18)
+    unless(countable(count) && in_order(count, squares, fourths), 18)
+}
+
+/// Checks 2, 12 and 18 of a sheet's columns.
+pub fn column_refusal(count: usize, squares: &[f64], fourths: &[f64], columns: [usize; 2]) -> usize {
+    let all_in_order = || squares.iter().zip(fourths).all(|(&s, &f)| in_order(count, s, f));
+    first(unless(squares.len() == fourths.len(), 2), || {
+        first(unless(columns == [squares.len(); 2], 12), || unless(countable(count) && all_in_order(), 18))
+    })
 }

@@ -122,8 +122,8 @@ struct Buffers {
 
 impl Buffers {
     fn draw(draw: &mut Draw, wanted: usize) -> Buffers {
-        let mut length = || if draw.once_in(12) { wanted.saturating_sub(1) } else { wanted + draw.below(3) };
-        let before = (vec![5; length()], vec![6; length()], vec![7.5; length()]);
+        let lengths = [0; 3].map(|_: usize| if draw.once_in(12) { wanted.saturating_sub(1) } else { wanted + draw.below(3) });
+        let before = (vec![5; lengths[0]], vec![6; lengths[1]], draw.held(lengths[2]));
         let (early, late, mag) = (Guarded::new(&before.0), Guarded::new(&before.1), Guarded::new(&before.2));
         Buffers { before, early, late, mag, edges: BEFORE }
     }

@@ -37,6 +37,12 @@ struct Call {
     spare: isize,
 }
 
+/// What the result lists and the work memory hold before a call.
+struct Before {
+    lists: Vec<Vec<f64>>,
+    work: Vec<f64>,
+}
+
 /// What a call answers and leaves: `lists` are its one or two result lists.
 struct Outcome {
     number: usize,
@@ -58,8 +64,7 @@ pub fn try_one(draw: &mut Draw) -> Result<usize, String> {
     for _ in 0..spoils {
         spoil_lists(draw, &mut call);
     }
-    let before = draw.of(&[0.25, f64::NAN, f64::NEG_INFINITY, -0.0, 1e300]);
-    compare(&call, before).map_err(|why| format!("{}: {why}", call.told()))
+    compare(draw, &call).map_err(|why| format!("{}: {why}", call.told()))
 }
 
 /// A job of few configurations; its factors are lent later.
@@ -378,34 +383,33 @@ impl Lent<'_> {
 }
 
 /// The call, and what it answers and leaves.
-fn compare(call: &Call, before: f64) -> Result<usize, String> {
+fn compare(draw: &mut Draw, call: &Call) -> Result<usize, String> {
     let (lengths, work) = call.lent();
-    let outcome = outcome(call, &lengths, work, before)?;
+    let before = Before { lists: lengths.iter().map(|&length| draw.held(length)).collect(), work: draw.held(work) };
+    let outcome = outcome(call, &before)?;
     let lent = Lent::new(call);
-    let mut held = vec![before; work];
-    let mut results: Vec<Guarded<f64>> = lengths.iter().map(|&length| Guarded::new(&vec![before; length])).collect();
-    let (mut memory, mut count) = (Guarded::new(&held), COUNT_BEFORE);
+    let mut results: Vec<Guarded<f64>> = before.lists.iter().map(|list| Guarded::new(list)).collect();
+    let (mut memory, mut count) = (Guarded::new(&before.work), COUNT_BEFORE);
     let number = lent.called(&mut results, &mut memory, &mut count);
     equal("answer", number, outcome.number)?;
     equal("count", count, outcome.count)?;
     for ((list, expected), name) in results.iter().zip(&outcome.lists).zip(["first results", "second results"]) {
         list.holds(name, expected)?;
     }
-    held[..outcome.cleared].fill(0.0);
-    memory.holds("work", &held)?;
+    memory.is_cleared("work", outcome.cleared, &before.work)?;
     lent.unchanged()?;
     Ok(number)
 }
 
 /// By the checks, and where they pass by the original and the rules.
-fn outcome(call: &Call, lengths: &[usize], work: usize, before: f64) -> Result<Outcome, String> {
+fn outcome(call: &Call, before: &Before) -> Result<Outcome, String> {
+    let lengths: Vec<usize> = before.lists.iter().map(|list| list.len()).collect();
     let number = first(call.refusal(), || {
         let fits = unless(call.wanted() == lengths, 12);
-        first(fits, || unless(work >= room(&call.edges, &call.pairs), 13))
+        first(fits, || unless(before.work.len() >= room(&call.edges, &call.pairs), 13))
     });
     if number != 0 {
-        let lists = lengths.iter().map(|&length| vec![before; length]).collect();
-        return Ok(Outcome { number, count: COUNT_BEFORE, lists, cleared: 0 });
+        return Ok(Outcome { number, count: COUNT_BEFORE, lists: before.lists.clone(), cleared: 0 });
     }
     let (count, cleared) = (call.configurations(), room(&call.edges, &call.pairs));
     if count == 0 || call.sums() == 0 {

@@ -2,7 +2,7 @@
 
 use compare::{line, run, Until, GROUPS};
 
-const JOBS: [(&str, u64); 7] = [
+const JOBS: [(&str, u64); 8] = [
     ("generators", 150_000),
     ("graphs", 12_000),
     ("strips", 50_000),
@@ -10,6 +10,7 @@ const JOBS: [(&str, u64); 7] = [
     ("correlations", 60_000),
     ("estimates", 500_000),
     ("totals", 20_000),
+    ("columns", 20_000),
 ];
 
 #[test]

@@ -144,6 +144,25 @@ pub fn estimate(count: usize, squares: f64, fourths: f64) -> Result<Estimate, Re
     Refusal::told(number).map(|()| if enough { Estimate::Estimated { mean, error } } else { Estimate::TooFew { mean } })
 }
 
+/// Writes what each place of `squares` and `fourths` estimates: the mean square to `means` and its standard error to `errors`, which stays as it
+/// was where the count is 1. Both have exactly as many doubles as there are sums of a kind.
+pub fn estimates(count: usize, squares: &[f64], fourths: &[f64], means: &mut [f64], errors: &mut [f64]) -> Result<(), Refusal> {
+    // SAFETY: four lists, each with its length, of which none overlap; the call is total.
+    Refusal::told(unsafe {
+        sys::copperhook_estimates(
+            count,
+            squares.as_ptr(),
+            squares.len(),
+            fourths.as_ptr(),
+            fourths.len(),
+            means.as_mut_ptr(),
+            means.len(),
+            errors.as_mut_ptr(),
+            errors.len(),
+        )
+    })
+}
+
 /// The square root of IEEE 754, as the library works it out. It takes every double; where there is no root it is a NaN.
 pub fn sqrt(x: f64) -> f64 {
     // SAFETY: no list; the call is total.

@@ -26,7 +26,7 @@ mod strip;
 pub mod sys;
 
 pub use graph::{Graph, Kept};
-pub use job::{estimate, sqrt, Estimate, Job, Manner, Pair, Sampling};
+pub use job::{estimate, estimates, sqrt, Estimate, Job, Manner, Pair, Sampling};
 pub use lists::{EdgeList, Factors, LabelledPair};
 pub use refusal::Refusal;
 pub use rng::Rng;

@@ -16,7 +16,7 @@ impl Rng {
         Rng { state }
     }
 
-    /// An independent stream of a seed.
+    /// Stream `index` of a seed.
     pub fn stream(seed: u64, index: u64) -> Rng {
         let mut state = [0; 4];
         // SAFETY: four words, as the call writes.

@@ -1,7 +1,7 @@
 //! The entries as they are in the archive; `include/copperhook.h` says what each means.
 //!
-//! A list is a pointer and the number of its elements. The pointer is aligned and not null, and a list that is written overlaps no other.
-//! Each call is total: nothing else is asked of the caller.
+//! A list is a pointer and the number of its elements. What a caller owes stands there too: pointers that are aligned and not null, nothing
+//! written that overlaps another argument, and the default floating-point environment, which Rust asks for anyway.
 
 use crate::job::Pair;
 
@@ -163,6 +163,18 @@ extern "C" {
 
     pub fn copperhook_estimate(count: usize, squares: f64, fourths: f64, enough: *mut bool, mean: *mut f64, error: *mut f64) -> usize;
 
+    pub fn copperhook_estimates(
+        count: usize,
+        squares: *const f64,
+        squares_len: usize,
+        fourths: *const f64,
+        fourths_len: usize,
+        means: *mut f64,
+        means_len: usize,
+        errors: *mut f64,
+        errors_len: usize,
+    ) -> usize;
+
     pub fn copperhook_sqrt(x: f64) -> f64;
 
     pub fn copperhook_graph(
@@ -272,7 +284,7 @@ extern "C" {
         u: usize,
         v: usize,
         joined: *mut bool,
-        length: *mut usize,
+        edges: *mut usize,
     ) -> usize;
 
     pub fn copperhook_strip_n(kind: usize, w: usize, l: usize, periodic: bool, n: *mut usize) -> usize;

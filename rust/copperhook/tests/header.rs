@@ -124,14 +124,24 @@ fn square_sheet() -> Result<String, Refusal> {
     Ok(text)
 }
 
+/// What a program of this folder prints, compiled and linked with these options besides.
+fn printed_by(name: &str, options: &[&str]) -> String {
+    let program = folder(name).join(name);
+    let source = repository().join(format!("rust/copperhook/tests/{name}.c"));
+    let mut compile = Command::new("gcc");
+    compile.arg("-std=c11").args(STRICT).arg(include()).arg(source).arg(copperhook::ARCHIVE).args(options).arg("-o").arg(&program);
+    succeeded(compile.output().expect("gcc runs"));
+    succeeded(Command::new(program).output().unwrap())
+}
+
+#[test]
+fn fast_math_turns_subnormals_off_and_the_default_environment_on_again() {
+    assert_eq!(printed_by("environment", &["-ffast-math", "-lm"]), "0 0000000000000000\n0 0000000000000001\n");
+}
+
 #[test]
 fn a_c_program_prints_what_the_bindings_answer() {
-    let program = folder("square").join("square");
-    let source = repository().join("rust/copperhook/tests/square.c");
-    let mut compile = Command::new("gcc");
-    compile.arg("-std=c11").args(STRICT).arg(include()).arg(source).arg(copperhook::ARCHIVE).arg("-o").arg(&program);
-    succeeded(compile.output().expect("gcc runs"));
-    let printed = succeeded(Command::new(program).output().unwrap());
+    let printed = printed_by("square", &[]);
     assert_eq!(printed, square_sheet().unwrap());
     for line in ["corner-adj-a 0 1", "opp-corners 0 3"] {
         assert!(printed.contains(line), "{printed}");

@@ -1,6 +1,6 @@
 //! The settled examples of document 01, through the bindings, and what lists hold after calls that are refused.
 
-use copperhook::{estimate, Dilution, EdgeList, Estimate, Graph, Job, Kind, Manner, Pair, Refusal, Rng, Sampling, Strip};
+use copperhook::{estimate, estimates, Dilution, EdgeList, Estimate, Graph, Job, Kind, Manner, Pair, Refusal, Rng, Sampling, Strip};
 
 const MANNERS: [Manner; 2] = [Manner::PerElement, Manner::Block];
 
@@ -142,11 +142,27 @@ fn chunks_are_added_in_order() {
 }
 
 #[test]
-fn estimates() {
+fn single_estimates() {
     assert_eq!(estimate(2, 1.0, 1.0), Ok(Estimate::Estimated { mean: 0.5, error: 0.5 }));
     assert_eq!(estimate(1, 1.0, 1.0), Ok(Estimate::TooFew { mean: 1.0 }));
     assert_eq!(estimate(0, 0.0, 0.0), Err(Refusal::Sums));
     assert_eq!(estimate(2, 0.5, f64::NAN), Err(Refusal::Sums));
+}
+
+#[test]
+fn columns_of_estimates() {
+    let (mut means, mut errors) = ([7.0; 2], [8.0; 2]);
+    assert_eq!(estimates(2, &[1.0, 2.0], &[1.0, 2.0], &mut means, &mut errors), Ok(()));
+    assert_eq!((means, errors), ([0.5, 1.0], [0.5, 0.0]));
+    assert_eq!(estimates(1, &[1.0, 0.25], &[1.0, 0.0], &mut means, &mut errors), Ok(()));
+    assert_eq!((means, errors), ([1.0, 0.25], [0.5, 0.0]));
+    for (sums, refusal) in [(&[0.5, 3.0][..], Refusal::Sums), (&[0.5], Refusal::Buffer), (&[0.5; 3], Refusal::Buffer)] {
+        assert_eq!(estimates(2, sums, &[0.0; 3][..sums.len()], &mut means, &mut errors), Err(refusal));
+        assert_eq!((means, errors), ([1.0, 0.25], [0.5, 0.0]));
+    }
+    assert_eq!(estimates(2, &[0.5; 2], &[0.0; 3], &mut means, &mut []), Err(Refusal::ListLengths));
+    assert_eq!(estimates(2, &[0.5; 2], &[0.0; 2], &mut means, &mut []), Err(Refusal::Buffer));
+    assert_eq!((estimates(0, &[], &[], &mut [], &mut []), estimates(1, &[], &[], &mut [], &mut [])), (Err(Refusal::Sums), Ok(())));
 }
 
 #[test]

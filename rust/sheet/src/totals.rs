@@ -3,7 +3,7 @@
 use crate::board::{counted, Board};
 use crate::source::{Done, Source, Values};
 use crate::trouble::Trouble;
-use copperhook::{estimate, Estimate, Refusal, Sampling};
+use copperhook::{estimates, Refusal, Sampling};
 use std::collections::BTreeMap;
 use std::sync::atomic::{AtomicU64, Ordering};
 use std::sync::Mutex;
@@ -44,14 +44,11 @@ impl Sums {
 
     /// What the library estimates from them, for each beta and pair.
     fn estimates(&self, count: usize, pairs: usize) -> Result<Values, Refusal> {
-        let each = self.squares.iter().zip(&self.fourths).map(|(&squares, &fourths)| {
-            estimate(count, squares, fourths).map(|estimate| match estimate {
-                Estimate::Estimated { mean, error } => vec![mean, error],
-                Estimate::TooFew { mean } => vec![mean],
-            })
-        });
-        let each: Vec<Vec<f64>> = each.collect::<Result<_, _>>()?;
-        Ok(each.chunks(pairs.max(1)).map(|of_beta| of_beta.to_vec()).collect())
+        let (mut means, mut errors) = (vec![0.0; self.squares.len()], vec![0.0; self.squares.len()]);
+        estimates(count, &self.squares, &self.fourths, &mut means, &mut errors)?;
+        let shown = columns(count).len();
+        let rows: Vec<Vec<f64>> = means.into_iter().zip(errors).map(|(mean, error)| [mean, error][..shown].to_vec()).collect();
+        Ok(rows.chunks(pairs.max(1)).map(|of_beta| of_beta.to_vec()).collect())
     }
 }
 

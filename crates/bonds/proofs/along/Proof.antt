@@ -7,22 +7,22 @@ use Rattle.bonds.proofs.along.Tie as tie
 add-bond-if : tie.Need-add-bond-if
 add-bond-if c = search needs
 
-vid-requires : tie.Need-vid-requires
-vid-requires c κs = search needs
+vertex-at-requires : tie.Need-vertex-at-requires
+vertex-at-requires c κs = search needs
 
-add-vid : tie.Need-add-vid
-add-vid c = search needs
+add-vertex-at : tie.Need-add-vertex-at
+add-vertex-at c = search needs
 
-vid-requires-2 : tie.Need-vid-requires-2
-vid-requires-2 c κs = search needs
+vertex-at-requires-2 : tie.Need-vertex-at-requires-2
+vertex-at-requires-2 c κs = search needs
 
 bond-if-requires : tie.Need-bond-if-requires
 bond-if-requires c κs = search needs
 
 returns : tie.Need-returns
 unfolding along
-returns c = rw (c .before .before .vid .ensures, c .before .vid2 .ensures) at (c .bond-if .ensures)
+returns c = rw (c .before .before .vertex-at .ensures, c .before .vertex-at2 .ensures) at (c .bond-if .ensures)
 
 pub along-spec : {M : Type 1} → statement M
 along-spec =
-    tie.close (tie.spec add-bond-if vid-requires add-vid vid-requires-2 bond-if-requires returns)
+    tie.close (tie.spec add-bond-if vertex-at-requires add-vertex-at vertex-at-requires-2 bond-if-requires returns)

@@ -13,24 +13,24 @@ add-diagonal c = search needs
 add-bond-if : tie.Need-add-bond-if
 add-bond-if c = search needs
 
-add-vid : tie.Need-add-vid
-add-vid c = search needs
+add-vertex-at : tie.Need-add-vertex-at
+add-vertex-at c = search needs
 
-vid-requires : tie.Need-vid-requires
-vid-requires c κs = search needs
+vertex-at-requires : tie.Need-vertex-at-requires
+vertex-at-requires c κs = search needs
 
-add-vid-2 : tie.Need-add-vid-2
-add-vid-2 c = search needs
+add-vertex-at-2 : tie.Need-add-vertex-at-2
+add-vertex-at-2 c = search needs
 
-vid-requires-2 : tie.Need-vid-requires-2
-vid-requires-2 c κs = search needs
+vertex-at-requires-2 : tie.Need-vertex-at-requires-2
+vertex-at-requires-2 c κs = search needs
 
 bond-if-requires : tie.Need-bond-if-requires
 bond-if-requires c κs = search needs
 
 returns : tie.Need-returns
 unfolding falling
-returns c = rw (c .before .before .before .before .before .is-tri .ensures, c .before .before .vid .ensures, c .before .vid2 .ensures) at (c .bond-if .ensures)
+returns c = rw (c .before .before .before .before .before .is-tri .ensures, c .before .before .vertex-at .ensures, c .before .vertex-at2 .ensures) at (c .bond-if .ensures)
 
 pub falling-spec : {M : Type 1} → statement M
 falling-spec =
@@ -39,9 +39,9 @@ falling-spec =
     is-tri-requires
     add-diagonal
     add-bond-if
-    add-vid
-    vid-requires
-    add-vid-2
-    vid-requires-2
+    add-vertex-at
+    vertex-at-requires
+    add-vertex-at-2
+    vertex-at-requires-2
     bond-if-requires
     returns)

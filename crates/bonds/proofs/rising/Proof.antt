@@ -16,27 +16,27 @@ add-diagonal c = search needs
 add-next : tie.Need-add-next
 add-next c = search needs
 
-vid-requires : tie.Need-vid-requires
-vid-requires c κs = search needs
+vertex-at-requires : tie.Need-vertex-at-requires
+vertex-at-requires c κs = search needs
 
-add-vid : tie.Need-add-vid
-add-vid c = search needs
+add-vertex-at : tie.Need-add-vertex-at
+add-vertex-at c = search needs
 
-add-vid-2 : tie.Need-add-vid-2
-add-vid-2 c = search needs
+add-vertex-at-2 : tie.Need-add-vertex-at-2
+add-vertex-at-2 c = search needs
 
-rem-vid : tie.Need-rem-vid
-rem-vid c = search needs
+rem-vertex-at : tie.Need-rem-vertex-at
+rem-vertex-at c = search needs
 
-vid-requires-2 : tie.Need-vid-requires-2
-vid-requires-2 c κs = omega (arith, mod-le (c .before .before .before .before .args .y + 1) (c .before .before .before .before .args .s .w))
+vertex-at-requires-2 : tie.Need-vertex-at-requires-2
+vertex-at-requires-2 c κs = omega (arith, mod-le (c .before .before .before .before .args .y + 1) (c .before .before .before .before .args .s .w))
 
 bond-if-requires : tie.Need-bond-if-requires
 bond-if-requires c κs = search needs
 
 returns : tie.Need-returns
 unfolding rising
-returns c = rw (c .before .before .before .before .before .is-tri .ensures, c .before .before .vid .ensures, c .before .vid2 .ensures) at (c .bond-if .ensures)
+returns c = rw (c .before .before .before .before .before .is-tri .ensures, c .before .before .vertex-at .ensures, c .before .vertex-at2 .ensures) at (c .bond-if .ensures)
 
 pub rising-spec : {M : Type 1} → statement M
 rising-spec =
@@ -45,10 +45,10 @@ rising-spec =
     is-tri-requires
     add-diagonal
     add-next
-    vid-requires
-    add-vid
-    add-vid-2
-    rem-vid
-    vid-requires-2
+    vertex-at-requires
+    add-vertex-at
+    add-vertex-at-2
+    rem-vertex-at
+    vertex-at-requires-2
     bond-if-requires
     returns)

@@ -15,8 +15,8 @@ Inv-loop s w sites k₀ v₀ k v = (k ≡ length (edgesBelow s v)) × (v ≤ s .
 abbrev μ-loop : tie.MeasureT-loop
 μ-loop s w sites k₀ v₀ k v = s .w * s .l - v
 
-n-requires : tie.Need-n-requires Inv-loop μ-loop
-n-requires c κs = omega arith
+vertex-count-requires : tie.Need-vertex-count-requires Inv-loop μ-loop
+vertex-count-requires c κs = omega arith
 
 loop-holds : tie.Need-loop-holds Inv-loop μ-loop
 loop-holds c = (sym (no-edges (c .before .args .s)), omega arith, omega arith)
@@ -28,7 +28,7 @@ rem-count-site : tie.Need-rem-count-site Inv-loop μ-loop
 rem-count-site c = omega arith
 
 count-site-requires : tie.Need-count-site-requires Inv-loop μ-loop
-count-site-requires c κs = site _ (c .before .before .before .pre) (c .before .loop .v) (rw (c .before .before .n .ensures) at (c .loop-test .taken))
+count-site-requires c κs = site _ (c .before .before .before .pre) (c .before .loop .v) (rw (c .before .before .vertex-count .ensures) at (c .loop-test .taken))
 
 add-k : tie.Need-add-k Inv-loop μ-loop
 add-k c = omega arith
@@ -51,7 +51,7 @@ count-edges-spec =
     (tie.spec
     Inv-loop
     μ-loop
-    n-requires
+    vertex-count-requires
     loop-holds
     div-count-site
     rem-count-site

@@ -15,8 +15,8 @@ Inv-loop s early₀ late₀ mag₀ w sites k₀ v₀ early late mag k v = Writte
 abbrev μ-loop : tie.MeasureT-loop
 μ-loop s early₀ late₀ mag₀ w sites k₀ v₀ early late mag k v = s .w * s .l - v
 
-n-requires : tie.Need-n-requires Inv-loop μ-loop
-n-requires c κs = omega arith
+vertex-count-requires : tie.Need-vertex-count-requires Inv-loop μ-loop
+vertex-count-requires c κs = omega arith
 
 loop-holds : tie.Need-loop-holds Inv-loop μ-loop
 loop-holds c = (none-written _ _ _ _, omega arith)
@@ -28,7 +28,7 @@ rem-place-site : tie.Need-rem-place-site Inv-loop μ-loop
 rem-place-site c = omega arith
 
 place-site-requires : tie.Need-place-site-requires Inv-loop μ-loop
-place-site-requires c κs = let t = rw (c .before .before .before .before .before .n .ensures) at (c .before .before .before .loop-test .taken) in (site _ (c .before .before .before .before .before .before .before .before .before .pre .0) (c .before .before .before .before .loop .v) t, site-room _ _ (c .before .before .before .before .loop .inv .0) (c .before .before .before .before .before .before .before .before .before .pre .1) t)
+place-site-requires c κs = let t = rw (c .before .before .before .before .before .vertex-count .ensures) at (c .before .before .before .loop-test .taken) in (site _ (c .before .before .before .before .before .before .before .before .before .pre .0) (c .before .before .before .before .loop .v) t, site-room _ _ (c .before .before .before .before .loop .inv .0) (c .before .before .before .before .before .before .before .before .before .pre .1) t)
 
 add-v : tie.Need-add-v Inv-loop μ-loop
 add-v c = omega arith
@@ -49,7 +49,7 @@ same-length-3 : tie.Need-same-length-3 Inv-loop μ-loop
 same-length-3 c = sites-sized _ _ (c .before .loop .inv .0) (c .before .before .before .before .before .before .pre .1) (c .before .loop .inv .1) .mags
 
 returns : tie.Need-returns Inv-loop μ-loop
-returns c = all-written _ _ (c .before .loop .inv .0) (c .before .before .before .before .before .before .pre .1) (rw (c .before .before .n .ensures) at (c .loop-test .left)) (c .before .loop .inv .1)
+returns c = all-written _ _ (c .before .loop .inv .0) (c .before .before .before .before .before .before .pre .1) (rw (c .before .before .vertex-count .ensures) at (c .loop-test .left)) (c .before .loop .inv .1)
 
 pub write-edges-spec : {M : Type 1} → statement M
 write-edges-spec =
@@ -57,7 +57,7 @@ write-edges-spec =
     (tie.spec
     Inv-loop
     μ-loop
-    n-requires
+    vertex-count-requires
     loop-holds
     div-place-site
     rem-place-site

@@ -1,68 +1,69 @@
 -- Each `return` is a law of Cases.
 use mathlib.Core.Path.{_≡_, sym, _∙_}
-use mathlib.Core.Bool.{true}
+use mathlib.Core.Bool.{true, false}
 use Prim.Native.Nat.{_^_}
-use native.Mathlib.Omega.{arith}
 use lib.Dec.{le→leb}
 use lib.Ieee.{inFloat}
-use borrow.Author.Tests.{not-true, not-false}
-use Rattle.estimate.specs.Estimates.{number, inOrder}
-use Rattle.estimate.proofs.Cases.{refused-none, refused-many, refused-order, too-few, enough}
 use borrow.Author.Needs.{needs}
+use borrow.Author.Tests.{not-true, not-false}
+use Rattle.estimate.specs.Estimates.{number, badCount, inOrder}
+use Rattle.estimate.specs.Counted.{few-enough}
+use Rattle.estimate.specs.Cases.{refused-count, refused-order, too-few, enough}
 use Rattle.estimate.proofs.estimate.Statement.{statement}
 use Rattle.estimate.proofs.estimate.Tie as tie
 
-ordered : (c : tie.Else3)
+counted : (c : tie.Else1) → badCount (c .before .before .args .count) ≡ false
+counted c = sym (c .before .bad-count .ensures) ∙ c .if1 .left
+
+ordered : (c : tie.Else2)
     → let s = c .before .before .before .before .before .args in inOrder (number (s .count)) (s .squares) (s .fourths) ≡ true
-ordered c = sym (c .before .in-order .ensures) ∙ not-false _ (c .if3 .left)
+ordered c = sym (c .before .in-order .ensures) ∙ not-false _ (c .if2 .left)
+
+bad-count-requires : tie.Need-bad-count-requires
+bad-count-requires c κs = search needs
 
 returns : tie.Need-returns
-returns c = let s = c .before .args in refused-none (s .count) (s .squares) (s .fourths) (c .if1 .taken)
-
-returns-2 : tie.Need-returns-2
-returns-2 c =
+returns c =
     let s = c .before .before .args in
-    refused-many (s .count) (s .squares) (s .fourths) (c .before .if1 .left) (omega arith)
+    refused-count (s .count) (s .squares) (s .fourths) (sym (c .before .bad-count .ensures) ∙ c .if1 .taken)
 
 int-to-float-n : tie.Need-int-to-float-n
 unfolding inFloat
-int-to-float-n c = le→leb (c .before .before .before .args .count) (2 ^ 53) (omega arith)
+int-to-float-n c = let count = c .before .before .before .args .count in le→leb count (2 ^ 53) (few-enough count (counted (c .before)))
 
 in-order-requires : tie.Need-in-order-requires
 in-order-requires c κs = search needs
 
-returns-3 : tie.Need-returns-3
-returns-3 c =
+returns-2 : tie.Need-returns-2
+returns-2 c =
     let e = c .before .before .before in
     let s = e .before .before .args in
-    refused-order (s .count) (s .squares) (s .fourths) (e .before .if1 .left) (e .if2 .left)
-    (sym (c .before .in-order .ensures) ∙ not-true _ (c .if3 .taken))
+    refused-order (s .count) (s .squares) (s .fourths) (counted e) (sym (c .before .in-order .ensures) ∙ not-true _ (c .if2 .taken))
+
+returns-3 : tie.Need-returns-3
+returns-3 c =
+    let e = c .before .before .before .before in
+    let s = e .before .before .args in
+    too-few (s .count) (s .squares) (s .fourths) (counted e) (ordered (c .before)) (c .if3 .taken)
+
+mean-error-requires : tie.Need-mean-error-requires
+mean-error-requires c κs = search needs
 
 returns-4 : tie.Need-returns-4
 returns-4 c =
-    let e = c .before .before .before .before in
-    let s = e .before .before .args in
-    too-few (s .count) (s .squares) (s .fourths) (e .before .if1 .left) (e .if2 .left) (ordered (c .before)) (c .if4 .taken)
-
-error-of-requires : tie.Need-error-of-requires
-error-of-requires c κs = search needs
-
-returns-5 : tie.Need-returns-5
-returns-5 c =
     let e = c .before .before .before .before .before in
     let s = e .before .before .args in
-    enough (s .count) (s .squares) (s .fourths) (e .before .if1 .left) (e .if2 .left) (ordered (c .before .before)) _
-    (c .error-of .ensures) (c .before .if4 .left)
+    enough (s .count) (s .squares) (s .fourths) (counted e) (ordered (c .before .before)) _ (c .mean-error .ensures) (c .before .if3 .left)
 
 pub estimate-spec : {M : Type 1} → statement M
 estimate-spec =
     tie.close
     (tie.spec
+    bad-count-requires
     returns
-    returns-2
     int-to-float-n
     in-order-requires
+    returns-2
     returns-3
-    returns-4
-    error-of-requires
-    returns-5)
+    mean-error-requires
+    returns-4)

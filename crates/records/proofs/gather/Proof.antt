@@ -1,5 +1,5 @@
 -- A walk of the MIR, by hand: a list of records is lent. It is opened once before the loop and shut once after it; a turn reads a pair and
--- calls `push`, which is covered. The invariant, where t pairs are left to copy: i + t are copied in all, and the ends of the first i are held.
+-- calls `push`, which is covered. The invariant, where t pairs are left to copy: i + t are copied in all, and the ends are those of the first i.
 use mathlib.Core.Path.{_≡_, refl, sym, ap, subst, _∙_}
 use Prim.Native.Nat.{ℕ, zero, suc, _+_, _*_, _<_, _≤_, _^_, min}
 use native.Mathlib.Nat.{add-zero, zero-add, min-le-left, min-le-right}
@@ -49,8 +49,8 @@ use denote.Triple.Table.{entered, cited}
 use denote.Triple.Walked.{says, Stays, stay-dropped, walkOf, Walks, ends-at, walked, goes-dropped, walk-meets}
 use Rattle.records.specs.declared.Pair.{Pair}
 use Rattle.records.specs.declared.Ends.{Ends}
-use Rattle.records.specs.Columns.{mostCopied, Pushed}
-use Rattle.records.proofs.Held.{none, Held, none-held, more-held, all-held}
+use Rattle.records.specs.Columns.{mostCopied, endsOf, gathered, pushed}
+use Rattle.records.proofs.Growing.{none, pair-more}
 use Rattle.records.proofs.Pair as T
 use Rattle.records.proofs.Pair.Laws as T′
 use Rattle.records.proofs.Ends as E
@@ -154,7 +154,7 @@ module _ {M : Type 1} (𝓤 : URA M) (H : Heap 𝓤) (A : Atoms 𝓤) (W : Given
   asks-empty = qed W [] ∵ nothing ! $ nothing ! $ join ! $ frame ! $ done !
 
   abbrev Clear : Ends → Type 0
-  Clear e = e .count ≡ 0
+  Clear e = e ≡ endsOf [] 0
 
   says-empty : (e : Ends) → ent 𝓤 (ensured 𝓤 H A empty.ended (empty.clauses 𝓤 H A mem run) tt tt tt e) (fact 𝓤 (Clear e))
   says-empty e = exE 𝓤 _ (λ ws. snd∗ 𝓤 (sem 𝓤 H A (lasts empty.ended tt tt ws)) (fact 𝓤 (Clear e)))
@@ -170,13 +170,13 @@ module _ {M : Type 1} (𝓤 : URA M) (H : Heap 𝓤) (A : Atoms 𝓤) (W : Given
       move ! (1 ∷ 0 ∷ []) $ fjoin ! $ nothing ! $ frame ! $ done !
 
   says-push : (e : Ends) (a c : ℕ) (e′ : Ends)
-      → ent 𝓤 (ensured 𝓤 H A push.ended (push.clauses 𝓤 H A mem run) tt (e, (a, (c, tt))) tt e′) (fact 𝓤 (Pushed e a c e′))
-  says-push e a c e′ = exE 𝓤 _ (λ ws. snd∗ 𝓤 (sem 𝓤 H A (lasts push.ended tt (e, (a, (c, tt))) ws)) (fact 𝓤 (Pushed e a c e′)))
+      → ent 𝓤 (ensured 𝓤 H A push.ended (push.clauses 𝓤 H A mem run) tt (e, (a, (c, tt))) tt e′) (fact 𝓤 (e′ ≡ pushed e a c))
+  says-push e a c e′ = exE 𝓤 _ (λ ws. snd∗ 𝓤 (sem 𝓤 H A (lasts push.ended tt (e, (a, (c, tt))) ws)) (fact 𝓤 (e′ ≡ pushed e a c)))
 
-  exits : (e : Ends) (v : Val) → Held ps (min len mostCopied) e → ent 𝓤 (⋆ 𝓤 H A (‵ (flft κ q) ∷ ‵ (Own e v) ∷ [])) (Post v)
+  exits : (e : Ends) (v : Val) → e ≡ gathered ps → ent 𝓤 (⋆ 𝓤 H A (‵ (flft κ q) ∷ ‵ (Own e v) ∷ [])) (Post v)
   exits e v d =
       qed W (‵ (flft κ q) ∷ ‵ (Own e v) ∷ []) ∵
-      suffices ! _ (ends-at 𝓤 H A f.ended stayed (f.clauses 𝓤 H A mem run) W bound v e (tt, tt) (tt, tt)) $ says ! (all-held ps e d) $
+      suffices ! _ (ends-at 𝓤 H A f.ended stayed (f.clauses 𝓤 H A mem run) W bound v e (tt, tt) (tt, tt)) $ says ! d $
       nothing ! $ move ! (1 ∷ 0 ∷ []) $ join ! $ frame ! $ nothing ! $ nothing ! $ fjoin ! $ frame ! $ done !
 
   module _ (𝓣 : Tables 𝓤 H) (known-push : Triple 𝓤 (𝓣 .C #records·push) (Push 𝓤 H A mem run)) (q′ : Share) (m : ℕ) (m-is : m ≡ min len mostCopied)
@@ -206,7 +206,7 @@ module _ {M : Type 1} (𝓤 : URA M) (H : Heap 𝓤) (A : Atoms 𝓤) (W : Given
         ∷ ‵ (froom word l₉ 0) ∷ ‵ (froom word l₁₀ 0) ∷ ‵ (froom tyPtr l₁₁ 0) ∷ ‵ (froom word l₁₂ 0) ∷ Frame
 
     abbrev Facts : ℕ → ℕ → Ends → Type 0
-    Facts t i e = (i + t ≡ m) × Held ps i e
+    Facts t i e = (i + t ≡ m) × (e ≡ endsOf ps i)
 
     abbrev Inv : ℕ → SProp 𝓤
     Inv t = ex 𝓤 (λ (i : ℕ). ex 𝓤 (λ (e : Ends). ex 𝓤 (λ (v : Val). guard 𝓤 (Facts t i e) (⋆ 𝓤 H A (At i e v)))))
@@ -234,7 +234,7 @@ module _ {M : Type 1} (𝓤 : URA M) (H : Heap 𝓤) (A : Atoms 𝓤) (W : Given
 
     -- a turn that copies one pair
     more : (i : ℕ) (e : Ends) (v : Val) (X : SProp 𝓤) → i < m → e .count ≡ i
-        → ((e′ : Ends) (w : Val) → Pushed e (elem i .u) (elem i .v) e′ → ent 𝓤 (⋆ 𝓤 H A (At (suc i) e′ w)) X)
+        → ((e′ : Ends) (w : Val) → e′ ≡ pushed e (elem i .u) (elem i .v) → ent 𝓤 (⋆ 𝓤 H A (At (suc i) e′ w)) X)
         → ent 𝓤 (⋆ 𝓤 H A (At i e v)) (Wp 𝓤 H C Λ En mirs.turn-1 (afterTurn 𝓤 H X Left))
     unfolding afterTurn
     more i e v X small at k =
@@ -278,8 +278,8 @@ module _ {M : Type 1} (𝓤 : URA M) (H : Heap 𝓤) (A : Atoms 𝓤) (W : Given
         use1 W (later (some (λ (e′ : Ends). (‵ ftrue ⊛ ‵ (Own e′ w))
         ⊛ raw (ensured 𝓤 H A push.ended (push.clauses 𝓤 H A mem run) tt (e, (elem i .u, (elem i .v, tt))) tt e′)))) (id⊢ 𝓤 _) $ await ! tt $
         pick ! (λ e′.
-        split ! $ move ! (1 ∷ []) $ use1 W (raw (fact 𝓤 (Pushed e (elem i .u) (elem i .v) e′))) (says-push e (elem i .u) (elem i .v) e′) $
-        heard ! (Pushed e (elem i .u) (elem i .v) e′) (λ d. split ! $ drop ! $
+        split ! $ move ! (1 ∷ []) $ use1 W (raw (fact 𝓤 (e′ ≡ pushed e (elem i .u) (elem i .v)))) (says-push e (elem i .u) (elem i .v) e′) $
+        heard ! (e′ ≡ pushed e (elem i .u) (elem i .v)) (λ d. split ! $ drop ! $
         peeks ! E.the-row (Is E.the-row) (shows 𝓤 H A E.the-row) e′ (w ∷ []) (λ is.
         land ! (from ! (stop !)) (store ! 3 refl (LL.lawful E.the-type E′.the-laws 𝓤 H A W .typed e′ (w ∷ []) is .0)) $ move ! (1 ∷ 0 ∷ []) $
         assigns-last ! (bin ! (load ! (from ! (stop !)) (look ! 2 refl)) (lit ! tt) (record { fits = next })) (from ! (stop !))
@@ -288,7 +288,7 @@ module _ {M : Type 1} (𝓤 : URA M) (H : Heap 𝓤) (A : Atoms 𝓤) (W : Given
         rewrite ! 2 (λ (j : ℕ). ‵ (fat fullShare word l₄ 0 (vint w64 j))) (add-one i) refl $ by ! (k e′ w d)))))))
 
     -- the turn that leaves the loop, and the rest of the body
-    ends : (e : Ends) (v : Val) (X : SProp 𝓤) → Held ps m e → ent 𝓤 (⋆ 𝓤 H A (At m e v)) (Wp 𝓤 H C Λ En mirs.turn-1 (afterTurn 𝓤 H X Left))
+    ends : (e : Ends) (v : Val) (X : SProp 𝓤) → e ≡ endsOf ps m → ent 𝓤 (⋆ 𝓤 H A (At m e v)) (Wp 𝓤 H C Λ En mirs.turn-1 (afterTurn 𝓤 H X Left))
     unfolding afterTurn
     ends e v X d =
         qed W (At m e v) ∵ exec ! C Λ En mirs.turn-1 (anyQ (afterTurn 𝓤 H X Left)) $
@@ -307,7 +307,7 @@ module _ {M : Type 1} (𝓤 : URA M) (H : Heap 𝓤) (A : Atoms 𝓤) (W : Given
         move ! (2 ∷ 11 ∷ []) $ free1 ! $ move ! (9 ∷ 10 ∷ []) $ free1 ! $ move ! (2 ∷ 9 ∷ []) $ free1 ! $ move ! (2 ∷ 8 ∷ []) $ free1 ! $
         move ! (2 ∷ 7 ∷ []) $ free1 ! $ move ! (2 ∷ 6 ∷ []) $ free1 ! $ move ! (2 ∷ 5 ∷ []) $ free1 ! $ move ! (2 ∷ 4 ∷ []) $ free1 ! $
         move ! (2 ∷ 3 ∷ []) $ free1 ! $
-        free0 ! $ by ! (exits e v (subst (λ (j : ℕ). Held ps j e) m-is d)))
+        free0 ! $ by ! (exits e v (subst (λ (j : ℕ). e ≡ endsOf ps j) m-is d)))
       where
         not-below : (j : ℕ) → j < j → ⊥
         not-below j l = omega arith
@@ -329,12 +329,12 @@ module _ {M : Type 1} (𝓤 : URA M) (H : Heap 𝓤) (A : Atoms 𝓤) (W : Given
 
     turn-at : (t i : ℕ) (e : Ends) (v : Val) → Facts t i e → ent 𝓤 (⋆ 𝓤 H A (At i e v)) (Wp 𝓤 H C Λ En mirs.turn-1 (afterTurn 𝓤 H (Below t) Left))
     turn-at zero i e v h =
-        subst (λ (j : ℕ). Held ps j e → ent 𝓤 (⋆ 𝓤 H A (At j e v)) (Wp 𝓤 H C Λ En mirs.turn-1 (afterTurn 𝓤 H (Below zero) Left)))
+        subst (λ (j : ℕ). e ≡ endsOf ps j → ent 𝓤 (⋆ 𝓤 H A (At j e v)) (Wp 𝓤 H C Λ En mirs.turn-1 (afterTurn 𝓤 H (Below zero) Left)))
         (sym (h .0) ∙ add-zero i) (ends e v (Below zero)) (h .1)
     turn-at (suc t) i e v h =
         let small = below-m i t m (h .0) in
-        more i e v (Below (suc t)) small (h .1 .counted)
-        (λ e′ w st. below t (suc i) e′ w (one-on i t m (h .0), more-held ps i e e′ (lt-le i m len small m-len) (h .1) st))
+        more i e v (Below (suc t)) small (ap (λ (x : Ends). x .count) (h .1))
+        (λ e′ w st. below t (suc i) e′ w (one-on i t m (h .0), pair-more ps i e e′ (lt-le i m len small m-len) (lt-le i m mostCopied small m-most) (h .1) st))
       where
         below-m : (a b c : ℕ) → a + suc b ≡ c → a < c
         below-m a b c p = omega (arith, p)
@@ -348,7 +348,7 @@ module _ {M : Type 1} (𝓤 : URA M) (H : Heap 𝓤) (A : Atoms 𝓤) (W : Given
         exE 𝓤 (λ (v : Val). guard 𝓤 (Facts t i e) (⋆ 𝓤 H A (At i e v))) (λ v. guardE 𝓤 (Facts t i e) (⋆ 𝓤 H A (At i e v)) (λ h. turn-at t i e v h))))
 
     loops : (e : Ends) (v : Val) → Clear e → ent 𝓤 (⋆ 𝓤 H A (At 0 e v)) (Wp 𝓤 H C Λ En (loop mirs.turn-1) Left)
-    loops e v cl = via 𝓤 (Inv m) (inv-at m 0 e v (zero-add m, none-held ps e cl))
+    loops e v cl = via 𝓤 (Inv m) (inv-at m 0 e v (zero-add m, cl))
         (loop-rule 𝓤 H (W .laws) 𝓣 _<_ (Nat·lt-wfRel .wf) En mirs.turn-1 Left Inv turns m)
 
   -- the MIR, up to the loop

@@ -38,7 +38,8 @@ use denote.Triple.Table.{entered, cited}
 use denote.Triple.Walked.{says, Stay, Stays, stay-dropped, gave-slice, walkOf, Silent, Goes, goes-dropped, goes-gave-slice, Walks, ends-at, walked, walk-meets}
 use denote.Exit.{yes}
 use denote.Triple.Clauses.{ensured, lasts, Lasts}
-use Rattle.records.specs.Columns.{firsts, seconds, firstEnds, secondEnds, mostCopied, Gathered}
+use Rattle.records.specs.Columns.{firsts, seconds, firstEnds, secondEnds, mostCopied, gathered}
+use Rattle.records.specs.Held.{few-held}
 use Rattle.records.specs.Uncopied.{answered}
 use Rattle.records.specs.declared.Pair.{Pair}
 use Rattle.records.specs.declared.Ends.{Ends}
@@ -144,8 +145,8 @@ module _ {M : Type 1} (𝓤 : URA M) (H : Heap 𝓤) (A : Atoms 𝓤) (W : Given
       done !
 
   says-gather : (e : Ends) → ent 𝓤 (ensured 𝓤 H A gather.ended (gather.clauses 𝓤 H A mem run) (κ₃, tt) (pairs, tt) tt e)
-      (fact 𝓤 (Gathered (now pairs) e))
-  says-gather e = exE 𝓤 _ (λ ws. snd∗ 𝓤 (sem 𝓤 H A (lasts gather.ended (κ₃, tt) (pairs, tt) ws)) (fact 𝓤 (Gathered (now pairs) e)))
+      (fact 𝓤 (e ≡ gathered (now pairs)))
+  says-gather e = exE 𝓤 _ (λ ws. snd∗ 𝓤 (sem 𝓤 H A (lasts gather.ended (κ₃, tt) (pairs, tt) ws)) (fact 𝓤 (e ≡ gathered (now pairs))))
 
   -- what `between` is passed
   abbrev κs′ : Lfts 6
@@ -265,8 +266,8 @@ module _ {M : Type 1} (𝓤 : URA M) (H : Heap 𝓤) (A : Atoms 𝓤) (W : Given
         calls-at ! fm (Gather 𝓤 H A mem run) known-gather to-gather (and-then ! (load ! (from ! (stop !)) (look ! 21 refl)) (no-more !)) (λ u.
         use1 W (later (some (λ (e : Ends). (tokens-gather ⊛ ‵ (E.the-row .own e (u ∷ [])))
         ⊛ raw (ensured 𝓤 H A gather.ended (gather.clauses 𝓤 H A mem run) (κ₃, tt) (pairs, tt) tt e)))) (id⊢ 𝓤 _) $ await ! tt $ pick ! (λ e.
-        split ! $ move ! (1 ∷ []) $ use1 W (raw (fact 𝓤 (Gathered (now pairs) e))) (says-gather e) $
-        heard ! (Gathered (now pairs) e) (λ g. split ! $ move ! (1 ∷ []) $
+        split ! $ move ! (1 ∷ []) $ use1 W (raw (fact 𝓤 (e ≡ gathered (now pairs)))) (says-gather e) $
+        heard ! (e ≡ gathered (now pairs)) (λ g. split ! $ move ! (1 ∷ []) $
         -- [the ends; the pairs' token; the other tokens; what is owned but the pairs; _15; …; _0; …]
         peeks ! E.the-row (Is E.the-row) (shows 𝓤 H A E.the-row) e (u ∷ []) (λ is.
         land ! (from ! (stop !)) (init ! 12 refl (LL.lawful E.the-type E′.the-laws 𝓤 H A W .typed e (u ∷ []) is .0)) $
@@ -280,7 +281,7 @@ module _ {M : Type 1} (𝓤 : URA M) (H : Heap 𝓤) (A : Atoms 𝓤) (W : Given
         assigns ! (agg ! (and-then ! (load ! (from ! (stop !)) (look ! 6 refl))
         (and-then ! (load ! (from ! (fld ! refl (stop !))) (look-in ! 14 (sub ! 1 refl (whole !)))) (no-more !)))) (from ! (stop !))
         (init ! 4 refl (tt, (tt, (record { fits = rw′ .0 }, tt)))) $
-        move ! (2 ∷ 0 ∷ 3 ∷ []) $ use3 W (raw (Between 𝓤 H A mem run .pre (to-between e u))) (asks-between e u (g .counted)) $
+        move ! (2 ∷ 0 ∷ 3 ∷ []) $ use3 W (raw (Between 𝓤 H A mem run .pre (to-between e u))) (asks-between e u (few-held (now pairs) e g)) $
         -- [what between asks; the pairs' token; _15; …; _0; …]
         calls-at ! fm (Between 𝓤 H A mem run) known-between (to-between e u)
         (and-then ! (load ! (from ! (stop !)) (look ! 10 refl))

@@ -16,7 +16,7 @@ use Rattle.exhaustive.proofs.entry.exhaustive.Statement.{statement}
 use Rattle.exhaustive.proofs.entry.exhaustive.Tie as tie
 use Rattle.exhaustive.proofs.entry.exhaustive.Reads as reads
 use Rattle.exhaustive.proofs.entry.exhaustive.Lts as lts
-use Rattle.forest.proofs.cyclomatic.Reads as cyclomatic-reads
+use Rattle.forest.proofs.count_free_edges.Reads as count-free-edges-reads
 use Rattle.glass.proofs.is_each.Reads as is-each-reads
 use Rattle.refuse.proofs.check_with_betas.Reads as check-with-betas-reads
 use Rattle.lent.proofs.check_enumeration.Reads as check-enumeration-reads
@@ -51,20 +51,20 @@ array-share-prefix-early : tie.Need-array-share-prefix-early
 array-share-prefix-early c = early-fits (c .before .before .before .before .check-with-betas .ensures .ready (c .if1 .left) .written)
 
 -- src/entry.rt:58:30
-slice-aggregate-cyclomatic : tie.Need-slice-aggregate-cyclomatic
-slice-aggregate-cyclomatic c = early-part (c .before .before .before .before .before .check-with-betas .ensures .ready (c .before .if1 .left) .written)
+slice-aggregate-count-free-edges : tie.Need-slice-aggregate-count-free-edges
+slice-aggregate-count-free-edges c = early-part (c .before .before .before .before .before .check-with-betas .ensures .ready (c .before .if1 .left) .written)
 
 -- src/entry.rt:58:47
 array-share-prefix-late : tie.Need-array-share-prefix-late
 array-share-prefix-late c = late-fits (c .before .before .before .before .before .check-with-betas .ensures .ready (c .before .if1 .left) .written)
 
 -- src/entry.rt:58:47
-slice-aggregate-cyclomatic-2 : tie.Need-slice-aggregate-cyclomatic-2
-slice-aggregate-cyclomatic-2 c = late-part (c .before .before .before .before .before .before .check-with-betas .ensures .ready (c .before .before .if1 .left) .written)
+slice-aggregate-count-free-edges-2 : tie.Need-slice-aggregate-count-free-edges-2
+slice-aggregate-count-free-edges-2 c = late-part (c .before .before .before .before .before .before .check-with-betas .ensures .ready (c .before .before .if1 .left) .written)
 
 -- src/entry.rt:58:9
-cyclomatic-requires : tie.Need-cyclomatic-requires
-cyclomatic-requires c κs = let g = c .before .before .before .before .before .before .check-with-betas .ensures .ready (c .before .before .if1 .left) in (joined g, g .edges .few)
+count-free-edges-requires : tie.Need-count-free-edges-requires
+count-free-edges-requires c κs = let g = c .before .before .before .before .before .before .check-with-betas .ensures .ready (c .before .before .if1 .left) in (joined g, g .edges .few)
 
 -- src/entry.rt:69:9
 mul-check-enumeration : tie.Need-mul-check-enumeration
@@ -86,7 +86,7 @@ returns-2 c =
     let k = c .before .before .before .before .before .before .before .before .before .check-with-betas in
     let v = c .before .before .before .before .before .if1 .left in
     let g = k .ensures .ready v in
-    let f = c .before .before .cyclomatic in
+    let f = c .before .before .count-free-edges in
     let h = c .before .check-enumeration in
     let free = free-kept g (f .result) (f .ensures .1) in
     enumeration-refused-lists (a .n) (a .floor) (a .a .now) (a .b .now) (a .m .now) (a .us .now) (a .vs .now) (a .betas .now) (a .factors .now) (a .manner) (a .squares .now) (a .fourths .now) (a .work .now) (k .result .refusal) (k .ensures .refusal) v (h .result) (enumeration-lists g (length (a .betas .now)) (a .factors .now) (f .result) (freeCount (earlyEnds (kept (a .a .now) (a .b .now) (a .m .now))) (lateEnds (kept (a .a .now) (a .b .now) (a .m .now)))) 34 (misfits (length (a .betas .now) * length (a .us .now)) (length (a .squares .now)) (length (a .fourths .now))) (length (a .work .now)) (h .result) free (h .ensures)) (c .if2 .taken)
@@ -118,7 +118,7 @@ enumerate-job-requires c κs =
     let k = c .before .before .before .before .before .before .before .before .before .before .before .before .before .before .before .check-with-betas in
     let v = c .before .before .before .before .before .before .before .before .before .before .before .if1 .left in
     let g = k .ensures .ready v in
-    let f = c .before .before .before .before .before .before .before .before .cyclomatic in
+    let f = c .before .before .before .before .before .before .before .before .count-free-edges in
     let h = c .before .before .before .before .before .before .before .check-enumeration in
     let z = c .before .before .before .before .before .before .if2 .left in
     let p = enumeration-passed g (length (a .betas .now)) (a .factors .now) (f .result) 34 (misfits (length (a .betas .now) * length (a .us .now)) (length (a .squares .now)) (length (a .fourths .now))) (length (a .work .now)) (h .result) (k .ensures .betas-pass v .few) (h .ensures) z in
@@ -132,7 +132,7 @@ pow2-requires c κs =
     let k = c .before .before .before .before .before .before .before .before .before .before .before .before .before .before .before .before .before .before .before .before .before .before .before .check-with-betas in
     let v = c .before .before .before .before .before .before .before .before .before .before .before .before .before .before .before .before .before .before .before .if1 .left in
     let g = k .ensures .ready v in
-    let f = c .before .before .before .before .before .before .before .before .before .before .before .before .before .before .before .before .cyclomatic in
+    let f = c .before .before .before .before .before .before .before .before .before .before .before .before .before .before .before .before .count-free-edges in
     let h = c .before .before .before .before .before .before .before .before .before .before .before .before .before .before .before .check-enumeration in
     let z = c .before .before .before .before .before .before .before .before .before .before .before .before .before .before .if2 .left in
     let p = enumeration-passed g (length (a .betas .now)) (a .factors .now) (f .result) 34 (misfits (length (a .betas .now) * length (a .us .now)) (length (a .squares .now)) (length (a .fourths .now))) (length (a .work .now)) (h .result) (k .ensures .betas-pass v .few) (h .ensures) z in
@@ -157,7 +157,7 @@ returns-3 c =
     let k = c .before .before .before .before .before .before .before .before .before .before .before .before .before .before .before .before .before .before .before .before .before .before .before .before .check-with-betas in
     let v = c .before .before .before .before .before .before .before .before .before .before .before .before .before .before .before .before .before .before .before .before .if1 .left in
     let g = k .ensures .ready v in
-    let f = c .before .before .before .before .before .before .before .before .before .before .before .before .before .before .before .before .before .cyclomatic in
+    let f = c .before .before .before .before .before .before .before .before .before .before .before .before .before .before .before .before .before .count-free-edges in
     let h = c .before .before .before .before .before .before .before .before .before .before .before .before .before .before .before .before .check-enumeration in
     let free = free-kept g (f .result) (f .ensures .1) in
     let z = c .before .before .before .before .before .before .before .before .before .before .before .before .before .before .before .if2 .left in
@@ -185,7 +185,7 @@ returns-4 c =
     let k = c .before .before .before .before .before .before .before .before .before .before .before .before .before .before .before .before .before .before .before .before .before .before .before .check-with-betas in
     let v = c .before .before .before .before .before .before .before .before .before .before .before .before .before .before .before .before .before .before .before .if1 .left in
     let g = k .ensures .ready v in
-    let f = c .before .before .before .before .before .before .before .before .before .before .before .before .before .before .before .before .cyclomatic in
+    let f = c .before .before .before .before .before .before .before .before .before .before .before .before .before .before .before .before .count-free-edges in
     let h = c .before .before .before .before .before .before .before .before .before .before .before .before .before .before .before .check-enumeration in
     let free = free-kept g (f .result) (f .ensures .1) in
     let z = c .before .before .before .before .before .before .before .before .before .before .before .before .before .before .if2 .left in
@@ -206,10 +206,10 @@ exhaustive-spec =
     check-with-betas-requires
     returns
     array-share-prefix-early
-    slice-aggregate-cyclomatic
+    slice-aggregate-count-free-edges
     array-share-prefix-late
-    slice-aggregate-cyclomatic-2
-    cyclomatic-requires
+    slice-aggregate-count-free-edges-2
+    count-free-edges-requires
     mul-check-enumeration
     check-enumeration-requires
     returns-2

@@ -21,7 +21,7 @@ use Rattle.exhaustive.proofs.job.plan_and_enumerate.Tie as tie
 use Rattle.exhaustive.proofs.job.plan_and_enumerate.Reads as reads
 use Rattle.exhaustive.proofs.job.plan_and_enumerate.Lts as lts
 use Rattle.enumerated_totals.proofs.enumerated_totals.Reads as enumerated-totals-reads
-use Rattle.forest.proofs.spanning_forest.Reads as spanning-forest-reads
+use Rattle.forest.proofs.mark_tree_edges.Reads as mark-tree-edges-reads
 use Rattle.planned.proofs.clear.Reads as clear-reads
 use Rattle.places.proofs.order_pairs.Reads as order-pairs-reads
 use Rattle.places.proofs.make_plan.Reads as make-plan-reads
@@ -36,8 +36,8 @@ order-pairs-requires : tie.Need-order-pairs-requires
 order-pairs-requires c κs = let p = c .before .before .before .before .before .before .before .before .before .before .before .before .before .before .before .before .before .before .before .before .pre in (p .0 .job .pairs, p .0 .job .edges .few, p .4)
 
 -- src/job.rt:62:5
-spanning-forest-requires : tie.Need-spanning-forest-requires
-spanning-forest-requires c κs = let p = c .before .before .before .before .before .before .before .before .before .before .before .before .before .before .before .before .before .before .before .before .before .before .before .before .pre in (joins (p .0 .job .edges), p .0 .job .edges .few, p .5 .marked)
+mark-tree-edges-requires : tie.Need-mark-tree-edges-requires
+mark-tree-edges-requires c κs = let p = c .before .before .before .before .before .before .before .before .before .before .before .before .before .before .before .before .before .before .before .before .before .before .before .before .pre in (joins (p .0 .job .edges), p .0 .job .edges .few, p .5 .marked)
 
 -- src/job.rt:64:16
 slice-relend-prefix-room : tie.Need-slice-relend-prefix-room
@@ -59,8 +59,8 @@ enumerated-totals-requires c κs =
     let s = c .before .before .before .before .before .before .before .before .before .before .before .before .before .before .before .before .before .before .before .before .before .before .before .before .before .before .before .before .before .before .before .before .before .before .before .before .before .before in
     let p = s .pre in
     let m = c .before .before .before .before .before .before .before .before .before .before .before .before .before .before .before .before .before .before .before .before .before .make-plan in
-    let marked = c .before .before .before .before .before .before .before .before .before .before .before .before .before .spanning-forest .ensures .0 in
-    let tree = c .before .before .before .before .before .before .before .before .before .before .before .before .before .spanning-forest .last .1 .1 .1 .0 in
+    let marked = c .before .before .before .before .before .before .before .before .before .before .before .before .before .mark-tree-edges .ensures .0 in
+    let tree = c .before .before .before .before .before .before .before .before .before .before .before .before .before .mark-tree-edges .last .1 .1 .1 .0 in
     let holds : Holds (m .last .0) (s .args .n) = omega (arith, p .3, m .kept .0) in
     let e = end-fits (m .last .0) (s .args .early .now) (s .args .late .now) (s .args .us .now) (s .args .vs .now) (s .args .n) (s .args .w) (m .result .places) (m .result .scales) (m .result .factors) (m .result .room) (length (s .args .work .now)) (p .0 .job) (m .ensures) in
     let long = marks-long (s .args .early .now) (s .args .late .now) tree marked in (
@@ -93,7 +93,7 @@ same-length-2 c = c .before .before .before .before .before .before .before .bef
 
 -- src/job.rt:27:1
 same-length-3 : tie.Need-same-length-3
-same-length-3 c = c .before .before .before .before .before .before .before .before .before .before .before .before .before .before .before .before .before .before .before .before .before .before .before .before .before .before .before .before .before .before .before .before .before .before .before .before .before .before .before .spanning-forest .kept .1 .1 .1 .0
+same-length-3 c = c .before .before .before .before .before .before .before .before .before .before .before .before .before .before .before .before .before .before .before .before .before .before .before .before .before .before .before .before .before .before .before .before .before .before .before .before .before .before .before .mark-tree-edges .kept .1 .1 .1 .0
 
 -- src/job.rt:27:1
 same-length-4 : tie.Need-same-length-4
@@ -130,7 +130,7 @@ returns c =
     let a = s .args in
     let p = s .pre in
     let m = c .before .before .before .before .before .before .before .before .before .before .before .before .before .before .before .before .before .before .before .before .before .before .before .before .before .before .before .before .before .before .before .before .before .before .before .before .before .before .before .before .before .before .before .before .before .before .before .make-plan in
-    let f = c .before .before .before .before .before .before .before .before .before .before .before .before .before .before .before .before .before .before .before .before .before .before .before .before .before .before .before .before .before .before .before .before .before .before .before .before .before .before .before .spanning-forest in
+    let f = c .before .before .before .before .before .before .before .before .before .before .before .before .before .before .before .before .before .before .before .before .before .before .before .before .before .before .before .before .before .before .before .before .before .before .before .before .before .before .before .mark-tree-edges in
     let t = c .before .before .before .before .before .before .before .before .before .before .before .before .before .before .before .before .before .before .before .before .before .before .before .before .before .enumerated-totals in
     let zero = c .before .before .before .before .before .before .before .before .before .before .clear in
     let x = c .before .before .before .before .before .before .clear-unsound in
@@ -150,7 +150,7 @@ plan-and-enumerate-spec =
     (tie.spec
     make-plan-requires
     order-pairs-requires
-    spanning-forest-requires
+    mark-tree-edges-requires
     slice-relend-prefix-room
     slice-aggregate-room
     enumerated-totals-requires

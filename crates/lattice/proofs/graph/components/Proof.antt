@@ -39,17 +39,17 @@ returns-2 c =
 array-share-prefix-early : tie.Need-array-share-prefix-early
 array-share-prefix-early c = early-fits (c .before .before .before .before .before .build .ensures .written (c .before .if1 .left))
 
-slice-aggregate-components : tie.Need-slice-aggregate-components
-slice-aggregate-components c = early-part (c .before .before .before .before .before .before .build .ensures .written (c .before .before .if1 .left))
+slice-aggregate-name-components : tie.Need-slice-aggregate-name-components
+slice-aggregate-name-components c = early-part (c .before .before .before .before .before .before .build .ensures .written (c .before .before .if1 .left))
 
 array-share-prefix-late : tie.Need-array-share-prefix-late
 array-share-prefix-late c = late-fits (c .before .before .before .before .before .before .build .ensures .written (c .before .before .if1 .left))
 
-slice-aggregate-components-2 : tie.Need-slice-aggregate-components-2
-slice-aggregate-components-2 c = late-part (c .before .before .before .before .before .before .before .build .ensures .written (c .before .before .before .if1 .left))
+slice-aggregate-name-components-2 : tie.Need-slice-aggregate-name-components-2
+slice-aggregate-name-components-2 c = late-part (c .before .before .before .before .before .before .before .build .ensures .written (c .before .before .before .if1 .left))
 
-components-requires : tie.Need-components-requires
-components-requires c κs = (edges-fronts (c .before .before .before .before .before .before .before .before .build .ensures) (c .before .before .before .before .if1 .left), is-accepted (c .before .before .before .before .before .before .before .before .build .ensures) (c .before .before .before .before .if1 .left) .few-vertices, c .before .before .before .if2 .left)
+name-components-requires : tie.Need-name-components-requires
+name-components-requires c κs = (edges-fronts (c .before .before .before .before .before .before .before .before .build .ensures) (c .before .before .before .before .if1 .left), is-accepted (c .before .before .before .before .before .before .before .before .build .ensures) (c .before .before .before .before .if1 .left) .few-vertices, c .before .before .before .if2 .left)
 
 same-length : tie.Need-same-length
 same-length c = search needs
@@ -60,7 +60,7 @@ returns-3 c =
     let s = c .before .before .before .before .before .before .before .before .before .before .before .before .before .before .before .before .before .before .before in
     let g = c .before .before .before .before .before .before .before .before .before .before .before in
     let z = c .before .before .before .before .before .before .before .if1 .left in
-    (refused-not (then-buffers (s .args .n) (s .args .a .now) (s .args .b .now) (s .args .m .now) (not (eqb (length (s .args .out .now)) (s .args .n)))) _ (g .build .ensures .refusal) z (ap not (eq-eqb _ _ (c .before .before .before .before .before .before .if2 .left))), of-kept (g .build .ensures .written z) (componentNames (s .args .n)) (c .before .before .components .ensures))
+    (refused-not (then-buffers (s .args .n) (s .args .a .now) (s .args .b .now) (s .args .m .now) (not (eqb (length (s .args .out .now)) (s .args .n)))) _ (g .build .ensures .refusal) z (ap not (eq-eqb _ _ (c .before .before .before .before .before .before .if2 .left))), of-kept (g .build .ensures .written z) (componentNames (s .args .n)) (c .before .before .name-components .ensures))
 
 pub components-spec : {M : Type 1} → statement M
 components-spec =
@@ -73,9 +73,9 @@ components-spec =
     returns
     returns-2
     array-share-prefix-early
-    slice-aggregate-components
+    slice-aggregate-name-components
     array-share-prefix-late
-    slice-aggregate-components-2
-    components-requires
+    slice-aggregate-name-components-2
+    name-components-requires
     same-length
     returns-3)

@@ -24,21 +24,21 @@ returns c = refused-is _ _ _ (c .before .before .before .before .build .ensures 
 array-share-prefix-early : tie.Need-array-share-prefix-early
 array-share-prefix-early c = early-fits (c .before .before .before .before .build .ensures .written (c .if1 .left))
 
-slice-aggregate-cyclomatic : tie.Need-slice-aggregate-cyclomatic
-slice-aggregate-cyclomatic c = early-part (c .before .before .before .before .before .build .ensures .written (c .before .if1 .left))
+slice-aggregate-count-free-edges : tie.Need-slice-aggregate-count-free-edges
+slice-aggregate-count-free-edges c = early-part (c .before .before .before .before .before .build .ensures .written (c .before .if1 .left))
 
 array-share-prefix-late : tie.Need-array-share-prefix-late
 array-share-prefix-late c = late-fits (c .before .before .before .before .before .build .ensures .written (c .before .if1 .left))
 
-slice-aggregate-cyclomatic-2 : tie.Need-slice-aggregate-cyclomatic-2
-slice-aggregate-cyclomatic-2 c = late-part (c .before .before .before .before .before .before .build .ensures .written (c .before .before .if1 .left))
+slice-aggregate-count-free-edges-2 : tie.Need-slice-aggregate-count-free-edges-2
+slice-aggregate-count-free-edges-2 c = late-part (c .before .before .before .before .before .before .build .ensures .written (c .before .before .if1 .left))
 
-cyclomatic-requires : tie.Need-cyclomatic-requires
-cyclomatic-requires c κs = (edges-fronts (c .before .before .before .before .before .before .build .ensures) (c .before .before .if1 .left), is-accepted (c .before .before .before .before .before .before .build .ensures) (c .before .before .if1 .left) .few-vertices)
+count-free-edges-requires : tie.Need-count-free-edges-requires
+count-free-edges-requires c κs = (edges-fronts (c .before .before .before .before .before .before .build .ensures) (c .before .before .if1 .left), is-accepted (c .before .before .before .before .before .before .build .ensures) (c .before .before .if1 .left) .few-vertices)
 
 returns-2 : tie.Need-returns-2
 unfolding freeCount
-returns-2 c = number-is _ _ _ _ (c .before .before .before .before .before .before .before .build .ensures .refusal) (c .before .before .before .if1 .left) (of-kept (c .before .before .before .before .before .before .before .build .ensures .written (c .before .before .before .if1 .left)) freeCount (c .cyclomatic .ensures .1))
+returns-2 c = number-is _ _ _ _ (c .before .before .before .before .before .before .before .build .ensures .refusal) (c .before .before .before .if1 .left) (of-kept (c .before .before .before .before .before .before .before .build .ensures .written (c .before .before .before .if1 .left)) freeCount (c .count-free-edges .ensures .1))
 
 pub cyclomatic-spec : {M : Type 1} → statement M
 cyclomatic-spec =
@@ -50,8 +50,8 @@ cyclomatic-spec =
     build-requires
     returns
     array-share-prefix-early
-    slice-aggregate-cyclomatic
+    slice-aggregate-count-free-edges
     array-share-prefix-late
-    slice-aggregate-cyclomatic-2
-    cyclomatic-requires
+    slice-aggregate-count-free-edges-2
+    count-free-edges-requires
     returns-2)

@@ -43,17 +43,17 @@ returns-2 c =
 array-share-prefix-early : tie.Need-array-share-prefix-early
 array-share-prefix-early c = early-fits (c .before .before .before .before .before .before .build .ensures .written (c .before .before .if1 .left))
 
-slice-aggregate-distance : tie.Need-slice-aggregate-distance
-slice-aggregate-distance c = early-part (c .before .before .before .before .before .before .before .build .ensures .written (c .before .before .before .if1 .left))
+slice-aggregate-shortest-walk : tie.Need-slice-aggregate-shortest-walk
+slice-aggregate-shortest-walk c = early-part (c .before .before .before .before .before .before .before .build .ensures .written (c .before .before .before .if1 .left))
 
 array-share-prefix-late : tie.Need-array-share-prefix-late
 array-share-prefix-late c = late-fits (c .before .before .before .before .before .before .before .build .ensures .written (c .before .before .before .if1 .left))
 
-slice-aggregate-distance-2 : tie.Need-slice-aggregate-distance-2
-slice-aggregate-distance-2 c = late-part (c .before .before .before .before .before .before .before .before .build .ensures .written (c .before .before .before .before .if1 .left))
+slice-aggregate-shortest-walk-2 : tie.Need-slice-aggregate-shortest-walk-2
+slice-aggregate-shortest-walk-2 c = late-part (c .before .before .before .before .before .before .before .before .build .ensures .written (c .before .before .before .before .if1 .left))
 
-distance-requires : tie.Need-distance-requires
-distance-requires c κs =
+shortest-walk-requires : tie.Need-shortest-walk-requires
+shortest-walk-requires c κs =
     let s = c .before .before .before .before .before .before .before .before .before .before .before .before .before .before .before in
     let g = c .before .before .before .before .before .before .before .before .build .ensures in
     let z = c .before .before .before .before .if1 .left in
@@ -73,14 +73,14 @@ returns-3 c =
     let s = c .before .before .before .before .before .before .before .before .before .before .before .before .before .before .before .before .before .before .before in
     let g = c .before .before .before .before .before .before .before .before .before .before .before .before .build .ensures in
     let z = c .before .before .before .before .before .before .before .before .if1 .left in
-    length-distance _ _ _ _ _ _ (refused-not (then-pair (s .args .n) (s .args .a .now) (s .args .b .now) (s .args .m .now) (s .args .u) (s .args .v)) _ (g .refusal) z (told (c .before .before .before .before .before .before .before .is-outside .ensures) (c .before .before .before .before .before .before .if2 .left))) (distance-kept (g .written z) _ _ _ (Reach.Length _) (c .before .k .given .1) (c .before .before .before .distance .ensures))
+    length-distance _ _ _ _ _ _ (refused-not (then-pair (s .args .n) (s .args .a .now) (s .args .b .now) (s .args .m .now) (s .args .u) (s .args .v)) _ (g .refusal) z (told (c .before .before .before .before .before .before .before .is-outside .ensures) (c .before .before .before .before .before .before .if2 .left))) (distance-kept (g .written z) _ _ _ (Reach.Length _) (c .before .k .given .1) (c .before .before .before .shortest-walk .ensures))
 
 returns-4 : tie.Need-returns-4
 returns-4 c =
     let s = c .before .before .before .before .before .before .before .before .before .before .before .before .before .before .before .before .before .before in
     let g = c .before .before .before .before .before .before .before .before .before .before .before .build .ensures in
     let z = c .before .before .before .before .before .before .before .if1 .left in
-    no-distance _ _ _ _ _ (refused-not (then-pair (s .args .n) (s .args .a .now) (s .args .b .now) (s .args .m .now) (s .args .u) (s .args .v)) _ (g .refusal) z (told (c .before .before .before .before .before .before .is-outside .ensures) (c .before .before .before .before .before .if2 .left))) (distance-kept (g .written z) _ _ _ Reach.NotJoined (c .enum-told .given .1) (c .before .before .distance .ensures))
+    no-distance _ _ _ _ _ (refused-not (then-pair (s .args .n) (s .args .a .now) (s .args .b .now) (s .args .m .now) (s .args .u) (s .args .v)) _ (g .refusal) z (told (c .before .before .before .before .before .before .is-outside .ensures) (c .before .before .before .before .before .if2 .left))) (distance-kept (g .written z) _ _ _ Reach.NotJoined (c .enum-told .given .1) (c .before .before .shortest-walk .ensures))
 
 pub distance-spec : {M : Type 1} → statement M
 distance-spec =
@@ -94,10 +94,10 @@ distance-spec =
     is-outside-requires
     returns-2
     array-share-prefix-early
-    slice-aggregate-distance
+    slice-aggregate-shortest-walk
     array-share-prefix-late
-    slice-aggregate-distance-2
-    distance-requires
+    slice-aggregate-shortest-walk-2
+    shortest-walk-requires
     enum-known-k
     enum-told
     returns-3

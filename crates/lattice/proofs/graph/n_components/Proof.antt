@@ -24,20 +24,20 @@ returns c = refused-is _ _ _ (c .before .before .before .before .build .ensures 
 array-share-prefix-early : tie.Need-array-share-prefix-early
 array-share-prefix-early c = early-fits (c .before .before .before .before .build .ensures .written (c .if1 .left))
 
-slice-aggregate-n-components : tie.Need-slice-aggregate-n-components
-slice-aggregate-n-components c = early-part (c .before .before .before .before .before .build .ensures .written (c .before .if1 .left))
+slice-aggregate-count-components : tie.Need-slice-aggregate-count-components
+slice-aggregate-count-components c = early-part (c .before .before .before .before .before .build .ensures .written (c .before .if1 .left))
 
 array-share-prefix-late : tie.Need-array-share-prefix-late
 array-share-prefix-late c = late-fits (c .before .before .before .before .before .build .ensures .written (c .before .if1 .left))
 
-slice-aggregate-n-components-2 : tie.Need-slice-aggregate-n-components-2
-slice-aggregate-n-components-2 c = late-part (c .before .before .before .before .before .before .build .ensures .written (c .before .before .if1 .left))
+slice-aggregate-count-components-2 : tie.Need-slice-aggregate-count-components-2
+slice-aggregate-count-components-2 c = late-part (c .before .before .before .before .before .before .build .ensures .written (c .before .before .if1 .left))
 
-n-components-requires : tie.Need-n-components-requires
-n-components-requires c κs = (edges-fronts (c .before .before .before .before .before .before .build .ensures) (c .before .before .if1 .left), is-accepted (c .before .before .before .before .before .before .build .ensures) (c .before .before .if1 .left) .few-vertices)
+count-components-requires : tie.Need-count-components-requires
+count-components-requires c κs = (edges-fronts (c .before .before .before .before .before .before .build .ensures) (c .before .before .if1 .left), is-accepted (c .before .before .before .before .before .before .build .ensures) (c .before .before .if1 .left) .few-vertices)
 
 returns-2 : tie.Need-returns-2
-returns-2 c = number-is _ _ _ _ (c .before .before .before .before .before .before .before .build .ensures .refusal) (c .before .before .before .if1 .left) (of-kept (c .before .before .before .before .before .before .before .build .ensures .written (c .before .before .before .if1 .left)) (componentCount (c .before .before .before .before .before .before .before .before .before .before .before .before .before .before .args .n)) (c .n-components .ensures))
+returns-2 c = number-is _ _ _ _ (c .before .before .before .before .before .before .before .build .ensures .refusal) (c .before .before .before .if1 .left) (of-kept (c .before .before .before .before .before .before .before .build .ensures .written (c .before .before .before .if1 .left)) (componentCount (c .before .before .before .before .before .before .before .before .before .before .before .before .before .before .args .n)) (c .count-components .ensures))
 
 pub n-components-spec : {M : Type 1} → statement M
 n-components-spec =
@@ -49,8 +49,8 @@ n-components-spec =
     build-requires
     returns
     array-share-prefix-early
-    slice-aggregate-n-components
+    slice-aggregate-count-components
     array-share-prefix-late
-    slice-aggregate-n-components-2
-    n-components-requires
+    slice-aggregate-count-components-2
+    count-components-requires
     returns-2)

@@ -46,17 +46,17 @@ returns-2 c =
 array-share-prefix-early : tie.Need-array-share-prefix-early
 array-share-prefix-early c = early-fits (c .before .before .before .before .before .build .ensures .written (c .before .if1 .left))
 
-slice-aggregate-spanning-forest : tie.Need-slice-aggregate-spanning-forest
-slice-aggregate-spanning-forest c = early-part (c .before .before .before .before .before .before .build .ensures .written (c .before .before .if1 .left))
+slice-aggregate-mark-tree-edges : tie.Need-slice-aggregate-mark-tree-edges
+slice-aggregate-mark-tree-edges c = early-part (c .before .before .before .before .before .before .build .ensures .written (c .before .before .if1 .left))
 
 array-share-prefix-late : tie.Need-array-share-prefix-late
 array-share-prefix-late c = late-fits (c .before .before .before .before .before .before .build .ensures .written (c .before .before .if1 .left))
 
-slice-aggregate-spanning-forest-2 : tie.Need-slice-aggregate-spanning-forest-2
-slice-aggregate-spanning-forest-2 c = late-part (c .before .before .before .before .before .before .before .build .ensures .written (c .before .before .before .if1 .left))
+slice-aggregate-mark-tree-edges-2 : tie.Need-slice-aggregate-mark-tree-edges-2
+slice-aggregate-mark-tree-edges-2 c = late-part (c .before .before .before .before .before .before .before .build .ensures .written (c .before .before .before .if1 .left))
 
-spanning-forest-requires : tie.Need-spanning-forest-requires
-spanning-forest-requires c κs = (edges-fronts (c .before .before .before .before .before .before .before .before .build .ensures) (c .before .before .before .before .if1 .left), is-accepted (c .before .before .before .before .before .before .before .before .build .ensures) (c .before .before .before .before .if1 .left) .few-vertices, c .before .before .before .if2 .left ∙ early-part (c .before .before .before .before .before .before .before .before .build .ensures .written (c .before .before .before .before .if1 .left)))
+mark-tree-edges-requires : tie.Need-mark-tree-edges-requires
+mark-tree-edges-requires c κs = (edges-fronts (c .before .before .before .before .before .before .before .before .build .ensures) (c .before .before .before .before .if1 .left), is-accepted (c .before .before .before .before .before .before .before .before .build .ensures) (c .before .before .before .before .if1 .left) .few-vertices, c .before .before .before .if2 .left ∙ early-part (c .before .before .before .before .before .before .before .before .build .ensures .written (c .before .before .before .before .if1 .left)))
 
 same-length : tie.Need-same-length
 same-length c = search needs
@@ -68,7 +68,7 @@ returns-3 c =
     let g = c .before .before .before .before .before .before .before .before .before .before .before .build .ensures in
     let z = c .before .before .before .before .before .before .before .if1 .left in
     let w = g .written z in
-    (refused-not (then-buffers (s .args .n) (s .args .a .now) (s .args .b .now) (s .args .m .now) (not (eqb (length (s .args .tree .now)) (length (kept (s .args .a .now) (s .args .b .now) (s .args .m .now)))))) _ (g .refusal) z (ap not (eq-eqb _ _ (c .before .before .before .before .before .before .if2 .left ∙ w .edges))), of-kept w treeMarks (c .before .before .spanning-forest .ensures .0), λ _. spans-kept w (c .before .before .spanning-forest .ensures .1))
+    (refused-not (then-buffers (s .args .n) (s .args .a .now) (s .args .b .now) (s .args .m .now) (not (eqb (length (s .args .tree .now)) (length (kept (s .args .a .now) (s .args .b .now) (s .args .m .now)))))) _ (g .refusal) z (ap not (eq-eqb _ _ (c .before .before .before .before .before .before .if2 .left ∙ w .edges))), of-kept w treeMarks (c .before .before .mark-tree-edges .ensures .0), λ _. spans-kept w (c .before .before .mark-tree-edges .ensures .1))
 
 pub spanning-forest-spec : {M : Type 1} → statement M
 spanning-forest-spec =
@@ -81,9 +81,9 @@ spanning-forest-spec =
     returns
     returns-2
     array-share-prefix-early
-    slice-aggregate-spanning-forest
+    slice-aggregate-mark-tree-edges
     array-share-prefix-late
-    slice-aggregate-spanning-forest-2
-    spanning-forest-requires
+    slice-aggregate-mark-tree-edges-2
+    mark-tree-edges-requires
     same-length
     returns-3)

@@ -9,14 +9,14 @@ use Rattle.lent.proofs.lists.check_buffers.Tie as tie
 returns : tie.Need-returns
 returns c = here _ _ _ (c .if1 .taken)
 
-room-requires : tie.Need-room-requires
-room-requires c κs = search needs
+room-needed-requires : tie.Need-room-needed-requires
+room-needed-requires c κs = search needs
 
 returns-2 : tie.Need-returns-2
-returns-2 c = past _ _ _ _ (c .before .before .if1 .left) (here _ _ _ (lt-ltb _ _ (rw (c .before .room .ensures) at (c .if2 .taken))))
+returns-2 c = past _ _ _ _ (c .before .before .if1 .left) (here _ _ _ (lt-ltb _ _ (rw (c .before .room-needed .ensures) at (c .if2 .taken))))
 
 returns-3 : tie.Need-returns-3
-returns-3 c = past _ _ _ _ (c .before .before .if1 .left) (past _ _ _ _ (le-ltb _ _ (rw (c .before .room .ensures) at (c .if2 .left))) refl)
+returns-3 c = past _ _ _ _ (c .before .before .if1 .left) (past _ _ _ _ (le-ltb _ _ (rw (c .before .room-needed .ensures) at (c .if2 .left))) refl)
 
 pub check-buffers-spec : {M : Type 1} → statement M
-check-buffers-spec = tie.close (tie.spec returns room-requires returns-2 returns-3)
+check-buffers-spec = tie.close (tie.spec returns room-needed-requires returns-2 returns-3)

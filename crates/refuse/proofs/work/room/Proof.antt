@@ -20,13 +20,13 @@ check-job-requires c κs = search needs
 returns : tie.Need-returns
 returns c = refused-is _ _ _ (c .before .before .before .before .check-job .ensures .refusal) (c .if1 .taken)
 
-room-requires : tie.Need-room-requires
-room-requires c κs =
+room-needed-requires : tie.Need-room-needed-requires
+room-needed-requires c κs =
     let job = c .before .before .before .before .check-job .ensures .ready (c .if1 .left) in
     (job .pairs, job .edges .few, job .edges .narrow, job .few-edges)
 
 returns-2 : tie.Need-returns-2
-returns-2 c = room-answered (c .before .before .before .before .before .check-job .ensures) (c .before .if1 .left) _ (c .room .ensures)
+returns-2 c = room-answered (c .before .before .before .before .before .check-job .ensures) (c .before .if1 .left) _ (c .room-needed .ensures)
 
 pub room-spec : {M : Type 1} → statement M
 room-spec =
@@ -37,5 +37,5 @@ room-spec =
     slice-aggregate-check-job-3
     check-job-requires
     returns
-    room-requires
+    room-needed-requires
     returns-2)

@@ -16,7 +16,7 @@ use Rattle.storing.proofs.entry.exhaustive_c.Statement.{statement}
 use Rattle.storing.proofs.entry.exhaustive_c.Tie as tie
 use Rattle.storing.proofs.entry.exhaustive_c.Reads as reads
 use Rattle.storing.proofs.entry.exhaustive_c.Lts as lts
-use Rattle.forest.proofs.cyclomatic.Reads as cyclomatic-reads
+use Rattle.forest.proofs.count_free_edges.Reads as count-free-edges-reads
 use Rattle.glass.proofs.is_each.Reads as is-each-reads
 use Rattle.refuse.proofs.check_with_betas.Reads as check-with-betas-reads
 use Rattle.lent.proofs.check_enumeration.Reads as check-enumeration-reads
@@ -52,20 +52,20 @@ array-share-prefix-early : tie.Need-array-share-prefix-early
 array-share-prefix-early c = early-fits (c .before .before .before .before .check-with-betas .ensures .ready (c .if1 .left) .written)
 
 -- src/entry.rt:69:30
-slice-aggregate-cyclomatic : tie.Need-slice-aggregate-cyclomatic
-slice-aggregate-cyclomatic c = early-part (c .before .before .before .before .before .check-with-betas .ensures .ready (c .before .if1 .left) .written)
+slice-aggregate-count-free-edges : tie.Need-slice-aggregate-count-free-edges
+slice-aggregate-count-free-edges c = early-part (c .before .before .before .before .before .check-with-betas .ensures .ready (c .before .if1 .left) .written)
 
 -- src/entry.rt:69:47
 array-share-prefix-late : tie.Need-array-share-prefix-late
 array-share-prefix-late c = late-fits (c .before .before .before .before .before .check-with-betas .ensures .ready (c .before .if1 .left) .written)
 
 -- src/entry.rt:69:47
-slice-aggregate-cyclomatic-2 : tie.Need-slice-aggregate-cyclomatic-2
-slice-aggregate-cyclomatic-2 c = late-part (c .before .before .before .before .before .before .check-with-betas .ensures .ready (c .before .before .if1 .left) .written)
+slice-aggregate-count-free-edges-2 : tie.Need-slice-aggregate-count-free-edges-2
+slice-aggregate-count-free-edges-2 c = late-part (c .before .before .before .before .before .before .check-with-betas .ensures .ready (c .before .before .if1 .left) .written)
 
 -- src/entry.rt:69:9
-cyclomatic-requires : tie.Need-cyclomatic-requires
-cyclomatic-requires c κs = let g = c .before .before .before .before .before .before .check-with-betas .ensures .ready (c .before .before .if1 .left) in (joined g, g .edges .few)
+count-free-edges-requires : tie.Need-count-free-edges-requires
+count-free-edges-requires c κs = let g = c .before .before .before .before .before .before .check-with-betas .ensures .ready (c .before .before .if1 .left) in (joined g, g .edges .few)
 
 -- src/entry.rt:80:22
 mul-stored-count : tie.Need-mul-stored-count
@@ -91,7 +91,7 @@ returns-2 c =
     let k = c .before .before .before .before .before .before .before .before .before .before .check-with-betas in
     let v = c .before .before .before .before .before .before .if1 .left in
     let g = k .ensures .ready v in
-    let f = c .before .before .before .cyclomatic in
+    let f = c .before .before .before .count-free-edges in
     let w = c .before .before .stored-count in
     let h = c .before .check-enumeration in
     let free = free-kept g (f .result) (f .ensures .1) in
@@ -125,7 +125,7 @@ store-job-requires c κs =
     let k = c .before .before .before .before .before .before .before .before .before .before .before .before .before .before .before .check-with-betas in
     let v = c .before .before .before .before .before .before .before .before .before .before .before .if1 .left in
     let g = k .ensures .ready v in
-    let f = c .before .before .before .before .before .before .before .before .cyclomatic in
+    let f = c .before .before .before .before .before .before .before .before .count-free-edges in
     let w = c .before .before .before .before .before .before .before .stored-count in
     let h = c .before .before .before .before .before .before .check-enumeration in
     let z = c .before .before .before .before .before .if2 .left in
@@ -140,7 +140,7 @@ pow2-requires c κs =
     let k = c .before .before .before .before .before .before .before .before .before .before .before .before .before .before .before .before .before .before .before .before .before .check-with-betas in
     let v = c .before .before .before .before .before .before .before .before .before .before .before .before .before .before .before .before .before .if1 .left in
     let g = k .ensures .ready v in
-    let f = c .before .before .before .before .before .before .before .before .before .before .before .before .before .before .cyclomatic in
+    let f = c .before .before .before .before .before .before .before .before .before .before .before .before .before .before .count-free-edges in
     let w = c .before .before .before .before .before .before .before .before .before .before .before .before .before .stored-count in
     let h = c .before .before .before .before .before .before .before .before .before .before .before .before .check-enumeration in
     let z = c .before .before .before .before .before .before .before .before .before .before .before .if2 .left in
@@ -162,7 +162,7 @@ returns-3 c =
     let k = c .before .before .before .before .before .before .before .before .before .before .before .before .before .before .before .before .before .before .before .before .before .before .check-with-betas in
     let v = c .before .before .before .before .before .before .before .before .before .before .before .before .before .before .before .before .before .before .if1 .left in
     let g = k .ensures .ready v in
-    let f = c .before .before .before .before .before .before .before .before .before .before .before .before .before .before .before .cyclomatic in
+    let f = c .before .before .before .before .before .before .before .before .before .before .before .before .before .before .before .count-free-edges in
     let w = c .before .before .before .before .before .before .before .before .before .before .before .before .before .before .stored-count in
     let h = c .before .before .before .before .before .before .before .before .before .before .before .before .before .check-enumeration in
     let free = free-kept g (f .result) (f .ensures .1) in
@@ -188,7 +188,7 @@ returns-4 c =
     let k = c .before .before .before .before .before .before .before .before .before .before .before .before .before .before .before .before .before .before .before .before .before .check-with-betas in
     let v = c .before .before .before .before .before .before .before .before .before .before .before .before .before .before .before .before .before .if1 .left in
     let g = k .ensures .ready v in
-    let f = c .before .before .before .before .before .before .before .before .before .before .before .before .before .before .cyclomatic in
+    let f = c .before .before .before .before .before .before .before .before .before .before .before .before .before .before .count-free-edges in
     let w = c .before .before .before .before .before .before .before .before .before .before .before .before .before .stored-count in
     let h = c .before .before .before .before .before .before .before .before .before .before .before .before .check-enumeration in
     let free = free-kept g (f .result) (f .ensures .1) in
@@ -211,10 +211,10 @@ exhaustive-c-spec =
     check-with-betas-requires
     returns
     array-share-prefix-early
-    slice-aggregate-cyclomatic
+    slice-aggregate-count-free-edges
     array-share-prefix-late
-    slice-aggregate-cyclomatic-2
-    cyclomatic-requires
+    slice-aggregate-count-free-edges-2
+    count-free-edges-requires
     mul-stored-count
     stored-count-requires
     check-enumeration-requires

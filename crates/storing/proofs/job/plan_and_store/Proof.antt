@@ -18,7 +18,7 @@ use Rattle.storing.proofs.job.plan_and_store.Statement.{statement}
 use Rattle.storing.proofs.job.plan_and_store.Tie as tie
 use Rattle.storing.proofs.job.plan_and_store.Reads as reads
 use Rattle.storing.proofs.job.plan_and_store.Lts as lts
-use Rattle.forest.proofs.spanning_forest.Reads as spanning-forest-reads
+use Rattle.forest.proofs.mark_tree_edges.Reads as mark-tree-edges-reads
 use Rattle.places.proofs.order_pairs.Reads as order-pairs-reads
 use Rattle.places.proofs.make_plan.Reads as make-plan-reads
 use Rattle.stored_correlations.proofs.stored_correlations.Reads as stored-correlations-reads
@@ -31,8 +31,8 @@ make-plan-requires c κs = let p = c .before .before .before .before .before .be
 order-pairs-requires : tie.Need-order-pairs-requires
 order-pairs-requires c κs = let p = c .before .before .before .before .before .before .before .before .before .before .before .before .before .before .before .before .before .pre in (p .0 .job .pairs, p .0 .job .edges .few, p .4)
 
-spanning-forest-requires : tie.Need-spanning-forest-requires
-spanning-forest-requires c κs = let p = c .before .before .before .before .before .before .before .before .before .before .before .before .before .before .before .before .before .before .before .before .before .pre in (joins (p .0 .job .edges), p .0 .job .edges .few, p .5 .marked)
+mark-tree-edges-requires : tie.Need-mark-tree-edges-requires
+mark-tree-edges-requires c κs = let p = c .before .before .before .before .before .before .before .before .before .before .before .before .before .before .before .before .before .before .before .before .before .pre in (joins (p .0 .job .edges), p .0 .job .edges .few, p .5 .marked)
 
 slice-relend-prefix-room : tie.Need-slice-relend-prefix-room
 slice-relend-prefix-room c =
@@ -51,8 +51,8 @@ stored-correlations-requires c κs =
     let s = c .before .before .before .before .before .before .before .before .before .before .before .before .before .before .before .before .before .before .before .before .before .before .before .before .before .before .before .before .before .before .before .before in
     let p = s .pre in
     let m = c .before .before .before .before .before .before .before .before .before .before .before .before .before .before .before .before .before .before .make-plan in
-    let marked = c .before .before .before .before .before .before .before .before .before .before .spanning-forest .ensures .0 in
-    let tree = c .before .before .before .before .before .before .before .before .before .before .spanning-forest .last .1 .1 .1 .0 in
+    let marked = c .before .before .before .before .before .before .before .before .before .before .mark-tree-edges .ensures .0 in
+    let tree = c .before .before .before .before .before .before .before .before .before .before .mark-tree-edges .last .1 .1 .1 .0 in
     let holds : Holds (m .last .0) (s .args .n) = omega (arith, p .3, m .kept .0) in
     let e = end-fits (m .last .0) (s .args .early .now) (s .args .late .now) (s .args .us .now) (s .args .vs .now) (s .args .n) (s .args .w) (m .result .places) (m .result .scales) (m .result .factors) (m .result .room) (length (s .args .work .now)) (p .0 .job) (m .ensures) in
     let long = marks-long (s .args .early .now) (s .args .late .now) tree marked in (
@@ -76,7 +76,7 @@ same-length-2 : tie.Need-same-length-2
 same-length-2 c = c .before .before .before .before .before .before .before .before .before .before .before .before .before .before .before .before .before .before .before .before .before .before .before .before .before .before .before .before .before .before .order-pairs .kept .0
 
 same-length-3 : tie.Need-same-length-3
-same-length-3 c = c .before .before .before .before .before .before .before .before .before .before .before .before .before .before .before .before .before .before .before .before .before .before .before .before .before .before .spanning-forest .kept .1 .1 .1 .0
+same-length-3 c = c .before .before .before .before .before .before .before .before .before .before .before .before .before .before .before .before .before .before .before .before .before .before .before .before .before .before .mark-tree-edges .kept .1 .1 .1 .0
 
 same-length-4 : tie.Need-same-length-4
 same-length-4 c = c .before .before .before .before .before .before .before .before .before .before .before .before .before .before .before .stored-correlations .kept .1 .1 .1 .1 .1 .1 .1 .1 .1 .1 .1 .1 .0
@@ -96,7 +96,7 @@ returns c =
     let a = s .args in
     let p = s .pre in
     let m = c .before .before .before .before .before .before .before .before .before .before .before .before .before .before .before .before .before .before .before .before .before .before .before .before .before .before .before .before .before .before .before .before .before .before .make-plan in
-    let f = c .before .before .before .before .before .before .before .before .before .before .before .before .before .before .before .before .before .before .before .before .before .before .before .before .before .before .spanning-forest in
+    let f = c .before .before .before .before .before .before .before .before .before .before .before .before .before .before .before .before .before .before .before .before .before .before .before .before .before .before .mark-tree-edges in
     let t = c .before .before .before .before .before .before .before .before .before .before .before .before .before .before .before .stored-correlations in
     let zero = c .before .before .before .before .before .before .clear in
     let x = c .before .before .clear-unsound in
@@ -114,7 +114,7 @@ plan-and-store-spec =
     (tie.spec
     make-plan-requires
     order-pairs-requires
-    spanning-forest-requires
+    mark-tree-edges-requires
     slice-relend-prefix-room
     slice-aggregate-room
     stored-correlations-requires

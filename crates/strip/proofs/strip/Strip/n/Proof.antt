@@ -9,7 +9,7 @@ use Rattle.strip.proofs.strip.Strip.n.Tie as tie
 use Rattle.strip.proofs.strip.Strip.n.Reads as reads
 use Rattle.strip.proofs.strip.Strip.n.Lts as lts
 use Rattle.strip.proofs.refuse.bad_sides.Reads as bad-sides-reads
-use Rattle.strip.proofs.strip.n.Reads as n-reads
+use Rattle.strip.proofs.strip.vertex_count.Reads as vertex-count-reads
 
 -- src/vertices.rt:27:12
 bad-sides-requires : tie.Need-bad-sides-requires
@@ -20,12 +20,12 @@ returns : tie.Need-returns
 returns c = refused-is _ _ _ (here _ _ _ (told (c .before .bad-sides .ensures) (c .if1 .taken))) (λ z. omega arith)
 
 -- src/vertices.rt:30:24
-n-requires : tie.Need-n-requires
-n-requires c κs = sides-passed _ _ (told (c .before .bad-sides .ensures) (c .if1 .left)) .few
+vertex-count-requires : tie.Need-vertex-count-requires
+vertex-count-requires c κs = sides-passed _ _ (told (c .before .bad-sides .ensures) (c .if1 .left)) .few
 
 -- src/vertices.rt:24:5
 returns-2 : tie.Need-returns-2
-returns-2 c = number-is 0 _ _ _ (past _ _ _ _ (told (c .before .before .bad-sides .ensures) (c .before .if1 .left)) refl) refl (c .n .ensures)
+returns-2 c = number-is 0 _ _ _ (past _ _ _ _ (told (c .before .before .bad-sides .ensures) (c .before .if1 .left)) refl) refl (c .vertex-count .ensures)
 
 pub n-spec : {M : Type 1} → statement M
-n-spec = tie.close (tie.spec bad-sides-requires returns n-requires returns-2)
+n-spec = tie.close (tie.spec bad-sides-requires returns vertex-count-requires returns-2)

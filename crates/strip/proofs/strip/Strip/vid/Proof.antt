@@ -9,7 +9,7 @@ use Rattle.strip.proofs.strip.Strip.vid.Tie as tie
 use Rattle.strip.proofs.strip.Strip.vid.Reads as reads
 use Rattle.strip.proofs.strip.Strip.vid.Lts as lts
 use Rattle.strip.proofs.refuse.bad_sides.Reads as bad-sides-reads
-use Rattle.strip.proofs.strip.vid.Reads as vid-reads
+use Rattle.strip.proofs.strip.vertex_at.Reads as vertex-at-reads
 
 -- src/vertices.rt:37:12
 bad-sides-requires : tie.Need-bad-sides-requires
@@ -28,15 +28,15 @@ returns-3 : tie.Need-returns-3
 returns-3 c = beside _ _ _ _ (past _ _ _ _ (told (c .before .before .before .before .before .bad-sides .ensures) (c .before .before .before .before .if1 .left)) refl) (omega arith)
 
 -- src/vertices.rt:46:23
-vid-requires : tie.Need-vid-requires
-vid-requires c κs =
+vertex-at-requires : tie.Need-vertex-at-requires
+vertex-at-requires c κs =
     let a = c .before .before .before .before .before .before .args in
     small (a .self) (a .x) (a .y) (sides-passed _ _ (told (c .before .before .before .before .before .bad-sides .ensures) (c .before .before .before .before .if1 .left))) (omega arith) (omega arith)
 
 -- src/vertices.rt:34:5
 returns-4 : tie.Need-returns-4
-returns-4 c = within _ _ _ _ _ (past _ _ _ _ (told (c .before .before .before .before .before .before .bad-sides .ensures) (c .before .before .before .before .before .if1 .left)) refl) (omega arith) (omega arith) (c .vid .ensures)
+returns-4 c = within _ _ _ _ _ (past _ _ _ _ (told (c .before .before .before .before .before .before .bad-sides .ensures) (c .before .before .before .before .before .if1 .left)) refl) (omega arith) (omega arith) (c .vertex-at .ensures)
 
 pub vid-spec : {M : Type 1} → statement M
 vid-spec =
-    tie.close (tie.spec bad-sides-requires returns returns-2 returns-3 vid-requires returns-4)
+    tie.close (tie.spec bad-sides-requires returns returns-2 returns-3 vertex-at-requires returns-4)

@@ -1,0 +1,107 @@
+-- What the demands say of an accepted call of `sample`, of the stored totals and with no tolerance.
+use mathlib.Core.Path.{_≡_, refl, subst}
+use mathlib.Core.Bool.{Bool, false}
+use mathlib.Core.List.{List}
+use mathlib.Core.Logic.{inl}
+use Prim.Native.Nat.{ℕ, _+_, _-_, _*_, _/_, _%_, _≤_, _<_}
+use native.Mathlib.Omega.{arith}
+use lib.Ieee.{Float, nan, binary64}
+use lib.ListN.{length, getD}
+use Rattle.vector.specs.Search.{some, none-at}
+use Rattle.rounding.specs.Powers.{Ordered}
+use Rattle.transfer.specs.Configuration.{sampledMinus}
+use Rattle.transfer.specs.Job.{Job}
+use Rattle.transfer.specs.Rounded.{ieee}
+use Rattle.transfer.specs.Totals.{square, fourth, sampled, sampledCount}
+use Rattle.checks.specs.declared.Answer.the-variants.{Number}
+use Rattle.checks.specs.AcceptedTotals.{AcceptedTotals, misfits, accepted-sampling}
+use Rattle.checks.specs.Edges.{windowFrom}
+use Rattle.checks.specs.First.{passed, checks-numbered}
+use Rattle.checks.specs.Refusal.{checks, ofSampling}
+use Rattle.checks.specs.Request.{samplingRequest}
+use Rattle.answers.specs.Sound.{unsound}
+use Rattle.bounds.specs.Bounds.{sampled-answers-bounded}
+use Rattle.chunks.specs.Powers.{correlationAt}
+use Rattle.glass.specs.Correlations.{mannerOf}
+use Rattle.glass.specs.declared.Manner.{Manner}
+use Rattle.totals.specs.Jobs.{unsoundSampling}
+use Rattle.totals.specs.Calls.{Sampled, refusedSampling}
+use Rattle.demands.specs.Lists.{settled-at}
+use Rattle.demands.specs.Configurations as C
+use Rattle.demands.specs.Configurations.{accepted-number, pair-inside, beta-inside, signed-sound}
+use Rattle.demands.specs.OneJob.{Exact, Bounded, Sound, answerable, exact, bounded}
+
+module _ {n floor : ℕ} {a b : List ℕ} {m : List Float} {us vs : List ℕ} {betas factors : List Float} {manner : Manner} {seed from to samples : ℕ}
+    {squares squares′ fourths fourths′ work work′ : List Float} {count : ℕ}
+    (call : Sampled n floor a b m us vs betas factors manner seed from to samples (Number count) squares squares′ fourths fourths′ work work′) where
+  -- The job of a chunk's sample, at a beta.
+  abbrev drawn : (chunk sample : ℕ) → ℕ → Job Float
+  drawn = C.drawnConfiguration n floor a b m factors manner seed
+
+  abbrev bad : Bool
+  bad = unsoundSampling n (windowFrom floor a b m) (C.early a b m) (C.late a b m) factors (mannerOf manner) us vs (length betas) seed from to samples
+
+  abbrev misfit : Bool
+  misfit = misfits (length betas * length us) (length squares) (length fourths)
+
+  accepted : (refusedSampling n floor a b m us vs betas factors manner seed from to samples (length squares) (length fourths) (length work) ≡ 0)
+      × (count ≡ sampledCount from to samples)
+  accepted = accepted-number _ _ count (call .call .answer)
+
+  facts : AcceptedTotals n floor a b m us vs betas factors misfit (length work) × ((to - from) * samples ≤ 4294967296)
+  facts = accepted-sampling n floor a b m us vs betas factors from to samples misfit (length work) bad 0 (accepted .0) (inl refl)
+
+  none-bad : bad ≡ false
+  none-bad =
+      let none = passed checks ofSampling (samplingRequest n floor a b m us vs betas factors from to samples misfit (length work) bad) checks-numbered (accepted .0) in
+      none .1 .1 .1 .1 .1 .1 .1 .1 .1 .1 .1 .1 .0
+
+  -- the chunks by how far they are from the first
+  drawn-sound : (i j beta : ℕ) → i < to - from → j < samples → beta < length betas → Sound (drawn (from + i) j beta) us vs
+  drawn-sound i j beta h s l =
+      signed-sound n floor a b m us vs betas factors manner misfit (length work) (facts .0) (sampledMinus seed (length (C.early a b m)) (from + i) j) beta l
+      (none-at (λ c. unsound (drawn (from + i) j c) us vs) (length betas) beta l
+      (none-at (λ y. some (λ c. unsound (drawn (from + i) y c) us vs) (length betas)) samples j s
+      (none-at (λ z. some (λ y. some (λ c. unsound (drawn (from + z) y c) us vs) (length betas)) samples) (to - from) i h none-bad)))
+
+  -- Every sample's job is sound at every beta.
+  pub sampling-sound : (chunk j beta : ℕ) → from ≤ chunk → chunk < to → j < samples → beta < length betas → Sound (drawn chunk j beta) us vs
+  sampling-sound chunk j beta u v s l =
+      let e : from + (chunk - from) ≡ chunk = omega arith in
+      subst (λ (c : ℕ). Sound (drawn c j beta) us vs) e (drawn-sound (chunk - from) j beta (omega arith) s l)
+
+  -- Exact: the totals are the definition's, of squares and of fourth powers,
+  pub sampled-squares-are : (k : ℕ) → k < length betas * length us
+      → getD squares′ k nan ≡ sampled ieee (square ieee) from to samples (λ i j. correlationAt (drawn i j) us vs k)
+  sampled-squares-are =
+      settled-at _ (λ k. sampled ieee (square ieee) from to samples (λ i j. correlationAt (drawn i j) us vs k)) (length betas * length us) squares squares′
+      (accepted .0) (call .call .squares-are)
+
+  pub sampled-fourths-are : (k : ℕ) → k < length betas * length us
+      → getD fourths′ k nan ≡ sampled ieee (fourth ieee) from to samples (λ i j. correlationAt (drawn i j) us vs k)
+  sampled-fourths-are =
+      settled-at _ (λ k. sampled ieee (fourth ieee) from to samples (λ i j. correlationAt (drawn i j) us vs k)) (length betas * length us) fourths fourths′
+      (accepted .0) (call .call .fourths-are)
+
+  -- the count is chunks times samples,
+  pub sampling-counted : count ≡ sampledCount from to samples
+  sampling-counted = accepted .1
+
+  -- and the correlations summed are, without rounding, the textbook ratios: of every sample, beta and pair.
+  pub sampling-exact : (chunk j beta : ℕ) → from ≤ chunk → chunk < to → j < samples → beta < length betas → Exact (drawn chunk j beta) us vs
+  sampling-exact chunk j beta u v s l = exact (sampling-sound chunk j beta u v s l)
+
+  -- Bounded: in every total 0 ≤ fourth powers ≤ squares ≤ count,
+  pub sampling-bounded : (k : ℕ) → k < length betas * length us → Ordered binary64 (getD fourths′ k nan) (getD squares′ k nan) count
+  sampling-bounded k l =
+      let p = k % length us in
+      let beta = k / length us in
+      let few = facts .1 in
+      rw (sampled-squares-are k l, sampled-fourths-are k l, sampling-counted)
+      (sampled-answers-bounded from to samples (λ i j. drawn i j beta) (getD us p 0) (getD vs p 0) (omega arith)
+      (λ chunk j u v s.
+      answerable (sampling-sound chunk j beta u v s (beta-inside (length betas) (length us) k l)) p (pair-inside (length betas) (length us) k l)))
+
+  -- each correlation summed lies in [-1, 1], and no entry of a propagated vector exceeds the forward vector's in size.
+  pub sampling-within : (chunk j beta : ℕ) → from ≤ chunk → chunk < to → j < samples → beta < length betas → Bounded (drawn chunk j beta) us vs
+  sampling-within chunk j beta u v s l = bounded (sampling-sound chunk j beta u v s l)

@@ -1,0 +1,4 @@
+-- Laws that the proofs share.
+mod Rows
+mod Sums
+mod Refusals
