@@ -39,8 +39,10 @@ use Rattle.accuracy.specs.Close.{Close, close-mul, gain, gain-nn, gain-a
 use Rattle.accuracy.specs.Tables.{BoxedStep}
 use Rattle.accuracy.specs.Sweeps.{ahead, exactForward, exactBackward, exact-sweeps, above, Near, ClearAhead, ClearBack, before-near, after-near, propagated-near}
 use Rattle.accuracy.specs.Sums.{sum-close, signed-close, sum-raised, sum-nn, signed-within}
-use Rattle.accuracy.specs.Ratio as R
-use Rattle.accuracy.specs.Ratio.{smallest-one, apart-of, under-within, gain-bound}
+use Rattle.accuracy.specs.Sizes.{above-nat, smallest-one, under-within}
+use Rattle.accuracy.specs.Apart.{apart-of}
+use Rattle.accuracy.specs.Roundings.{gain-bound, gain-one}
+use Rattle.accuracy.specs.Ratio.{ratio-error, ratio-is, ratio-small}
 
 -- ---- the job at its values passes the checks (as in crate exactness, where this is private)
 
@@ -213,8 +215,8 @@ module _ (J : Job Float) (ok : Checked (λ x. T (positive x)) J) (β : ℚ) (β-
 
     Z-pos : Posℚ (exactZ J v)
     Z-pos =
-        let p : Posℚ (ε ⋆ exactZ J v) = ≼-pos (pos-mul _ _ (R.above-nat (2 ^ J .window) (pow-pos (J .window))) smallest-pos) heavy in
-        subst Posℚ (sym (*-assoc (nat (2 ^ 53)) ε (exactZ J v)) ∙ ap (λ z. z ⋆ exactZ J v) ε-one ∙ one-* (exactZ J v)) (pos-mul _ _ (R.above-nat (2 ^ 53) (pow-pos 53)) p)
+        let p : Posℚ (ε ⋆ exactZ J v) = ≼-pos (pos-mul _ _ (above-nat (2 ^ J .window) (pow-pos (J .window))) smallest-pos) heavy in
+        subst Posℚ (sym (*-assoc (nat (2 ^ 53)) ε (exactZ J v)) ∙ ap (λ z. z ⋆ exactZ J v) ε-one ∙ one-* (exactZ J v)) (pos-mul _ _ (above-nat (2 ^ 53) (pow-pos 53)) p)
 
     -- exactly, N is no larger than Z
     F-nn : (j : ℕ) → j < n → NonNeg (F j)
@@ -257,10 +259,10 @@ module _ (J : Job Float) (ok : Checked (λ x. T (positive x)) J) (β : ℚ) (β-
         let one = mul-inv-pos (exactZ J v) Z-pos in
         let A = lifted (Z-near .small) in
         let D = lifted ((N-near u before) .small) in
-        let err = R.ratio-error (exactN J u v) (exactZ J v) a d q i g₁ one I is A D Q in
+        let err = ratio-error (exactN J u v) (exactZ J v) a d q i g₁ one I is A D Q in
         let r = div-rounds N̂ Ẑ sound (div-under binary64 under sound .size tt .isFinite) in
-        let e₁ = R.ratio-is (exactN J u v) (exactZ J v) a d q i g₁ one I is A D Q in
-        let w₁ = R.ratio-small (exactN J u v) (exactZ J v) a d q i g₁ one I is A D Q in
+        let e₁ = ratio-is (exactN J u v) (exactZ J v) a d q i g₁ one I is A D Q in
+        let w₁ = ratio-small (exactN J u v) (exactZ J v) a d q i g₁ one I is A D Q in
         let w₂ = r .small oneℚ Q smallest-one in
         record {
           error = err ⊹ r .error;
@@ -281,7 +283,7 @@ module _ (J : Job Float) (ok : Checked (λ x. T (positive x)) J) (β : ℚ) (β-
           rest = gain k ⋆ gain k ⊹ gain (k + k) ⋆ ε;
           is =
               *-one _ ∙ ap gain (omega arith) ∙ gain-add (k + k) 1
-              ∙ ap₂ (λ x y. (x ⊹ y) ⊹ gain (k + k) ⋆ y) (gain-add k k) R.gain-one ∙ ring (gain k) (gain k ⋆ gain k) (gain (k + k)) ε;
+              ∙ ap₂ (λ x y. (x ⊹ y) ⊹ gain (k + k) ⋆ y) (gain-add k k) gain-one ∙ ring (gain k) (gain k ⋆ gain k) (gain (k + k)) ε;
           nonneg = nn-add _ _ (nn-mul _ _ (gain-nn k) (gain-nn k)) (nn-mul _ _ (gain-nn (k + k)) ε-nn);
         }
 
