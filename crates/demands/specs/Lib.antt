@@ -3,6 +3,7 @@ pub mod Lists
 pub mod Given
 pub mod Halves
 pub mod OneJob
+pub mod Accurate
 pub mod Correlations
 pub mod Configurations
 pub mod Exhaustive

@@ -12,7 +12,7 @@ use Rattle.transfer.specs.Job.{Edge, backEdges}
 use Rattle.checks.specs.Edges.{kept, earlyEnds, lateEnds, windowFrom}
 use Rattle.checks.specs.Request.{Request, sweepRequest, single, signedFactors}
 use Rattle.checks.specs.Refusal.{refusal}
-use Rattle.accuracy.specs.Bound as Accuracy
+use Rattle.accuracy.specs.Stated as Accuracy
 use Rattle.error_bound.specs.declared.answer.ErrorBound.{ErrorBound}
 use Rattle.error_bound.specs.declared.answer.ErrorBound.the-variants.{Within, Unknown, Refused}
 
