@@ -24,7 +24,8 @@ use Rattle.accuracy.specs.Apart.{Apart}
 use Rattle.accuracy.specs.Close.{Close}
 use Rattle.accuracy.specs.Stated.{withinPowers, roundingsOf, errorBound}
 use Rattle.accuracy.specs.Bound.{correlation-close, bounded, roundings-few}
-use Rattle.error_bound.specs.Bound.{mostNear, mostBits, nearOne, boundOf, errorBoundOf}
+use Rattle.checks.specs.Refusal.{refusal}
+use Rattle.error_bound.specs.Bound.{mostNear, mostBits, nearOne, boundOf, ofErrorBound, errorBoundRequest, factorCount, errorBoundOf}
 use Rattle.error_bound.specs.declared.answer.ErrorBound.{ErrorBound}
 use Rattle.error_bound.specs.declared.answer.ErrorBound.the-variants.{Within, Unknown, Refused}
 use Rattle.error_bound.specs.Margin.{bits-deep, bits-few, near-one-all}
@@ -49,8 +50,7 @@ isWithin (Within x) = 1
 isWithin Unknown = 0
 isWithin (Refused k) = 0
 
--- the factors are near one, and the bound is the definition's
-pub known : (k n w near : ℕ) (factors : List Float) (x : Float) → boundOf k n w near factors ≡ Within x
+known : (k n w near : ℕ) (factors : List Float) (x : Float) → boundOf k n w near factors ≡ Within x
     → (nearOne (mostBits w near) factors ≡ true) × (x ≡ errorBound n w near)
 known zero n w near factors x e = go (nearOne (mostBits w near) factors) e
   where
@@ -58,6 +58,17 @@ known zero n w near factors x e = go (nearOne (mostBits w near) factors) e
     go true e = (refl, sym (ap heldBound e))
     go false e = let apart = ap isWithin e in absurd (omega arith)
 known (suc k) n w near factors x e = let apart = ap isWithin e in absurd (omega arith)
+
+-- the most near edges of a vertex of a call's graph
+abbrev pub nearOf : (n floor : ℕ) → (a b : List ℕ) → List Float → ℕ
+nearOf n floor a b m = mostNear n (windowFrom floor a b m) (numbered (earlyEnds (kept a b m)) (lateEnds (kept a b m)))
+
+-- the factors are near one, and the bound is the definition's
+pub bound-known : (n floor : ℕ) (a b : List ℕ) (m betas factors : List Float) (signed : Bool) (x : Float) → errorBoundOf n floor a b m betas factors signed ≡ Within x
+    → (nearOne (mostBits (windowFrom floor a b m) (nearOf n floor a b m)) factors ≡ true) × (x ≡ errorBound n (windowFrom floor a b m) (nearOf n floor a b m))
+bound-known n floor a b m betas factors signed x e =
+    known (refusal ofErrorBound (errorBoundRequest n floor a b m betas factors (factorCount signed (length betas) (length (kept a b m))))) n (windowFrom floor a b m)
+    (nearOf n floor a b m) factors x e
 
 -- ---- a job of kept edges, whose factors are near one
 
@@ -73,7 +84,7 @@ module _ (n floor : ℕ) (a b : List ℕ) (m : List Float) (us vs : List ℕ) (m
   window = windowFrom floor a b m
 
   abbrev near : ℕ
-  near = mostNear n window (numbered early late)
+  near = nearOf n floor a b m
 
   abbrev job : Job Float
   job = jobMade n floor a b m us vs manner ok factor sound
