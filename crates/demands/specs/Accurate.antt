@@ -113,6 +113,9 @@ module _ (n floor : ℕ) (a b : List ℕ) (m : List Float) (us vs : List ℕ) (m
   pub close-within : {x : Float} {e : _} → Close (roundingsOf n window near) x e oneℚ → Apart (value x) e (value (errorBound n window near))
   close-within = bounded n window near (ok .graph .few-vertices) (ok .narrow) (near-four n window (numbered early late) (ok .near))
 
-  pub roundings-short : roundingsOf n window near ≤ 2 ^ 26
-  roundings-short =
-      le-trans (roundings-few n window near (ok .graph .few-vertices) (ok .narrow) (near-four n window (numbered early late) (ok .near))) (lit≤ tt)
+-- few enough for the laws of totals
+pub roundings-short : (n floor : ℕ) (a b : List ℕ) (m : List Float) (us vs : List ℕ) → AcceptedJob n floor a b m us vs
+    → roundingsOf n (windowFrom floor a b m) (nearOf n floor a b m) ≤ 2 ^ 26
+roundings-short n floor a b m us vs ok =
+    le-trans (roundings-few n (windowFrom floor a b m) (nearOf n floor a b m) (ok .graph .few-vertices) (ok .narrow)
+    (near-four n (windowFrom floor a b m) (numbered (earlyEnds (kept a b m)) (lateEnds (kept a b m))) (ok .near))) (lit≤ tt)

@@ -6,6 +6,7 @@ pub mod OneJob
 pub mod Accurate
 pub mod Correlations
 pub mod Configurations
+pub mod AccurateTotals
 pub mod Exhaustive
 pub mod Storing
 pub mod Sampling
