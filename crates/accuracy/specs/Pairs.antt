@@ -22,7 +22,7 @@ use Rattle.transfer.specs.Rounded.{ieee}
 use Rattle.transfer.specs.Sweep.{at, forward, backward, propagated, Z, N, directN, propagatedN, answer}
 use Rattle.exactness.specs.Algebra.{Pos}
 use Rattle.exactness.specs.AnyScales.{propagatedOf, ZOf, directNOf, propagatedNOf, NOf, answerOf}
-use Rattle.exactness.specs.Exact.{rational, rational-laws, edgeAtValue, atValues}
+use Rattle.exactness.specs.Exact.{rational, rational-laws, edgeAtValue, atValues, checked-values}
 use Rattle.exactness.specs.Exactness.{exactly-scaled}
 use Rattle.exactness.specs.Textbook.{textbook}
 use Rattle.bounds.specs.Factors.{EdgesNotMinus, checked-notMinus}
@@ -43,26 +43,6 @@ use Rattle.accuracy.specs.Sizes.{above-nat, smallest-one, under-within}
 use Rattle.accuracy.specs.Apart.{apart-of}
 use Rattle.accuracy.specs.Roundings.{gain-bound, gain-one}
 use Rattle.accuracy.specs.Ratio.{ratio-error, ratio-is, ratio-small}
-
--- ---- the job at its values passes the checks (as in crate exactness, where this is private)
-
-kept : (J : Job Float) (es : List (Edge Float)) → All (Kept (λ x. T (positive x)) J) es → All (Kept (Pos rational) (atValues J)) (map edgeAtValue es)
-kept J [] k = tt
-kept J (e ∷ es) k =
-    let h = k .0 in
-    (record { ordered = h .ordered; inside = h .inside; reached = h .reached; passed = above J _ (value-pos (e .factor) (h .passed)) }, kept J es (k .1))
-
-other-ends : (e : Edge Float) (es : List (Edge Float)) → All (λ f. SameEnds e f → ⊥) es
-    → All (λ f. SameEnds (edgeAtValue e) f → ⊥) (map edgeAtValue es)
-other-ends e [] h = tt
-other-ends e (f ∷ fs) h = (h .0, other-ends e fs (h .1))
-
-apart : (es : List (Edge Float)) → Apart es → Apart (map edgeAtValue es)
-apart [] h = tt
-apart (e ∷ es) h = (other-ends e es (h .0), apart es (h .1))
-
-checked-values : (J : Job Float) → Checked (λ x. T (positive x)) J → Checked (Pos rational) (atValues J)
-checked-values J ok = record { window = ok .window; edges = kept J (J .edges) (ok .edges); apart = apart (J .edges) (ok .apart) }
 
 -- ---- the exact Z and N of a pair, at the rounded sweeps' scales
 
