@@ -1,6 +1,8 @@
 //! The settled examples of document 01, through the bindings, and what lists hold after calls that are refused.
 
-use copperhook::{estimate, estimates, mean_error_bound, Dilution, EdgeList, Estimate, Graph, Job, Kind, Manner, Pair, Refusal, Rng, Sampling, Strip};
+use copperhook::{
+    estimate, estimates, mean_error_bound, Dilution, EdgeList, Estimate, Graph, Job, Kind, Manner, Pair, Refusal, Rng, Sampling, Strip,
+};
 
 const MANNERS: [Manner; 2] = [Manner::PerElement, Manner::Block];
 

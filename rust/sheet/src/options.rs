@@ -28,7 +28,9 @@ of which configurations: with at most 20 free edges of all, with more of the one
         --seed N             the seed of their streams; 1 by default
         --threads N          chunks at a time; the bits do not depend on it
 how it is told
-    --format F               text (the default), csv, json, or svg: a plot against distance
+    --format F               text (the default), csv, json, or svg: a plot against distance. The foot of a text tells how far its correlations,
+                             or means, are from the exact ones at most, for factors as the host's exp makes them; this is proved, and no
+                             digit past it is printed. csv and json carry this bound and every digit
     --bits                   the bits of every value too
     --output FILE            to this file, which is there whole or not at all
     --help                   this text
