@@ -197,7 +197,8 @@ fn no_digit_is_printed_past_the_bound() {
         for (shown, all) in text.lines().skip(4).zip(csv.lines().skip(1)) {
             let (shown, all) = (shown.split_whitespace().nth(4).unwrap(), all.split(',').nth(9).unwrap());
             let (digits, exponent) = shown.split_once("e-").unwrap_or((shown, "0"));
-            assert_eq!(digits.split_once('.').unwrap().1.len() + exponent.parse::<usize>().unwrap(), decimals, "{text}");
+            let after = digits.split_once('.').map_or(0, |parts| parts.1.len());
+            assert_eq!(after + exponent.parse::<usize>().unwrap(), decimals, "{text}");
             assert!((shown.parse::<f64>().unwrap() - all.parse::<f64>().unwrap()).abs() <= 0.5001 * 0.1f64.powi(decimals as i32));
         }
     }
