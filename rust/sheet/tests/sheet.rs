@@ -189,7 +189,7 @@ fn the_foot_tells_what_is_proved() {
 
 #[test]
 fn no_digit_is_printed_past_the_bound() {
-    for (which, bound, decimals) in [("--seed 7", "2.0e-12", 11), ("--sample 5", "3.9e-12", 11), ("--sample 1 --chunks 300000", "", 10)] {
+    for (which, bound, decimals) in [("--seed 7", "2.0e-12", 11), ("--sample 5", "3.9e-12", 11), ("--sample 1 --chunks 50000", "", 10)] {
         let (width, length) = if bound.is_empty() { (2, 2) } else { (13, 6) };
         let line = format!("--kind square --width {width} --length {length} --beta 0.4 {which}");
         let (text, csv) = (printed(&line), printed(&format!("{line} --format csv")));
