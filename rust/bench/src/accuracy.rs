@@ -2,11 +2,13 @@
 //!
 //! That sweep goes from the first vertex to the last, and sums the settings in which both ends of a pair are up: it has no backward vector, no
 //! scale, and nothing below zero. Weights are the squares of the factors of edges whose ends agree, as in the tests against exact fractions.
+use crate::clock::{least_times, Rounds};
 use crate::ours::Lists;
 use crate::wide::{Wide, ZERO};
 use crate::MANNERS;
 use oracle::lattice::{Kind, Strip};
 use oracle::rng::Rng;
+use std::hint::black_box;
 
 const BETAS: [f64; 3] = [0.3, 1.0, 2.0];
 const UNIT: f64 = 1.0 / (1u64 << 53) as f64;
@@ -143,11 +145,19 @@ fn worst(lists: &Lists, factors: &[f64], reference: &Reference, pairs: &[(usize,
     worst
 }
 
+/// Seconds of a call for the bound.
+fn time(lists: &Lists, factors: &[f64]) -> f64 {
+    let mut call = || {
+        let _ = black_box(lists.job().graph.error_bound(black_box(factors)));
+    };
+    least_times(&Rounds { least: 9, round: 0.001, total: 0.05 }, &mut [&mut call])[0]
+}
+
 pub fn print_accuracy() {
     println!("Errors of correlations beside their proved bound; u is 2^-53. Random signs, magnitudes 0.2 to 1 times beta, both manners.");
     println!();
-    println!("| strip | vertices | window | beta | bound | bound, u | worst error, u | error / bound |");
-    println!("|---|---|---|---|---|---|---|---|");
+    println!("| strip | vertices | window | beta | bound | bound, u | worst error, u | error / bound | its call, us |");
+    println!("|---|---|---|---|---|---|---|---|---|");
     let (mut rng, mut largest) = (Rng::new(5), 0.0f64);
     for shape in shapes() {
         let pairs = drawn_pairs(&mut rng, &shape);
@@ -159,8 +169,8 @@ pub fn print_accuracy() {
             let worst = worst(&lists, &factors, &Reference::new(&shape, &factors), &pairs);
             largest = largest.max(worst / bound);
             let (name, n, window, units) = (&shape.name, shape.n, shape.window, bound / UNIT);
-            let ratio = worst / bound;
-            println!("| {name} | {n} | {window} | {beta} | {bound:.1e} | {units} | {:.1} | {ratio:.5} |", worst / UNIT);
+            let (ratio, us) = (worst / bound, 1e6 * time(&lists, &factors));
+            println!("| {name} | {n} | {window} | {beta} | {bound:.1e} | {units} | {:.1} | {ratio:.5} | {us:.1} |", worst / UNIT);
             assert!(worst <= bound, "an answer is past its bound");
         }
     }

@@ -146,6 +146,12 @@ fn bound_is_told(shape: &Shape, factors: &[f64], told: impl Fn(&[f64]) -> Option
     units
 }
 
+/// An answer that is moved by 1.2 of its bound, to the side of the middle: that is to be seen, as no true error comes near the bound.
+fn moved(x: f64, middle: f64, units: u64) -> f64 {
+    let bound = 1.2 * units as f64 / (1u64 << 53) as f64;
+    x + if x > middle { -bound } else { bound }
+}
+
 /// Every pair's correlation of a job, in both manners.
 fn correlations(draw: &mut Draw, found: &mut Found) {
     let shape = Shape::drawn(draw, 11);
@@ -160,6 +166,7 @@ fn correlations(draw: &mut Draw, found: &mut Found) {
         job.correlations(&factors, manner, &mut results, &mut work).unwrap();
         for (i, &x) in results.iter().enumerate() {
             found.take(sums.error_over_bound(i, x, units), &format!("{:?} {factors:?} {:?} {manner:?}", shape.edges, pairs[i]));
+            assert!(!sums.error_over_bound(i, moved(x, 0.0, units), units).1, "an answer past its bound was let through");
         }
     }
     found.jobs += 1;
@@ -284,6 +291,8 @@ fn take_means(found: &mut Found, exact: &Squares, (squares, fourths): (&[f64], &
             Estimate::Estimated { mean, .. } | Estimate::TooFew { mean } => mean,
         };
         found.take(exact.error_over_bound(p, mean, count as u64, units), "mean");
+        let wrong = moved(mean, 0.5, units);
+        assert!(!exact.error_over_bound(p, wrong, count as u64, units).1, "a mean past its bound was let through");
     }
 }
 
