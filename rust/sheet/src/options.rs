@@ -28,12 +28,13 @@ of which configurations: with at most 20 free edges of all, with more of the one
         --seed N             the seed of their streams; 1 by default
         --threads N          chunks at a time; the bits do not depend on it
 how it is told
-    --format F               text (the default), csv, json, or svg: a plot against distance. The foot of a text tells how far its correlations,
-                             or means, are from the exact ones at most, for factors as the host's exp makes them; this is proved, and no
-                             digit past it is printed. csv and json carry this bound and every digit
+    --format F               text (the default), csv, json, or svg: a plot against distance
     --bits                   the bits of every value too
     --output FILE            to this file, which is there whole or not at all
     --help                   this text
+
+The foot of a text tells how far its correlations, or means, are from the exact ones at most, for the factors that the
+host's exp makes. That is proved, and no digit past it is printed. csv and json carry the bound, and every digit.
 
 examples
     sheet --kind square --width 4 --length 6 --beta 0.44,0.6

@@ -172,6 +172,27 @@ fn correlations(draw: &mut Draw, found: &mut Found) {
     found.jobs += 1;
 }
 
+/// The condition is not idle. Two triangles whose edges cannot all be satisfied meet at vertex 0, and the correlation of 0 and 1 is near 1/3.
+/// Per element, with factors of 2^400, all settings in which the two agree are lost to underflow on the way back, and the answer is -1.
+fn past_the_condition() {
+    let edges = vec![(0, 1), (0, 2), (0, 3), (1, 3), (0, 4), (2, 4)];
+    let shape = Shape { n: 5, window: 4, near: 2, edges };
+    let (lists, pairs) = (Lists::of(&shape), [(0, 1)]);
+    let job = Job { us: &[0], vs: &[1], ..lists.job() };
+    let mut work = vec![0.0; job.room().unwrap()];
+    let mut answered = |bits: i32| {
+        let strong = 2f64.powi(bits);
+        let factors = [strong, strong, strong, 1.0 / strong, strong, 1.0 / strong];
+        let mut results = [0.0];
+        job.correlations(&factors, Manner::PerElement, &mut results, &mut work).unwrap();
+        let within = Sums::of(5, &shape.edges, &factors, &pairs).error_over_bound(0, results[0], shape.units()).1;
+        (results[0], within, job.graph.error_bound(&factors).unwrap().is_some())
+    };
+    let (third, within, known) = answered(shape.bits());
+    assert!((third - 1.0 / 3.0).abs() < 1e-12 && within && known);
+    assert_eq!(answered(400), (-1.0, false, false));
+}
+
 /// Which configurations a total is of: the signs of each, true for minus, in chunks of one size.
 struct Configurations {
     minus: Vec<Vec<bool>>,
@@ -244,6 +265,15 @@ fn shape_with_free_edges(draw: &mut Draw, n: usize, least: usize, most: usize) -
     }
 }
 
+/// What is stored in either manner.
+fn stored_lists(job: &Job, factors: &[f64], length: usize) -> [Vec<f64>; 2] {
+    MANNERS.map(|manner| {
+        let (mut list, mut work) = (vec![0.0; length], vec![0.0; job.room().unwrap()]);
+        job.exhaustive_c(&[1.0], factors, manner, &mut list, &mut work).unwrap();
+        list
+    })
+}
+
 /// The stored correlations of all configurations, and the mean squares of all and of drawn ones.
 fn totals(draw: &mut Draw, shape: &Shape, [stored, means, drawn]: [&mut Found; 3]) {
     let lists = Lists::of(shape);
@@ -260,12 +290,7 @@ fn totals(draw: &mut Draw, shape: &Shape, [stored, means, drawn]: [&mut Found; 3
     let some = Configurations::drawn(shape, &by);
     let (mut squares, mut of_some) = (Squares(vec![Natural::new(0); pairs.len()]), Squares(vec![Natural::new(0); pairs.len()]));
     let mut work = vec![0.0; job.room().unwrap()];
-    let mut each: Vec<Vec<f64>> = Vec::new();
-    for manner in MANNERS {
-        let mut list = vec![0.0; pairs.len() * count];
-        job.exhaustive_c(&beta, &factors, manner, &mut list, &mut work).unwrap();
-        each.push(list);
-    }
+    let each = stored_lists(&job, &factors, pairs.len() * count);
     for (x, minus) in all.minus.iter().enumerate() {
         let sums = exact(minus);
         squares.add(&sums);
@@ -298,6 +323,7 @@ fn take_means(found: &mut Found, exact: &Squares, (squares, fourths): (&[f64], &
 
 fn main() {
     natural::is_sound();
+    past_the_condition();
     let asked = std::env::args().skip(1).find_map(|word| word.parse::<u64>().ok());
     let clock = || SystemTime::now().duration_since(UNIX_EPOCH).unwrap().as_nanos() as u64;
     let seed = match std::env::var("COPPERHOOK_SEED") {
