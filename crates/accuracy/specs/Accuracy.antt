@@ -1,13 +1,13 @@
 -- The theorem with a condition on the job alone: no factor so far from one that a window of them could leave the normal range.
-use mathlib.Core.Path.{_≡_, refl, sym, _∙_, ap, ap₂, subst, subst₂}
+use mathlib.Core.Path.{_≡_, refl, sym, _∙_, subst}
 use mathlib.Core.Logic.{_⊎_, inl, inr}
-use mathlib.Core.Bool.{Bool, true, false, cond, not, _&&_}
+use mathlib.Core.Bool.{Bool, true, false, cond, _&&_}
 use mathlib.Core.List.{List, [], _∷_}
 use mathlib.Core.Option.{Option, none, some}
-use Prim.Native.Nat.{ℕ, zero, suc, _+_, _*_, _-_, _/_, _%_, _^_, _≤_, _<_, min, max}
-use native.Mathlib.Nat.{mul-le-mul-right, le-trans, zero-mod}
+use Prim.Native.Nat.{ℕ, zero, suc, _+_, _*_, _-_, _%_, _^_, _≤_, _<_, max}
+use native.Mathlib.Nat.{mul-le-mul-right, zero-mod}
 use native.Mathlib.Omega.{arith}
-use lib.Dec.{T, eqb, eqb→eq}
+use lib.Dec.{T, eqb}
 use lib.Pow.{pow-pos}
 use lib.ListN.{length}
 use lib.Ieee.{Float, binary64, add, mul, div}
@@ -16,12 +16,11 @@ use lib.Ieee.Scale.{finite}
 use borrow.Author.Tests.{lt-ltb, eqb-false}
 use Rattle.rounding.specs.Sign.{notMinus, mul-finite, add-finite}
 use Rattle.rounding.specs.Under.{unit, nought}
-use Rattle.fraction.specs.Fraction.{ℚ, oneℚ, addℚ, mulℚ, Posℚ}
-use Rattle.fraction.specs.Value.{value}
+use Rattle.fraction.specs.Fraction.{ℚ, oneℚ, Posℚ}
 use Rattle.vector.specs.Tabulate.{tabulate-length}
 use Rattle.transfer.specs.Arithmetic.{sum}
-use Rattle.transfer.specs.Checked.{All, Kept, Checked}
-use Rattle.transfer.specs.Job.{Edge, Job, Manner, block, perElement, Back, Step, backEdge, backEdges, prepend, stepOf}
+use Rattle.transfer.specs.Checked.{All, Checked}
+use Rattle.transfer.specs.Job.{Edge, Job, Manner, block, perElement, Back, backEdge, backEdges, prepend, stepOf}
 use Rattle.transfer.specs.Rounded.{ieee}
 use Rattle.transfer.specs.Sweep.{at, start, up, ep, em, forwardStep, backwardStep, stored, largest, beforeStep, afterSteps, forward, scale, backward, Z, answer}
 use Rattle.exactness.specs.AnyScales.{ZOf}
@@ -32,15 +31,14 @@ use Rattle.bounds.specs.Factors.{EdgesNotMinus, checked-notMinus}
 use Rattle.bounds.specs.Bounds.{forward-finite, backward-finite}
 use Rattle.bounds.specs.Steps.{Finite, forwardStep-finite, start-beneath}
 use Rattle.bounds.specs.Sweeps.{forward-beneath, backward-beneath}
-use Rattle.accuracy.specs.Ring.{_⊹_, _⋆_, NonNeg, _≼_, ≼-refl, ≼-of, ≼-trans, ≼-times, ≼-mul, ≼-more, nat, nat-mul, nn-mul, nn-frac, nn-pos, sorted, *-comm, *-assoc, +-comm}
-use Rattle.accuracy.specs.Rounds.{ε, ε-nn, smallest}
-use Rattle.accuracy.specs.Tables.{power, power-nn, Boxed, BoxedMaybe, AllBoxed, BoxedStep}
-use Rattle.accuracy.specs.Sweeps.{ahead, back, before, after, ahead-pos, back-pos, positively, ClearAhead, ClearBack, before-near, after-near, backwardStep-finite}
+use Rattle.accuracy.specs.Ring.{_⊹_, _⋆_, NonNeg, _≼_, ≼-trans, ≼-more, nat, nn-mul, nn-pos, +-comm}
+use Rattle.accuracy.specs.Rounds.{ε, smallest}
+use Rattle.accuracy.specs.Tables.{Boxed, BoxedMaybe, AllBoxed, BoxedStep}
+use Rattle.accuracy.specs.Sweeps.{ahead, back, before, after, ahead-pos, back-pos, before-near, after-near, backwardStep-finite}
 use Rattle.accuracy.specs.Pairs.{exactZ, roundings, Normal, accurate}
 use Rattle.accuracy.specs.Close.{Close}
 use Rattle.accuracy.specs.Spread as S
-use Rattle.accuracy.specs.Largest.{Entry}
-use Rattle.accuracy.specs.Levels.{Level, ahead-level, back-level}
+use Rattle.accuracy.specs.Levels.{ahead-level, back-level}
 use Rattle.accuracy.specs.Range as G
 use Rattle.accuracy.specs.Range.{Deep, Course, Reached, reach}
 use Rattle.accuracy.specs.Sums.{sum-nn}

@@ -1,8 +1,8 @@
 -- A rounded correlation and the textbook's differ by no more than the roundings on the way can do, where the sweeps stay in the normal range.
-use mathlib.Core.Path.{_≡_, refl, sym, _∙_, ap, ap₂, subst, subst₂}
+use mathlib.Core.Path.{_≡_, sym, _∙_, ap, ap₂, subst}
 use mathlib.Core.Bool.{Bool, true, false, cond, not, Bool·beq}
-use mathlib.Core.List.{List, [], _∷_, map}
-use Prim.Native.Nat.{ℕ, zero, suc, _+_, _*_, _-_, _^_, _≤_, _<_, min, max}
+use mathlib.Core.List.{List}
+use Prim.Native.Nat.{ℕ, suc, _+_, _*_, _-_, _^_, _≤_, _<_, min, max}
 use native.Mathlib.Omega.{arith}
 use lib.Dec.{T, ltb}
 use lib.Pow.{pow-pos}
@@ -10,19 +10,17 @@ use lib.ListN.{length}
 use lib.Ieee.{Float, binary64, mul, div}
 use lib.Ieee.Scale.{finite}
 use lib.Ieee.Positive.{positive, positive-finite}
-use Rattle.rounding.specs.Under as U
-use Rattle.rounding.specs.Under.{Under, mul-under, div-under}
-use Rattle.fraction.specs.Fraction.{ℚ, oneℚ, addℚ, mulℚ, invℚ, Posℚ, pos-mul, pos-inv, mul-inv-pos}
+use Rattle.rounding.specs.Under.{mul-under, div-under}
+use Rattle.fraction.specs.Fraction.{ℚ, oneℚ, invℚ, Posℚ, pos-mul, pos-inv, mul-inv-pos}
 use Rattle.fraction.specs.Value.{value, value-pos}
 use Rattle.vector.specs.Bits.{bit}
-use Rattle.transfer.specs.Arithmetic.{sum, signedSum}
-use Rattle.transfer.specs.Checked.{All, Kept, SameEnds, Apart, Checked}
-use Rattle.transfer.specs.Job.{Edge, Job, stepOf}
+use Rattle.transfer.specs.Arithmetic.{sum}
+use Rattle.transfer.specs.Checked.{Checked}
+use Rattle.transfer.specs.Job.{Job, stepOf}
 use Rattle.transfer.specs.Rounded.{ieee}
 use Rattle.transfer.specs.Sweep.{at, forward, backward, propagated, Z, N, directN, propagatedN, answer}
-use Rattle.exactness.specs.Algebra.{Pos}
 use Rattle.exactness.specs.AnyScales.{propagatedOf, ZOf, directNOf, propagatedNOf, NOf, answerOf}
-use Rattle.exactness.specs.Exact.{rational, rational-laws, edgeAtValue, atValues, checked-values}
+use Rattle.exactness.specs.Exact.{rational, rational-laws, atValues, checked-values}
 use Rattle.exactness.specs.Exactness.{exactly-scaled}
 use Rattle.exactness.specs.Textbook.{textbook}
 use Rattle.bounds.specs.Factors.{EdgesNotMinus, checked-notMinus}
@@ -30,18 +28,17 @@ use Rattle.bounds.specs.Pairs.{sum-is}
 use Rattle.bounds.specs.Sweeps.{backward-beneath}
 use Rattle.bounds.specs.Bounds.{numerator-under, propagated-under, forward-finite, backward-finite}
 use Rattle.rounding.specs.Sums.{total-finite}
-use Rattle.accuracy.specs.Ring.{_⊹_, _⋆_, NonNeg, _≼_, ≼-refl, ≼-of, ≼-trans, ≼-add, ≼-times, ≼-more, ≼-pos, nat, nat-add, nn-mul, nn-add, nn-pos, nn-frac, sorted, spread}
-use Rattle.accuracy.specs.Ring.{*-+, +-*, +-assoc, +-comm, one-*, *-one, *-comm, *-assoc, neg-zero, +-zero}
+use Rattle.accuracy.specs.Ring.{_⊹_, _⋆_, NonNeg, _≼_, ≼-refl, ≼-trans, ≼-add, ≼-times, ≼-more, ≼-pos, nat, nn-mul, nn-add, nn-pos, sorted, spread}
+use Rattle.accuracy.specs.Ring.{+-assoc, +-comm, one-*, *-one, *-comm, *-assoc}
 use Rattle.accuracy.specs.Within.{Within, within-nonneg, within-mono, within-mul, within-add, within-nn}
-use Rattle.accuracy.specs.Rounds.{ε, ε-nn, ε-one, smallest, smallest-nn, smallest-pos, Rounds}
+use Rattle.accuracy.specs.Rounds.{ε, ε-nn, ε-one, smallest, smallest-nn, smallest-pos}
 use Rattle.accuracy.specs.Operations.{div-rounds}
 use Rattle.accuracy.specs.Close.{Close, close-mul, gain, gain-nn, gain-add}
 use Rattle.accuracy.specs.Tables.{BoxedStep}
-use Rattle.accuracy.specs.Sweeps.{ahead, exactForward, exactBackward, exact-sweeps, above, Near, ClearAhead, ClearBack, before-near, after-near, propagated-near}
+use Rattle.accuracy.specs.Sweeps.{ahead, exactForward, exactBackward, exact-sweeps, Near, ClearAhead, ClearBack, before-near, after-near, propagated-near}
 use Rattle.accuracy.specs.Sums.{sum-close, signed-close, sum-raised, sum-nn, signed-within}
 use Rattle.accuracy.specs.Sizes.{above-nat, smallest-one, under-within}
-use Rattle.accuracy.specs.Apart.{apart-of}
-use Rattle.accuracy.specs.Roundings.{gain-bound, gain-one}
+use Rattle.accuracy.specs.Roundings.{gain-one}
 use Rattle.accuracy.specs.Ratio.{ratio-error, ratio-is, ratio-small}
 
 -- ---- the exact Z and N of a pair, at the rounded sweeps' scales

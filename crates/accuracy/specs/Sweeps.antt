@@ -1,11 +1,11 @@
 -- The sweeps, rounded, and in fractions at the numbers that the rounded scales stand for: their vectors are close.
-use mathlib.Core.Path.{_≡_, refl, sym, _∙_, ap, ap₂, subst, subst₂}
-use mathlib.Core.Bool.{Bool, true, false, not, cond}
+use mathlib.Core.Path.{_≡_, refl, sym, _∙_, ap, subst, subst₂}
+use mathlib.Core.Bool.{Bool, true, false, cond}
 use mathlib.Core.List.{List}
 use Prim.Native.Nat.{ℕ, zero, suc, _+_, _*_, _-_, _/_, _%_, _^_, _≤_, _<_}
 use native.Mathlib.Nat.{add-zero, add-suc, mod-eq-of-lt}
 use native.Mathlib.Omega.{arith}
-use lib.Dec.{T, ltb, ltb→lt, nltb→le}
+use lib.Dec.{T}
 use lib.ListN.{length}
 use lib.Ieee.{Float, binary64, add, mul, div, neg}
 use lib.Ieee.Scale.{finite}
@@ -18,7 +18,7 @@ use Rattle.vector.specs.Bits.{bit}
 use Rattle.vector.specs.Power.{pow-double}
 use Rattle.transfer.specs.Job.{Job, Step, stepOf}
 use Rattle.transfer.specs.Rounded.{ieee}
-use Rattle.transfer.specs.Sweep.{at, start, alternate, forwardAt, forwardStep, backwardAt, backwardStep, beforeStep, afterSteps, forward, scale, backward, propagated, pattern, up, down, ep, em}
+use Rattle.transfer.specs.Sweep.{at, start, alternate, forwardAt, forwardStep, backwardAt, backwardStep, beforeStep, afterSteps, forward, scale, propagated, ep, em}
 use Rattle.exactness.specs.Algebra.{Pos}
 use Rattle.exactness.specs.AnyScales.{Scaled, propagatedOf}
 use Rattle.exactness.specs.Entries as E
@@ -27,10 +27,10 @@ use lib.Ieee.Positive.{positive}
 use Rattle.transfer.specs.Checked.{Checked}
 use Rattle.bounds.specs.Steps.{Finite, forwardStep-finite}
 use Rattle.bounds.specs.Bounds.{propagated-under, forward-finite-before}
-use Rattle.accuracy.specs.Ring.{_⊹_, _⋆_, ‐_, NonNeg, _≼_, nn-frac, nn-pos, neg-zero, +-zero}
+use Rattle.accuracy.specs.Ring.{_⊹_, ‐_, NonNeg, _≼_, nn-frac, nn-pos, neg-zero, +-zero}
 use Rattle.accuracy.specs.Within.{within-nonneg}
 use Rattle.accuracy.specs.Close.{Close, close-exact, close-mono, close-neg}
-use Rattle.accuracy.specs.Tables.{stepAtValue, stepOf-values, BoxedStep}
+use Rattle.accuracy.specs.Tables.{stepOf-values, BoxedStep}
 use Rattle.accuracy.specs.Steps.{Clear, forwardAt-close, backwardAt-close}
 
 -- a finite backward entry of the lower half is made of finite ones, so a finite vector came from a finite one
