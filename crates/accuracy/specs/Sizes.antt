@@ -18,7 +18,7 @@ use Rattle.fraction.specs.Value.{value}
 use Rattle.accuracy.specs.Ring.{_⊹_, _⋆_, ‐_, NonNeg, _≼_, ≼-times, nat, nat-add, nn-frac, nn-mul, nn-pos}
 use Rattle.accuracy.specs.Ring.{+-*, +-comm, +-assoc, zero-+, one-*, *-assoc, *-comm}
 use Rattle.accuracy.specs.Within.{Within, within-nonneg, within-neg, within-mono}
-use Rattle.accuracy.specs.Rounds.{smallest, signed-is, parts, frac-nat}
+use Rattle.accuracy.specs.Rounds.{smallest, signed-is, parts}
 use Rattle.accuracy.specs.Operations.{value-signed, mul-signed}
 
 -- ---- fractions
@@ -39,9 +39,6 @@ same a b c h = cc (+-assoc (‐ a) a b, +-assoc (‐ a) a c, +-comm (‐ a) a, a
 
 pub nat-mono : (m n : ℕ) → m ≤ n → nat m ≼ nat n
 nat-mono m n h = let e : n ≡ m + (n - m) = omega arith in record { rest = nat (n - m); is = ap nat e ∙ nat-add m (n - m); nonneg = nn-frac (n - m) 0 }
-
-pub frac-whole : (a d : ℕ) → frac a 0 (d - 1) ≡ nat a ⋆ frac 1 0 (d - 1)
-frac-whole a d = frac-nat a (d - 1)
 
 pub frac-mul : (a b c d : ℕ) → 0 < c → 0 < d → frac a 0 (c - 1) ⋆ frac b 0 (d - 1) ≡ frac (a * b) 0 (c * d - 1)
 frac-mul a b c d C D = mul-signed false false a b c d C D
