@@ -1,9 +1,8 @@
 -- The theorem with a condition on the job alone: no factor so far from one that a window of them could leave the normal range.
 use mathlib.Core.Path.{_≡_, refl, sym, _∙_, subst}
 use mathlib.Core.Logic.{_⊎_, inl, inr}
-use mathlib.Core.Bool.{Bool, true, false, cond, _&&_}
-use mathlib.Core.List.{List, [], _∷_}
-use mathlib.Core.Option.{Option, none, some}
+use mathlib.Core.Bool.{Bool, true, false, cond}
+use mathlib.Core.List.{List}
 use Prim.Native.Nat.{ℕ, zero, suc, _+_, _*_, _-_, _%_, _^_, _≤_, _<_, max}
 use native.Mathlib.Nat.{mul-le-mul-right, zero-mod}
 use native.Mathlib.Omega.{arith}
@@ -19,8 +18,8 @@ use Rattle.rounding.specs.Under.{unit, nought}
 use Rattle.fraction.specs.Fraction.{ℚ, oneℚ, Posℚ}
 use Rattle.vector.specs.Tabulate.{tabulate-length}
 use Rattle.transfer.specs.Arithmetic.{sum}
-use Rattle.transfer.specs.Checked.{All, Checked}
-use Rattle.transfer.specs.Job.{Edge, Job, Manner, block, perElement, Back, backEdge, backEdges, prepend, stepOf}
+use Rattle.transfer.specs.Checked.{Checked}
+use Rattle.transfer.specs.Job.{Job, Manner, block, perElement, stepOf}
 use Rattle.transfer.specs.Rounded.{ieee}
 use Rattle.transfer.specs.Sweep.{at, start, up, ep, em, forwardStep, backwardStep, stored, largest, beforeStep, afterSteps, forward, scale, backward, Z, answer}
 use Rattle.exactness.specs.AnyScales.{ZOf}
@@ -33,42 +32,16 @@ use Rattle.bounds.specs.Steps.{Finite, forwardStep-finite, start-beneath}
 use Rattle.bounds.specs.Sweeps.{forward-beneath, backward-beneath}
 use Rattle.accuracy.specs.Ring.{_⊹_, _⋆_, NonNeg, _≼_, ≼-trans, ≼-more, nat, nn-mul, nn-pos, +-comm}
 use Rattle.accuracy.specs.Rounds.{ε, smallest}
-use Rattle.accuracy.specs.Tables.{Boxed, BoxedMaybe, AllBoxed, BoxedStep}
-use Rattle.accuracy.specs.Sweeps.{ahead, back, before, after, ahead-pos, back-pos, before-near, after-near, backwardStep-finite}
-use Rattle.accuracy.specs.Pairs.{exactZ, roundings, Normal, accurate}
 use Rattle.accuracy.specs.Close.{Close}
-use Rattle.accuracy.specs.Spread as S
-use Rattle.accuracy.specs.Levels.{ahead-level, back-level}
-use Rattle.accuracy.specs.Range as G
-use Rattle.accuracy.specs.Range.{Deep, Course, Reached, reach}
+use Rattle.accuracy.specs.Powers.{θ, θ-nn, θ-one}
+use Rattle.accuracy.specs.Factors.{BoxedStep, boxed-steps, EdgesBoxed}
+use Rattle.accuracy.specs.Sweeps.{ahead, back, before, after, ahead-pos, back-pos, before-near, after-near, backwardStep-finite}
 use Rattle.accuracy.specs.Sums.{sum-nn}
-
--- ---- every factor from β to one over β
-
-abbrev pub EdgesBoxed : ℚ → List (Edge Float) → Type 0
-EdgesBoxed β es = All (λ e. Boxed β (e .factor)) es
-
-boxed-edge : (β : ℚ) (es : List (Edge Float)) → EdgesBoxed β es → (t d : ℕ) → BoxedMaybe β (backEdge es t d)
-unfolding backEdge
-boxed-edge β [] h t d = tt
-boxed-edge β (e ∷ es) h t d = go (eqb (e .late) t && eqb (e .early + d) t) (boxed-edge β es (h .1) t d)
-  where
-    go : (b : Bool) → BoxedMaybe β (backEdge es t d) → BoxedMaybe β (cond b (some (e .factor)) (backEdge es t d))
-    go true r = h .0
-    go false r = r
-
-boxed-prepend : (β : ℚ) (d : ℕ) (o : Option Float) (bs : List (Back Float)) → BoxedMaybe β o → AllBoxed β bs → AllBoxed β (prepend d o bs)
-unfolding prepend
-boxed-prepend β d none bs h k = k
-boxed-prepend β d (some x) bs h k = (h, k)
-
-boxed-edges : (β : ℚ) (es : List (Edge Float)) → EdgesBoxed β es → (t d n : ℕ) → AllBoxed β (backEdges es t d n)
-unfolding backEdges
-boxed-edges β es h t d zero = tt
-boxed-edges β es h t d (suc n) = boxed-prepend β d (backEdge es t d) _ (boxed-edge β es h t d) (boxed-edges β es h t (suc d) n)
-
-boxed-steps : (β : ℚ) (J : Job Float) → EdgesBoxed β (J .edges) → (t : ℕ) → BoxedStep β (stepOf J t)
-boxed-steps β J h t = record { left = boxed-edge β (J .edges) h t (J .window); others = boxed-edges β (J .edges) h t 1 (J .window - 1) }
+use Rattle.accuracy.specs.Pairs.{exactZ, roundings, Normal, accurate}
+use Rattle.accuracy.specs.Levels.{ahead-level, back-level}
+use Rattle.accuracy.specs.Range.{Deep, Course, Reached, reach}
+use Rattle.accuracy.specs.Spread as S
+use Rattle.accuracy.specs.Range as G
 
 -- ---- a sum has each of its terms
 
@@ -193,7 +166,7 @@ module _ (J : Job Float) (ok : Checked (λ x. T (positive x)) J) (β : ℚ) (β-
       phases = ahead-phases;
       start-M = λ j l. E.start-at rational w j l;
       start-L = refl;
-      step = λ t s level. ahead-level w W β β-nn β-one p (ahead J t) (nn-pos _ (ahead-pos J t)) (at rational (before J t)) (at rational (before J (suc t)))
+      step = λ t s level. ahead-level w W (θ β p) (θ-nn β β-nn β-one p) (θ-one β β-nn β-one p) (ahead J t) (nn-pos _ (ahead-pos J t)) (at rational (before J t)) (at rational (before J (suc t)))
           (S.before-nn J W β β-nn β-one box p few t) s level (S.before-mix J W β β-nn β-one box p few t);
       next = ahead-next;
       lengths = lengths-ahead;
@@ -290,7 +263,7 @@ module _ (J : Job Float) (ok : Checked (λ x. T (positive x)) J) (β : ℚ) (β-
       phases = back-phases;
       start-M = λ j l. E.start-at rational w j l;
       start-L = refl;
-      step = λ t s level. back-level w W β β-nn β-one p (back J t) (nn-pos _ (back-pos J t)) (at rational (after J t)) (at rational (after J (suc t)))
+      step = λ t s level. back-level w W (θ β p) (θ-nn β β-nn β-one p) (θ-one β β-nn β-one p) (back J t) (nn-pos _ (back-pos J t)) (at rational (after J t)) (at rational (after J (suc t)))
           (S.after-nn J W β β-nn β-one box p few t) s level (S.after-mix J W β β-nn β-one box p few t);
       next = back-next;
       lengths = lengths-back;

@@ -28,14 +28,15 @@ use Rattle.bounds.specs.Pairs.{sum-is}
 use Rattle.bounds.specs.Sweeps.{backward-beneath}
 use Rattle.bounds.specs.Bounds.{numerator-under, propagated-under, forward-finite, backward-finite}
 use Rattle.rounding.specs.Sums.{total-finite}
-use Rattle.accuracy.specs.Ring.{_⊹_, _⋆_, NonNeg, _≼_, ≼-refl, ≼-trans, ≼-add, ≼-times, ≼-more, ≼-pos, nat, nn-mul, nn-add, nn-pos, sorted, spread}
-use Rattle.accuracy.specs.Ring.{+-assoc, +-comm, one-*, *-one, *-comm, *-assoc}
+use Rattle.accuracy.specs.Ring.{_⊹_, _⋆_, NonNeg, _≼_, ≼-refl, ≼-trans, ≼-add, ≼-times, ≼-more, ≼-pos, nat, nn-mul, nn-add, nn-pos, sorted}
+use Rattle.accuracy.specs.Ring.{spread, +-assoc, +-comm, one-*, *-one, *-comm, *-assoc}
 use Rattle.accuracy.specs.Within.{Within, within-nonneg, within-mono, within-mul, within-add, within-nn}
 use Rattle.accuracy.specs.Rounds.{ε, ε-nn, ε-one, smallest, smallest-nn, smallest-pos}
 use Rattle.accuracy.specs.Operations.{div-rounds}
 use Rattle.accuracy.specs.Close.{Close, close-mul, gain, gain-nn, gain-add}
-use Rattle.accuracy.specs.Tables.{BoxedStep}
-use Rattle.accuracy.specs.Sweeps.{ahead, exactForward, exactBackward, exact-sweeps, Near, ClearAhead, ClearBack, before-near, after-near, propagated-near}
+use Rattle.accuracy.specs.Factors.{BoxedStep}
+use Rattle.accuracy.specs.Sweeps.{ahead, exactForward, exactBackward, exact-sweeps, Near, ClearAhead, ClearBack, before-near, after-near}
+use Rattle.accuracy.specs.Sweeps.{propagated-near}
 use Rattle.accuracy.specs.Sums.{sum-close, signed-close, sum-raised, sum-nn, signed-within}
 use Rattle.accuracy.specs.Sizes.{above-nat, smallest-one, under-within}
 use Rattle.accuracy.specs.Roundings.{gain-one}

@@ -15,8 +15,8 @@ use Rattle.rounding.specs.Sign.{notMinus}
 use Rattle.rounding.specs.Under as U
 use Rattle.fraction.specs.Fraction.{ℚ, frac, oneℚ, invℚ, posℚ, Posℚ, pos-inv, mul-inv-pos, add-neg}
 use Rattle.fraction.specs.Value.{value}
-use Rattle.accuracy.specs.Ring.{_⊹_, _⋆_, ‐_, NonNeg, _≼_, ≼-times, nat, nat-add, nn-frac, nn-mul, nn-pos}
-use Rattle.accuracy.specs.Ring.{+-*, +-comm, +-assoc, zero-+, one-*, *-assoc, *-comm}
+use Rattle.accuracy.specs.Ring.{_⊹_, _⋆_, ‐_, NonNeg, _≼_, ≼-times, nat, nat-add, nn-frac, nn-mul, nn-pos, +-*, +-comm, +-assoc, zero-+, one-*}
+use Rattle.accuracy.specs.Ring.{*-assoc, *-comm}
 use Rattle.accuracy.specs.Within.{Within, within-nonneg, within-neg, within-mono}
 use Rattle.accuracy.specs.Rounds.{smallest, signed-is, parts}
 use Rattle.accuracy.specs.Operations.{value-signed, mul-signed}

@@ -30,7 +30,8 @@ use Rattle.bounds.specs.Bounds.{propagated-under, forward-finite-before}
 use Rattle.accuracy.specs.Ring.{_⊹_, ‐_, NonNeg, _≼_, nn-frac, nn-pos, neg-zero, +-zero}
 use Rattle.accuracy.specs.Within.{within-nonneg}
 use Rattle.accuracy.specs.Close.{Close, close-exact, close-mono, close-neg}
-use Rattle.accuracy.specs.Tables.{stepOf-values, BoxedStep}
+use Rattle.accuracy.specs.AtValues.{stepOf-values}
+use Rattle.accuracy.specs.Factors.{BoxedStep}
 use Rattle.accuracy.specs.Steps.{Clear, forwardAt-close, backwardAt-close}
 
 -- a finite backward entry of the lower half is made of finite ones, so a finite vector came from a finite one
