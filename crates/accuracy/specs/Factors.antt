@@ -1,8 +1,9 @@
 -- Factors from β to one over β: of an edge, of what a step reads, of a job.
 use mathlib.Core.Bool.{Bool, true, false, cond, _&&_}
 use mathlib.Core.List.{List, [], _∷_}
+use lib.ListN.{length}
 use mathlib.Core.Option.{Option, none, some}
-use Prim.Native.Nat.{ℕ, zero, suc, _+_, _-_}
+use Prim.Native.Nat.{ℕ, zero, suc, _+_, _-_, _≤_}
 use lib.Dec.{T, eqb}
 use lib.Ieee.{Float}
 use lib.Ieee.Positive.{positive}
@@ -11,6 +12,7 @@ use Rattle.fraction.specs.Value.{value}
 use Rattle.transfer.specs.Checked.{All}
 use Rattle.transfer.specs.Job.{Edge, Job, Back, Step, backEdge, backEdges, prepend, stepOf}
 use Rattle.accuracy.specs.Ring.{_≼_}
+use native.Mathlib.Omega.{arith}
 
 -- The factor x is from β to one over β.
 pub record Boxed (β : ℚ) (x : Float) : Type 0 where
@@ -50,6 +52,10 @@ boxed-edges : (β : ℚ) (es : List (Edge Float)) → EdgesBoxed β es → (t d 
 unfolding backEdges
 boxed-edges β es h t d zero = tt
 boxed-edges β es h t d (suc n) = boxed-prepend β d (backEdge es t d) _ (boxed-edge β es h t d) (boxed-edges β es h t (suc d) n)
+
+-- With at most p near edges a vertex, a step takes at most p + 5 roundings.
+pub step-roundings : (J : Job Float) (p : ℕ) → ((t : ℕ) → length ((stepOf J t) .others) ≤ p) → (t : ℕ) → length ((stepOf J t) .others) + 5 ≤ p + 5
+step-roundings J p few t = let f = few t in omega arith
 
 -- So each step of a job whose edges are so reads such factors only.
 pub boxed-steps : (β : ℚ) (J : Job Float) → EdgesBoxed β (J .edges) → (t : ℕ) → BoxedStep β (stepOf J t)

@@ -1,7 +1,7 @@
 -- Weights, which are from b to one over b, and sums of two numbers with such weights: no such sum is much larger or smaller than another.
 use mathlib.Core.Path.{_≡_, sym, _∙_, ap, ap₂, subst, subst₂}
 use Rattle.fraction.specs.Fraction.{ℚ, oneℚ, addℚ}
-use Rattle.accuracy.specs.Ring.{_⊹_, _⋆_, NonNeg, _≼_, ≼-refl, ≼-of, ≼-trans, ≼-add, ≼-times, ≼-mul, ≼-more, ≼-nn, nn-add, nn-mul, nn-frac, nn-one}
+use Rattle.accuracy.specs.Ring.{_⊹_, _⋆_, NonNeg, _≼_, ≼-refl, ≼-of, ≼-trans, ≼-add, ≼-times, ≼-mul, ≼-more, ≼-nn, nn-add, nn-mul, nn-one}
 use Rattle.accuracy.specs.Ring.{sorted, spread, *-one, one-*, *-assoc, *-+, +-comm}
 
 -- x is from b to one over b

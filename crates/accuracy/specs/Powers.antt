@@ -4,7 +4,7 @@ use Prim.Native.Nat.{ℕ, zero, suc, _+_, _≤_}
 use native.Mathlib.Nat.{add-zero, add-suc}
 use native.Mathlib.Omega.{arith}
 use Rattle.fraction.specs.Fraction.{ℚ, oneℚ, Posℚ, pos-one, pos-mul}
-use Rattle.accuracy.specs.Ring.{_⋆_, NonNeg, _≼_, ≼-refl, ≼-mul, nn-mul, nn-frac, *-one, one-*, nn-one, *-assoc}
+use Rattle.accuracy.specs.Ring.{_⋆_, NonNeg, _≼_, ≼-refl, ≼-mul, nn-mul, *-one, one-*, nn-one, *-assoc}
 
 unfoldable pub power : ℚ → ℕ → ℚ
 power b zero = oneℚ
