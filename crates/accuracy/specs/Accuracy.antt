@@ -19,8 +19,9 @@ use Rattle.exactness.specs.Textbook.{textbook}
 use Rattle.accuracy.specs.Ring.{_⋆_, NonNeg, _≼_, nat, nn-mul, nn-pos}
 use Rattle.accuracy.specs.Rounds.{ε, smallest}
 use Rattle.accuracy.specs.Close.{Close}
+use Rattle.accuracy.specs.Powers.{θ}
 use Rattle.accuracy.specs.Factors.{BoxedStep, boxed-steps, EdgesBoxed, step-roundings}
-use Rattle.accuracy.specs.Sweeps.{before, after}
+use Rattle.accuracy.specs.ExactSweeps.{after, before}
 use Rattle.accuracy.specs.Sums.{term-≼}
 use Rattle.accuracy.specs.Pairs.{exactZ, roundings, Normal, accurate}
 use Rattle.accuracy.specs.Levels.{Settled}
@@ -29,7 +30,6 @@ use Rattle.accuracy.specs.Ahead.{ahead-clear, ahead-settled}
 use Rattle.accuracy.specs.Back.{back-clear, back-settled}
 use Rattle.accuracy.specs.Room as R
 use Rattle.accuracy.specs.Spread as S
-use Rattle.accuracy.specs.Powers.{θ}
 
 module _ (J : Job Float) (ok : Checked (λ x. T (positive x)) J) (β : ℚ) (β-pos : Posℚ β) (β-one : β ≼ oneℚ) (edges : EdgesBoxed β (J .edges))
     (p : ℕ) (few : (t : ℕ) → length ((stepOf J t) .others) ≤ p) where

@@ -25,7 +25,8 @@ use Rattle.bounds.specs.Sweeps.{forward-beneath}
 use Rattle.accuracy.specs.Ring.{NonNeg, _≼_, nn-pos}
 use Rattle.accuracy.specs.Powers.{θ, θ-nn, θ-one}
 use Rattle.accuracy.specs.Factors.{BoxedStep, step-roundings}
-use Rattle.accuracy.specs.Sweeps.{ahead, before, ahead-pos, before-near, ClearAhead}
+use Rattle.accuracy.specs.ExactSweeps.{ahead, before, ahead-pos}
+use Rattle.accuracy.specs.Sweeps.{before-near, ClearAhead}
 use Rattle.accuracy.specs.Levels.{ahead-level, Settled}
 use Rattle.accuracy.specs.Room.{Room}
 use Rattle.accuracy.specs.Course.{Course, Reached, reach}

@@ -27,7 +27,9 @@ use Rattle.bounds.specs.Sweeps.{backward-beneath}
 use Rattle.accuracy.specs.Ring.{NonNeg, _≼_, nn-pos}
 use Rattle.accuracy.specs.Powers.{θ, θ-nn, θ-one}
 use Rattle.accuracy.specs.Factors.{BoxedStep, step-roundings}
-use Rattle.accuracy.specs.Sweeps.{back, after, back-pos, after-near, backwardStep-finite, ClearBack}
+use Rattle.accuracy.specs.Finite.{backwardStep-finite}
+use Rattle.accuracy.specs.ExactSweeps.{after, back, back-pos}
+use Rattle.accuracy.specs.Sweeps.{after-near, ClearBack}
 use Rattle.accuracy.specs.Levels.{back-level, Settled}
 use Rattle.accuracy.specs.Room.{Room}
 use Rattle.accuracy.specs.Course.{Course, Reached, reach}

@@ -20,7 +20,7 @@ use Rattle.accuracy.specs.Ring.{_⋆_, NonNeg, _≼_, ≼-pos, nat, nn-m
 use Rattle.accuracy.specs.Close.{Close}
 use Rattle.accuracy.specs.Powers.{power, θ, θ-nn, θ-one, σ, power-pos}
 use Rattle.accuracy.specs.Steps.{Clear}
-use Rattle.accuracy.specs.Sweeps.{positively, positively-is}
+use Rattle.accuracy.specs.ExactSweeps.{positively, positively-is}
 use Rattle.accuracy.specs.Sizes.{nat-mono}
 use Rattle.accuracy.specs.Roundings.{gain-half}
 use Rattle.accuracy.specs.Largest.{Entry}
@@ -152,7 +152,7 @@ module _ (w : ℕ) (W : 1 ≤ w) (β : ℚ) (β-nn : NonNeg β) (β-one : β ≼
     reach zero l = record {
       scales = λ i b. absurd (omega arith);
       steps = λ i b. absurd (omega arith);
-      settled = record { after = 0; within = omega arith; level = start-level 0 };
+      settled = record { steps = 0; few = omega arith; level = start-level 0 };
       now = λ b. unscaled 0 (phase 0) start-L (start-level (phase 0));
     }
     reach (suc t) l = more (reach t (omega arith))
@@ -161,7 +161,7 @@ module _ (w : ℕ) (W : 1 ≤ w) (β : ℚ) (β-nn : NonNeg β) (β-one : β ≼
         more r =
             let b : t < limit = omega arith in
             let (q, lev) = r .now b in
-            let here = clear w β β-nn β-one p room (M t) (M-nn t) (apart t) (r .settled .after) (r .settled .within) (r .settled .level) (m t) (few t) (C t) (C-nn t q) (phase t) (phases t) lev in
+            let here = clear w β β-nn β-one p room (M t) (M-nn t) (apart t) (r .settled .steps) (r .settled .few) (r .settled .level) (m t) (few t) (C t) (C-nn t q) (phase t) (phases t) lev in
             let scales : (i : ℕ) → i < suc t → Posℚ (S i) = λ i j. up-to (λ i. Posℚ (S i)) t (r .scales) q i j in
             let steps : (i : ℕ) → i < suc t → Clear β (m i) w (C i) (M i) = λ i j. up-to (λ i. Clear β (m i) w (C i) (M i)) t (r .steps) here i j in
             let own = step t (phase t) lev in
@@ -169,7 +169,7 @@ module _ (w : ℕ) (W : 1 ≤ w) (β : ℚ) (β-nn : NonNeg β) (β-one : β ≼
             record {
               scales = scales;
               steps = steps;
-              settled = record { after = suc (phase t); within = o; level = own };
+              settled = record { steps = suc (phase t); few = o; level = own };
               now = λ d. go d (near (suc t) l scales steps) own o (next t);
             }
           where

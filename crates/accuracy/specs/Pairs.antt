@@ -35,8 +35,8 @@ use Rattle.accuracy.specs.Rounds.{ε, ε-nn, ε-one, smallest, smallest-
 use Rattle.accuracy.specs.Operations.{div-rounds}
 use Rattle.accuracy.specs.Close.{Close, close-mul, gain, gain-nn, gain-add}
 use Rattle.accuracy.specs.Factors.{BoxedStep}
-use Rattle.accuracy.specs.Sweeps.{ahead, exactForward, exactBackward, exact-sweeps, Near, ClearAhead, ClearBack, before-near, after-near}
-use Rattle.accuracy.specs.Sweeps.{propagated-near}
+use Rattle.accuracy.specs.ExactSweeps.{ahead, exactForward, exactBackward, exact-sweeps}
+use Rattle.accuracy.specs.Sweeps.{Near, ClearAhead, ClearBack, before-near, after-near, propagated-near}
 use Rattle.accuracy.specs.Sums.{sum-close, signed-close, sum-raised, sum-nn, signed-within}
 use Rattle.accuracy.specs.Sizes.{above-nat, smallest-one, under-within}
 use Rattle.accuracy.specs.Roundings.{gain-one}

@@ -158,9 +158,9 @@ module _ (w : ℕ) (β : ℚ) (β-nn : NonNeg β) (β-one : β ≼ oneℚ) (p : 
     pub heavy : (F B : ℕ → ℚ) → ((j : ℕ) → j < n → NonNeg (F j)) → ((j : ℕ) → j < n → NonNeg (B j)) → ((i j : ℕ) → i < n → j < n → power (σ β p) w ⋆ B i ≼ B j)
         → Settled n (θ β p) F → Settled n (θ β p) B → (Z : ℚ) → ((i : ℕ) → i < n → F i ⋆ B i ≼ Z) → nat n ⋆ smallest ≼ ε ⋆ Z
     heavy F B F-nn B-nn apart settled settled′ Z term =
-        let s = settled .after in
+        let s = settled .steps in
         let f = settled .level in
-        let r = settled′ .after in
+        let r = settled′ .steps in
         let b = settled′ .level in
         let i = f .index in
         let I = f .inside in
@@ -170,7 +170,7 @@ module _ (w : ℕ) (β : ℚ) (β-nn : NonNeg β) (β-one : β ≼ oneℚ) (p : 
         ≼-trans (≼-mul (nns s) (nn-mul _ _ (four-nn 4) (B-nn i I)) (f .least) x)
         (≼-trans (≼-of _ _ (ring (nat 4) (F i) (B i) ∙ ap (λ z. z ⋆ (F i ⋆ B i)) (sym (nat-mul 4 4)))) (≼-times (nat 16) (four-nn 16) (term i I))) in
         let z : lowest β p w ≼ power (θ β p) s ⋆ (power (σ β p) w ⋆ power (θ β p) r) =
-        ≼-trans (≼-mul (nns 8) ss (≼-trans (less 8 (s + r) (omega (arith, settled .within, settled′ .within))) (≼-of _ _ (power-add (θ β p) s r))) (≼-refl (power (σ β p) w))) (≼-of _ _ (ring₂ (power (θ β p) s) (power (θ β p) r) (power (σ β p) w))) in
+        ≼-trans (≼-mul (nns 8) ss (≼-trans (less 8 (s + r) (omega (arith, settled .few, settled′ .few))) (≼-of _ _ (power-add (θ β p) s r))) (≼-refl (power (σ β p) w))) (≼-of _ _ (ring₂ (power (θ β p) s) (power (θ β p) r) (power (σ β p) w))) in
         cancel (nat 16) _ _ (above-nat 16 (omega arith))
         (subst₂ _≼_ (ap (λ q. q ⋆ smallest) (nat-mul n 16) ∙ ring₃ (nat n) (nat 16) smallest) (ring₄ ε (nat 16) Z) (≼-trans room (≼-times ε ε-nn (≼-trans z y))))
       where
