@@ -59,31 +59,38 @@ module _ (J : Job Float) where
         rw (is-x j l, is-a j l, is-d j l)
         (close-mono (k + c) (let f = few t in omega arith) (close j l (subst (λ (y : Float). T (finite y)) (is-x j l) (fin j l))))
 
+    -- The step at t, rounded and exact.
+    abbrev roundedForward : ℕ → Float → List Float → List Float
+    roundedForward t sc v = forwardStep ieee (J .window) (stepOf J t) sc v
+
+    abbrev exactlyForward : ℕ → ℚ → List ℚ → List ℚ
+    exactlyForward t q g = forwardStep rational (J .window) (stepOf (atValues J) t) q g
+
+    abbrev roundedBackward : ℕ → Float → List Float → List Float
+    roundedBackward t sc v = backwardStep ieee (J .window) (stepOf J t) sc v
+
+    abbrev exactlyBackward : ℕ → ℚ → List ℚ → List ℚ
+    exactlyBackward t q g = backwardStep rational (J .window) (stepOf (atValues J) t) q g
+
     -- The steps at t, at a scale sc that stands for q.
     module _ (t k : ℕ) (sc : Float) (q : ℚ) (is : value sc ≡ q) (q-nn : NonNeg q) (v : List Float) (g m : List ℚ) (near : Near k v g m) (clear : Clearly t q m) where
-      forward-near : Finite (J .window) (forwardStep ieee (J .window) (stepOf J t) sc v)
-          → Near (k + c) (forwardStep ieee (J .window) (stepOf J t) sc v) (forwardStep rational (J .window) (stepOf (atValues J) t) q g)
-          (forwardStep rational (J .window) (stepOf (atValues J) t) q m)
+      forward-near : Finite (J .window) (roundedForward t sc v) → Near (k + c) (roundedForward t sc v) (exactlyForward t q g) (exactlyForward t q m)
       forward-near fin =
-          step-near t k _ _ _ _ _ _ (E.forward-at ieee (stepOf J t) sc (J .window) v) (λ j l. exactly g j l) (λ j l. exactly m j l) fin
+          step-near t k (roundedForward t sc v) (exactlyForward t q g) (exactlyForward t q m) _ _ _ (E.forward-at ieee (stepOf J t) sc (J .window) v) (entry g) (entry m) fin
           (forwardAt-close β β-nn β-one (J .window) W (stepOf J t) (box t) sc q is q-nn k (at ieee v) (at rational g) (at rational m) near clear)
         where
-          exactly : (h : List ℚ) (j : ℕ) → j < 2 ^ J .window
-              → at rational (forwardStep rational (J .window) (stepOf (atValues J) t) q h) j ≡ forwardAt rational (J .window) (stepAtValue (stepOf J t)) q (at rational h) j
-          exactly h j l = E.forward-at rational (stepOf (atValues J) t) q (J .window) h j l ∙ ap (λ s. forwardAt rational (J .window) s q (at rational h) j) (stepOf-values J t)
+          entry : (h : List ℚ) (j : ℕ) → j < 2 ^ J .window → at rational (exactlyForward t q h) j ≡ forwardAt rational (J .window) (stepAtValue (stepOf J t)) q (at rational h) j
+          entry h j l = E.forward-at rational (stepOf (atValues J) t) q (J .window) h j l ∙ ap (λ s. forwardAt rational (J .window) s q (at rational h) j) (stepOf-values J t)
 
-      backward-near : Finite (J .window) (backwardStep ieee (J .window) (stepOf J t) sc v)
-          → Near (k + c) (backwardStep ieee (J .window) (stepOf J t) sc v) (backwardStep rational (J .window) (stepOf (atValues J) t) q g)
-          (backwardStep rational (J .window) (stepOf (atValues J) t) q m)
+      backward-near : Finite (J .window) (roundedBackward t sc v) → Near (k + c) (roundedBackward t sc v) (exactlyBackward t q g) (exactlyBackward t q m)
       backward-near fin =
-          step-near t k _ _ _ _ _ _ (E.backward-at ieee (stepOf J t) sc (J .window) v) (λ j l. exactly g j l) (λ j l. exactly m j l) fin
+          step-near t k (roundedBackward t sc v) (exactlyBackward t q g) (exactlyBackward t q m) _ _ _ (E.backward-at ieee (stepOf J t) sc (J .window) v) (entry g) (entry m) fin
           (backwardAt-close β β-nn β-one (J .window) W (stepOf J t) (box t) sc q is q-nn k (at ieee v) (at rational g) (at rational m) near clear)
         where
-          exactly : (h : List ℚ) (j : ℕ) → j < 2 ^ J .window
-              → at rational (backwardStep rational (J .window) (stepOf (atValues J) t) q h) j ≡ backwardAt rational (J .window) (stepAtValue (stepOf J t)) q (at rational h) j
-          exactly h j l = E.backward-at rational (stepOf (atValues J) t) q (J .window) h j l ∙ ap (λ s. backwardAt rational (J .window) s q (at rational h) j) (stepOf-values J t)
+          entry : (h : List ℚ) (j : ℕ) → j < 2 ^ J .window → at rational (exactlyBackward t q h) j ≡ backwardAt rational (J .window) (stepAtValue (stepOf J t)) q (at rational h) j
+          entry h j l = E.backward-at rational (stepOf (atValues J) t) q (J .window) h j l ∙ ap (λ s. backwardAt rational (J .window) s q (at rational h) j) (stepOf-values J t)
 
-    -- the steps before J t leave the normal range nowhere
+    -- the steps before t leave the normal range nowhere
     pub record ClearAhead (t : ℕ) : Type 0 where
       pub scales : (i : ℕ) → i < t → Posℚ (value (scale ieee J i))
       pub steps : (i : ℕ) → i < t → Clearly i (ahead J i) (before J i)
