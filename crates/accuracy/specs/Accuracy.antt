@@ -1,6 +1,6 @@
 -- The theorem with a condition on the job alone: no factor so far from one that a window of them could leave the normal range.
-use mathlib.Core.Path.{_≡_}
-use Prim.Native.Nat.{ℕ, suc, _+_, _*_, _-_, _^_, _≤_, max}
+use mathlib.Core.Path.{_≡_, subst}
+use Prim.Native.Nat.{ℕ, suc, _+_, _*_, _-_, _^_, _≤_, max, min}
 use native.Mathlib.Nat.{mul-le-mul-right}
 use native.Mathlib.Omega.{arith}
 use lib.Dec.{T}
@@ -12,24 +12,46 @@ use Rattle.fraction.specs.Fraction.{ℚ, oneℚ, Posℚ}
 use Rattle.transfer.specs.Checked.{Checked}
 use Rattle.transfer.specs.Job.{Job, stepOf}
 use Rattle.transfer.specs.Rounded.{ieee}
-use Rattle.transfer.specs.Sweep.{at, Z, answer}
-use Rattle.exactness.specs.AnyScales.{ZOf}
-use Rattle.exactness.specs.Exact.{rational, atValues}
+use Rattle.transfer.specs.Sweep.{at, Z, answer, N}
+use Rattle.exactness.specs.AnyScales.{ZOf, answerOf}
+use Rattle.exactness.specs.Exact.{rational, atValues, rational-laws, checked-values}
 use Rattle.exactness.specs.Textbook.{textbook}
+use Rattle.exactness.specs.Exactness.{exactly-scaled}
+use Rattle.bounds.specs.Bounds.{numerator-under}
 use Rattle.accuracy.specs.Ring.{_⋆_, NonNeg, _≼_, nat, nn-mul, nn-pos}
 use Rattle.accuracy.specs.Rounds.{ε, smallest}
 use Rattle.accuracy.specs.Close.{Close}
 use Rattle.accuracy.specs.Powers.{θ}
 use Rattle.accuracy.specs.Factors.{BoxedStep, boxed-steps, EdgesBoxed, step-roundings}
-use Rattle.accuracy.specs.ExactSweeps.{after, before}
+use Rattle.accuracy.specs.ExactSweeps.{after, before, exact-sweeps}
 use Rattle.accuracy.specs.Sums.{term-≼}
-use Rattle.accuracy.specs.Pairs.{exactZ, roundings, Normal, accurate}
+use Rattle.accuracy.specs.Ratio.{ratio-close}
+use Rattle.accuracy.specs.Normal.{exactZ, exactN, roundings, Normal}
+use Rattle.accuracy.specs.Pairs.{Z-pos, Z-close, N-close}
+use Rattle.accuracy.specs.Spread as S
 use Rattle.accuracy.specs.Levels.{Settled}
 use Rattle.accuracy.specs.Room.{Room}
+use Rattle.accuracy.specs.Room as R
 use Rattle.accuracy.specs.Ahead.{ahead-clear, ahead-settled}
 use Rattle.accuracy.specs.Back.{back-clear, back-settled}
-use Rattle.accuracy.specs.Room as R
-use Rattle.accuracy.specs.Spread as S
+
+-- Where the sweeps stay in the normal range, an answer is close to the textbook's correlation.
+accurate : (J : Job Float) (ok : Checked (λ x. T (positive x)) J) (β : ℚ) (c u v : ℕ) → (u ≡ v → ⊥) → u ≤ J .last → v ≤ J .last
+    → T (positive (Z ieee J (max u v))) → Normal J ok β c (max u v)
+    → Close (2 * roundings J c + 1) (answer ieee J u v) (textbook rational (atValues J) u v) oneℚ
+unfolding answer answerOf
+accurate J ok β c u v differ inU inV sound h =
+    let exact = exactly-scaled rational rational-laws (atValues J) (checked-values J ok) (exact-sweeps J) u v differ inU inV in
+    subst (λ t. Close (2 * roundings J c + 1) (answer ieee J u v) t oneℚ) exact
+    (ratio-close (roundings J c) (N ieee J (min u v) (max u v)) (Z ieee J (max u v)) (exactN J (min u v) (max u v)) (exactZ J (max u v)) sound
+    (numerator-under J ok (min u v) (max u v) (min-le-max u v)) (Z-pos J ok β c (max u v) (max-le inU inV) sound h)
+    (N-close J ok β c (max u v) (max-le inU inV) sound h (min u v) (min-le-max u v)) (Z-close J ok β c (max u v) (max-le inU inV) sound h))
+  where
+    max-le : {a b c : ℕ} → a ≤ c → b ≤ c → max a b ≤ c
+    max-le h k = omega arith
+
+    min-le-max : (a b : ℕ) → min a b ≤ max a b
+    min-le-max a b = omega arith
 
 module _ (J : Job Float) (ok : Checked (λ x. T (positive x)) J) (β : ℚ) (β-pos : Posℚ β) (β-one : β ≼ oneℚ) (edges : EdgesBoxed β (J .edges))
     (p : ℕ) (few : (t : ℕ) → length ((stepOf J t) .others) ≤ p) where

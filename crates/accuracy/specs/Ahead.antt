@@ -27,11 +27,11 @@ use Rattle.accuracy.specs.Powers.{θ, θ-nn, θ-one}
 use Rattle.accuracy.specs.Factors.{BoxedStep, step-roundings}
 use Rattle.accuracy.specs.ExactSweeps.{ahead, before, ahead-pos}
 use Rattle.accuracy.specs.Sweeps.{before-near, ClearAhead}
+use Rattle.accuracy.specs.Spread as S
 use Rattle.accuracy.specs.Levels.{ahead-level, Settled}
 use Rattle.accuracy.specs.Room.{Room}
 use Rattle.accuracy.specs.Course.{Course, Reached, reach}
 use Rattle.accuracy.specs.Phases.{phase, phase-most, phase-next}
-use Rattle.accuracy.specs.Spread as S
 
 module _ (J : Job Float) (ok : Checked (λ x. T (positive x)) J) (β : ℚ) (β-nn : NonNeg β) (β-one : β ≼ oneℚ) (box : (t : ℕ) → BoxedStep β (stepOf J t))
     (p : ℕ) (few : (t : ℕ) → length ((stepOf J t) .others) ≤ p) (v : ℕ) (Z-fin : T (finite (Z ieee J v))) where

@@ -3,13 +3,13 @@ use mathlib.Core.Path.{_≡_, refl, sym, _∙_, subst}
 use Prim.Native.Nat.{ℕ, zero, suc, _+_, _-_, _%_, _^_, _≤_, _<_, _*_}
 use native.Mathlib.Nat.{zero-mod}
 use native.Mathlib.Omega.{arith}
+use borrow.Author.Tests.{lt-ltb}
 use lib.Dec.{T}
 use lib.Pow.{pow-pos}
 use lib.ListN.{length}
 use lib.Ieee.{Float, binary64, mul, div}
 use lib.Ieee.Positive.{positive}
 use lib.Ieee.Scale.{finite}
-use borrow.Author.Tests.{lt-ltb}
 use Rattle.rounding.specs.Sign.{notMinus, mul-finite, add-finite}
 use Rattle.rounding.specs.Under.{unit}
 use Rattle.fraction.specs.Fraction.{ℚ, oneℚ, Posℚ}
@@ -30,11 +30,11 @@ use Rattle.accuracy.specs.Factors.{BoxedStep, step-roundings}
 use Rattle.accuracy.specs.Finite.{backwardStep-finite}
 use Rattle.accuracy.specs.ExactSweeps.{after, back, back-pos}
 use Rattle.accuracy.specs.Sweeps.{after-near, ClearBack}
+use Rattle.accuracy.specs.Spread as S
 use Rattle.accuracy.specs.Levels.{back-level, Settled}
 use Rattle.accuracy.specs.Room.{Room}
 use Rattle.accuracy.specs.Course.{Course, Reached, reach}
 use Rattle.accuracy.specs.Phases.{phase, phase-most, phase-next}
-use Rattle.accuracy.specs.Spread as S
 
 module _ (J : Job Float) (ok : Checked (λ x. T (positive x)) J) (β : ℚ) (β-nn : NonNeg β) (β-one : β ≼ oneℚ) (box : (t : ℕ) → BoxedStep β (stepOf J t))
     (p : ℕ) (few : (t : ℕ) → length ((stepOf J t) .others) ≤ p) (v : ℕ) (Z-fin : T (finite (Z ieee J v))) where

@@ -5,6 +5,7 @@ use mathlib.Core.List.{List}
 use Prim.Native.Nat.{ℕ, zero, suc, _*_, _^_, _≤_, _<_}
 use native.Mathlib.Omega.{arith}
 use native.Mathlib.Decide.{ℕ-discrete}
+use native.Mathlib.Nat.{le-trans, mul-le-mul-right}
 use lib.Dec.{T}
 use lib.Pow.{pow-pos}
 use lib.ListN.{length}
@@ -27,7 +28,6 @@ use Rattle.accuracy.specs.Largest.{Entry}
 use Rattle.accuracy.specs.Rescaled.{Rescaled, rescaled}
 use Rattle.accuracy.specs.Levels.{Level, fresh, Settled}
 use Rattle.accuracy.specs.Room.{Room, not-large, clear}
-use native.Mathlib.Nat.{le-trans, mul-le-mul-right}
 
 fourth : ℚ
 fourth = frac 1 0 3

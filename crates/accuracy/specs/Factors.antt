@@ -1,9 +1,10 @@
 -- Factors from β to one over β: of an edge, of what a step reads, of a job.
 use mathlib.Core.Bool.{Bool, true, false, cond, _&&_}
 use mathlib.Core.List.{List, [], _∷_}
-use lib.ListN.{length}
 use mathlib.Core.Option.{Option, none, some}
 use Prim.Native.Nat.{ℕ, zero, suc, _+_, _-_, _≤_}
+use native.Mathlib.Omega.{arith}
+use lib.ListN.{length}
 use lib.Dec.{T, eqb}
 use lib.Ieee.{Float}
 use lib.Ieee.Positive.{positive}
@@ -12,7 +13,6 @@ use Rattle.fraction.specs.Value.{value}
 use Rattle.transfer.specs.Checked.{All}
 use Rattle.transfer.specs.Job.{Edge, Job, Back, Step, backEdge, backEdges, prepend, stepOf}
 use Rattle.accuracy.specs.Ring.{_≼_}
-use native.Mathlib.Omega.{arith}
 
 -- The factor x is from β to one over β.
 pub record Boxed (β : ℚ) (x : Float) : Type 0 where

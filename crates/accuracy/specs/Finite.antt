@@ -4,10 +4,10 @@ use mathlib.Core.List.{List}
 use Prim.Native.Nat.{ℕ, zero, suc, _+_, _*_, _-_, _/_, _%_, _^_, _≤_, _<_}
 use native.Mathlib.Nat.{mod-eq-of-lt}
 use native.Mathlib.Omega.{arith}
+use borrow.Author.Tests.{lt-ltb}
 use lib.Dec.{T}
 use lib.Ieee.{Float, binary64, add, mul}
 use lib.Ieee.Scale.{finite}
-use borrow.Author.Tests.{lt-ltb}
 use Rattle.rounding.specs.Sign.{add-finite, mul-finite}
 use Rattle.vector.specs.Power.{pow-double}
 use Rattle.transfer.specs.Job.{Step}

@@ -5,9 +5,9 @@ use mathlib.Core.Bool.{Bool, true, false, cond}
 use mathlib.Core.List.{List}
 use Prim.Native.Nat.{ℕ, suc, _%_, _≤_}
 use native.Mathlib.Omega.{arith}
+use borrow.Author.Tests.{eqb-false}
 use lib.Dec.{eqb}
 use lib.Ieee.{Float}
-use borrow.Author.Tests.{eqb-false}
 use Rattle.rounding.specs.Under.{unit, nought}
 use Rattle.transfer.specs.Job.{Manner, block, perElement}
 use Rattle.transfer.specs.Rounded.{ieee}

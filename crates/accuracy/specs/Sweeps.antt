@@ -9,18 +9,19 @@ use lib.Dec.{T}
 use lib.ListN.{length}
 use lib.Ieee.{Float, binary64, div, neg}
 use lib.Ieee.Scale.{finite}
+use lib.Ieee.Positive.{positive}
 use Rattle.rounding.specs.Under.{unit}
 use Rattle.fraction.specs.Fraction.{ℚ, oneℚ, Posℚ}
 use Rattle.fraction.specs.Value.{value}
 use Rattle.vector.specs.Bits.{bit}
 use Rattle.transfer.specs.Job.{Job, stepOf}
 use Rattle.transfer.specs.Rounded.{ieee}
-use Rattle.transfer.specs.Sweep.{at, start, alternate, forwardAt, forwardStep, backwardAt, backwardStep, beforeStep, afterSteps, forward, scale, propagated}
+use Rattle.transfer.specs.Sweep.{at, start, alternate, forwardAt, forwardStep, backwardAt, backwardStep, beforeStep, afterSteps, forward, scale}
+use Rattle.transfer.specs.Sweep.{propagated}
+use Rattle.transfer.specs.Checked.{Checked}
 use Rattle.exactness.specs.AnyScales.{propagatedOf}
 use Rattle.exactness.specs.Entries as E
 use Rattle.exactness.specs.Exact.{rational, atValues}
-use lib.Ieee.Positive.{positive}
-use Rattle.transfer.specs.Checked.{Checked}
 use Rattle.bounds.specs.Steps.{Finite, forwardStep-finite}
 use Rattle.bounds.specs.Bounds.{propagated-under, forward-finite-before}
 use Rattle.accuracy.specs.Ring.{‐_, NonNeg, _≼_, nn-frac, nn-pos}
