@@ -22,7 +22,7 @@ use Rattle.accuracy.specs.Ring.{_⋆_, NonNeg, _≼_, nat, nn-mul, nn-po
 use Rattle.accuracy.specs.Rounds.{ε, smallest}
 use Rattle.accuracy.specs.Close.{Close}
 use Rattle.accuracy.specs.Powers.{θ}
-use Rattle.accuracy.specs.Factors.{BoxedStep, boxed-steps, EdgesBoxed, step-roundings}
+use Rattle.accuracy.specs.Factors.{ModerateStep, moderate-steps, EdgesModerate, step-roundings}
 use Rattle.accuracy.specs.ExactSweeps.{after, before, exact-sweeps}
 use Rattle.accuracy.specs.Sums.{term-≼}
 use Rattle.accuracy.specs.Ratio.{ratio-close}
@@ -53,7 +53,7 @@ accurate J ok β c u v differ inU inV sound h =
     min-le-max : (a b : ℕ) → min a b ≤ max a b
     min-le-max a b = omega arith
 
-module _ (J : Job Float) (ok : Checked (λ x. T (positive x)) J) (β : ℚ) (β-pos : Posℚ β) (β-one : β ≼ oneℚ) (edges : EdgesBoxed β (J .edges))
+module _ (J : Job Float) (ok : Checked (λ x. T (positive x)) J) (β : ℚ) (β-pos : Posℚ β) (β-one : β ≼ oneℚ) (edges : EdgesModerate β (J .edges))
     (p : ℕ) (few : (t : ℕ) → length ((stepOf J t) .others) ≤ p) where
   abbrev pub W : 1 ≤ J .window
   W = ok .window
@@ -67,8 +67,8 @@ module _ (J : Job Float) (ok : Checked (λ x. T (positive x)) J) (β : ℚ) (β-
   abbrev pub β-nn : NonNeg β
   β-nn = nn-pos β β-pos
 
-  box : (t : ℕ) → BoxedStep β (stepOf J t)
-  box = boxed-steps β J edges
+  moderate : (t : ℕ) → ModerateStep β (stepOf J t)
+  moderate = moderate-steps β J edges
 
   abbrev pub c : ℕ
   c = p + 5
@@ -84,30 +84,30 @@ module _ (J : Job Float) (ok : Checked (λ x. T (positive x)) J) (β : ℚ) (β-
         far a b n k h l = omega arith
 
     aheads : Settled n (θ β p) (at rational (before J (suc v)))
-    aheads = ahead-settled J ok β β-nn β-one box p few v Z-fin room β-pos (few-roundings (suc v) (omega arith))
+    aheads = ahead-settled J ok β β-nn β-one moderate p few v Z-fin room β-pos (few-roundings (suc v) (omega arith))
 
     backs : Settled n (θ β p) (at rational (after J (J .last - v)))
-    backs = back-settled J ok β β-nn β-one box p few v Z-fin room β-pos (few-roundings (J .last - v) (omega arith))
+    backs = back-settled J ok β β-nn β-one moderate p few v Z-fin room β-pos (few-roundings (J .last - v) (omega arith))
 
     -- Where both sweeps meet.
-    heavy : nat n ⋆ smallest ≼ ε ⋆ exactZ J v
+    outweighs : nat n ⋆ smallest ≼ ε ⋆ exactZ J v
     unfolding ZOf
-    heavy =
-        let F-nn = S.before-nn J W β β-nn β-one box p few (suc v) in
-        let B-nn = S.after-nn J W β β-nn β-one box p few (J .last - v) in
-        R.heavy w β β-nn β-one p room (at rational (before J (suc v))) (at rational (after J (J .last - v))) F-nn B-nn
-        (S.after-spread J W β β-nn β-one box p few (J .last - v)) aheads backs (exactZ J v)
+    outweighs =
+        let F-nn = S.before-nn J W β β-nn β-one moderate p few (suc v) in
+        let B-nn = S.after-nn J W β β-nn β-one moderate p few (J .last - v) in
+        R.outweighs w β β-nn β-one p room (at rational (before J (suc v))) (at rational (after J (J .last - v))) F-nn B-nn
+        (S.after-spread J W β β-nn β-one moderate p few (J .last - v)) aheads backs (exactZ J v)
         (term-≼ n (λ j. at rational (before J (suc v)) j ⋆ at rational (after J (J .last - v)) j) (λ j l. nn-mul _ _ (F-nn j l) (B-nn j l)))
 
     normal : Normal J ok β c v
     normal = record {
       β-nn = β-nn;
       β-one = β-one;
-      box = box;
+      moderate = moderate;
       few = step-roundings J p few;
-      clear-ahead = ahead-clear J ok β β-nn β-one box p few v Z-fin room β-pos (few-roundings (suc v) (omega arith));
-      clear-back = back-clear J ok β β-nn β-one box p few v Z-fin room β-pos (few-roundings (J .last - v) (omega arith));
-      heavy = heavy;
+      clear-ahead = ahead-clear J ok β β-nn β-one moderate p few v Z-fin room β-pos (few-roundings (suc v) (omega arith));
+      clear-back = back-clear J ok β β-nn β-one moderate p few v Z-fin room β-pos (few-roundings (J .last - v) (omega arith));
+      outweighs = outweighs;
     }
 
   -- The theorem: every answered correlation is the textbook's but for what 2 K + 1 roundings can do, K being those on the way to Z or N.

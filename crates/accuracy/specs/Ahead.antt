@@ -24,7 +24,7 @@ use Rattle.bounds.specs.Steps.{Finite, forwardStep-finite, start-beneath}
 use Rattle.bounds.specs.Sweeps.{forward-beneath}
 use Rattle.accuracy.specs.Ring.{NonNeg, _≼_, nn-pos}
 use Rattle.accuracy.specs.Powers.{θ, θ-nn, θ-one}
-use Rattle.accuracy.specs.Factors.{BoxedStep, step-roundings}
+use Rattle.accuracy.specs.Factors.{ModerateStep, step-roundings}
 use Rattle.accuracy.specs.ExactSweeps.{ahead, before, ahead-pos}
 use Rattle.accuracy.specs.Sweeps.{before-near, ClearAhead}
 use Rattle.accuracy.specs.Spread as S
@@ -33,7 +33,7 @@ use Rattle.accuracy.specs.Room.{Room}
 use Rattle.accuracy.specs.Course.{Course, Reached, reach}
 use Rattle.accuracy.specs.Phases.{phase, phase-most, phase-next}
 
-module _ (J : Job Float) (ok : Checked (λ x. T (positive x)) J) (β : ℚ) (β-nn : NonNeg β) (β-one : β ≼ oneℚ) (box : (t : ℕ) → BoxedStep β (stepOf J t))
+module _ (J : Job Float) (ok : Checked (λ x. T (positive x)) J) (β : ℚ) (β-nn : NonNeg β) (β-one : β ≼ oneℚ) (moderate : (t : ℕ) → ModerateStep β (stepOf J t))
     (p : ℕ) (few : (t : ℕ) → length ((stepOf J t) .others) ≤ p) (v : ℕ) (Z-fin : T (finite (Z ieee J v))) where
   abbrev w : ℕ
   w = J .window
@@ -91,18 +91,18 @@ module _ (J : Job Float) (ok : Checked (λ x. T (positive x)) J) (β : ℚ) (β-
     L = λ i. (beforeStep ieee J i) .1;
     M = λ i j. at rational (before J i) j;
     phase = λ t. phase (J .manner) (t % 4);
-    M-nn = S.before-nn J W β β-nn β-one box p few;
-    apart = S.before-spread J W β β-nn β-one box p few;
+    M-nn = S.before-nn J W β β-nn β-one moderate p few;
+    apart = S.before-spread J W β β-nn β-one moderate p few;
     phases = λ t. phase-most (J .manner) (t % 4) (omega arith);
     start-M = λ j l. E.start-at rational w j l;
     start-L = refl;
     step = λ t s level. ahead-level w W (θ β p) (θ-nn β β-nn β-one p) (θ-one β β-nn β-one p) (ahead J t) (nn-pos _ (ahead-pos J t)) (at rational (before J t)) (at rational (before J (suc t)))
-        (S.before-nn J W β β-nn β-one box p few t) s level (S.before-mix J W β β-nn β-one box p few t);
+        (S.before-nn J W β β-nn β-one moderate p few t) s level (S.before-mix J W β β-nn β-one moderate p few t);
     next = λ t. phase-next (J .manner) 3 t (t % 4) (suc t % 4) _ (λ h. omega (arith, h));
     lengths = lengths-ahead;
     good = λ t l j b. record { isFinite = ahead-finite t l j b; sign = ahead-signs t j b };
     fine = ahead-fine;
-    near = λ t l scales steps. before-near J β β-nn β-one W box (p + 5) (step-roundings J p few) t (record { scales = scales; steps = steps }) (ahead-finite t l);
+    near = λ t l scales steps. before-near J β β-nn β-one W moderate (p + 5) (step-roundings J p few) t (record { scales = scales; steps = steps }) (ahead-finite t l);
   }
 
   module _ (room : Room β p w) (β-pos : Posℚ β) (short : (suc v) * (p + 5) ≤ 2 ^ 26) where
@@ -110,7 +110,7 @@ module _ (J : Job Float) (ok : Checked (λ x. T (positive x)) J) (β : ℚ) (β-
     reached = reach w W β β-nn β-one p room β-pos (p + 5) (suc v) short course-ahead (suc v) (omega arith)
 
     -- No step leaves the normal range,
-    pub ahead-clear : ClearAhead J β β-nn β-one W box (p + 5) (step-roundings J p few) (suc v)
+    pub ahead-clear : ClearAhead J β β-nn β-one W moderate (p + 5) (step-roundings J p few) (suc v)
     unfolding course-ahead ahead scale
     ahead-clear = record { scales = reached .scales; steps = reached .steps }
 

@@ -26,7 +26,7 @@ use Rattle.bounds.specs.Steps.{Finite}
 use Rattle.bounds.specs.Sweeps.{backward-beneath}
 use Rattle.accuracy.specs.Ring.{NonNeg, _≼_, nn-pos}
 use Rattle.accuracy.specs.Powers.{θ, θ-nn, θ-one}
-use Rattle.accuracy.specs.Factors.{BoxedStep, step-roundings}
+use Rattle.accuracy.specs.Factors.{ModerateStep, step-roundings}
 use Rattle.accuracy.specs.Finite.{backwardStep-finite}
 use Rattle.accuracy.specs.ExactSweeps.{after, back, back-pos}
 use Rattle.accuracy.specs.Sweeps.{after-near, ClearBack}
@@ -36,7 +36,7 @@ use Rattle.accuracy.specs.Room.{Room}
 use Rattle.accuracy.specs.Course.{Course, Reached, reach}
 use Rattle.accuracy.specs.Phases.{phase, phase-most, phase-next}
 
-module _ (J : Job Float) (ok : Checked (λ x. T (positive x)) J) (β : ℚ) (β-nn : NonNeg β) (β-one : β ≼ oneℚ) (box : (t : ℕ) → BoxedStep β (stepOf J t))
+module _ (J : Job Float) (ok : Checked (λ x. T (positive x)) J) (β : ℚ) (β-nn : NonNeg β) (β-one : β ≼ oneℚ) (moderate : (t : ℕ) → ModerateStep β (stepOf J t))
     (p : ℕ) (few : (t : ℕ) → length ((stepOf J t) .others) ≤ p) (v : ℕ) (Z-fin : T (finite (Z ieee J v))) where
   abbrev w : ℕ
   w = J .window
@@ -102,18 +102,18 @@ module _ (J : Job Float) (ok : Checked (λ x. T (positive x)) J) (β : ℚ) (β-
     L = λ i. (afterSteps ieee J i) .1;
     M = λ i j. at rational (after J i) j;
     phase = λ i. phase (J .manner) (3 - (J .last - i) % 4);
-    M-nn = S.after-nn J W β β-nn β-one box p few;
-    apart = S.after-spread J W β β-nn β-one box p few;
+    M-nn = S.after-nn J W β β-nn β-one moderate p few;
+    apart = S.after-spread J W β β-nn β-one moderate p few;
     phases = λ i. phase-most (J .manner) (3 - (J .last - i) % 4) (omega arith);
     start-M = λ j l. E.start-at rational w j l;
     start-L = refl;
     step = λ t s level. back-level w W (θ β p) (θ-nn β β-nn β-one p) (θ-one β β-nn β-one p) (back J t) (nn-pos _ (back-pos J t)) (at rational (after J t)) (at rational (after J (suc t)))
-        (S.after-nn J W β β-nn β-one box p few t) s level (S.after-mix J W β β-nn β-one box p few t);
+        (S.after-nn J W β β-nn β-one moderate p few t) s level (S.after-mix J W β β-nn β-one moderate p few t);
     next = λ i. phase-next (J .manner) 0 (J .last - i) _ _ _ (turn (J .last - i) (J .last - suc i) (omega arith));
     lengths = lengths-back;
     good = λ t l j b. record { isFinite = back-finite t l j b; sign = back-signs t j l };
     fine = back-fine;
-    near = λ t l scales steps. after-near J β β-nn β-one W box (p + 5) (step-roundings J p few) t (record { scales = scales; steps = steps }) (back-finite t l);
+    near = λ t l scales steps. after-near J β β-nn β-one W moderate (p + 5) (step-roundings J p few) t (record { scales = scales; steps = steps }) (back-finite t l);
   }
 
   module _ (room : Room β p w) (β-pos : Posℚ β) (short : (J .last - v) * (p + 5) ≤ 2 ^ 26) where
@@ -121,7 +121,7 @@ module _ (J : Job Float) (ok : Checked (λ x. T (positive x)) J) (β : ℚ) (β-
     reached = reach w W β β-nn β-one p room β-pos (p + 5) (J .last - v) short course-back (J .last - v) (omega arith)
 
     -- No step leaves the normal range,
-    pub back-clear : ClearBack J β β-nn β-one W box (p + 5) (step-roundings J p few) (J .last - v)
+    pub back-clear : ClearBack J β β-nn β-one W moderate (p + 5) (step-roundings J p few) (J .last - v)
     unfolding course-back back
     back-clear = record { scales = reached .scales; steps = reached .steps }
 

@@ -11,7 +11,7 @@ use Rattle.exactness.specs.AnyScales.{ZOf, NOf}
 use Rattle.exactness.specs.Exact.{rational, atValues}
 use Rattle.accuracy.specs.Ring.{_⋆_, NonNeg, _≼_, nat}
 use Rattle.accuracy.specs.Rounds.{ε, smallest}
-use Rattle.accuracy.specs.Factors.{BoxedStep}
+use Rattle.accuracy.specs.Factors.{ModerateStep}
 use Rattle.accuracy.specs.ExactSweeps.{ahead, exactForward, exactBackward}
 use Rattle.accuracy.specs.Sweeps.{ClearAhead, ClearBack}
 
@@ -29,8 +29,8 @@ roundings J c = suc (suc (suc (J .last) * c) + 2 ^ J .window)
 pub record Normal (J : Job Float) (ok : Checked (λ x. T (positive x)) J) (β : ℚ) (c v : ℕ) : Type 0 where
   pub β-nn : NonNeg β
   pub β-one : β ≼ oneℚ
-  pub box : (t : ℕ) → BoxedStep β (stepOf J t)
+  pub moderate : (t : ℕ) → ModerateStep β (stepOf J t)
   pub few : (t : ℕ) → length ((stepOf J t) .others) + 5 ≤ c
-  pub clear-ahead : ClearAhead J β β-nn β-one (ok .window) box c few (suc v)
-  pub clear-back : ClearBack J β β-nn β-one (ok .window) box c few (J .last - v)
-  pub heavy : nat (2 ^ J .window) ⋆ smallest ≼ ε ⋆ exactZ J v
+  pub clear-ahead : ClearAhead J β β-nn β-one (ok .window) moderate c few (suc v)
+  pub clear-back : ClearBack J β β-nn β-one (ok .window) moderate c few (J .last - v)
+  pub outweighs : nat (2 ^ J .window) ⋆ smallest ≼ ε ⋆ exactZ J v

@@ -57,11 +57,11 @@ module _ (J : Job Float) (ok : Checked (λ x. T (positive x)) J) (β : ℚ) (c v
 
   ahead-near : Near J (suc v * c) (forward ieee J v) (exactForward J v) (exactForward J v)
   unfolding forward
-  ahead-near = before-near J β (normal .β-nn) (normal .β-one) (ok .window) (normal .box) c (normal .few) (suc v) (normal .clear-ahead) (forward-finite J ok v v (omega arith) Z-fin)
+  ahead-near = before-near J β (normal .β-nn) (normal .β-one) (ok .window) (normal .moderate) c (normal .few) (suc v) (normal .clear-ahead) (forward-finite J ok v v (omega arith) Z-fin)
 
   back-near : Near J ((J .last - v) * c) (backward ieee J v) (exactBackward J v) (exactBackward J v)
   unfolding backward
-  back-near = after-near J β (normal .β-nn) (normal .β-one) (ok .window) (normal .box) c (normal .few) (J .last - v) (normal .clear-back) (backward-finite J ok v Z-fin)
+  back-near = after-near J β (normal .β-nn) (normal .β-one) (ok .window) (normal .moderate) c (normal .few) (J .last - v) (normal .clear-back) (backward-finite J ok v Z-fin)
 
   F-nn : (j : ℕ) → j < n → NonNeg (F j)
   F-nn j l = within-nn (ahead-near j l .size)
@@ -117,7 +117,7 @@ module _ (J : Job Float) (ok : Checked (λ x. T (positive x)) J) (β : ℚ) (c v
     unfolding g
     far-near =
         subst (λ (m : ℕ). Near J (suc m * c) (propagated ieee J u (v - u)) (propagatedOf rational (atValues J) (exactForward J) (ahead J) (exactBackward J) u (v - u)) (exactForward J m)) e
-        (propagated-near J β (normal .β-nn) (normal .β-one) (ok .window) (normal .box) c (normal .few) ok u (v - u) (rw e (normal .clear-ahead)) (rw e (forward-finite J ok v v (omega arith) Z-fin)))
+        (propagated-near J β (normal .β-nn) (normal .β-one) (ok .window) (normal .moderate) c (normal .few) ok u (v - u) (rw e (normal .clear-ahead)) (rw e (forward-finite J ok v v (omega arith) Z-fin)))
 
     far-finite : (j : ℕ) → j < n → T (finite (mul binary64 (at ieee (propagated ieee J u (v - u)) j) (at ieee (backward ieee J v) j)))
     far-finite j l =
@@ -168,7 +168,7 @@ module _ (J : Job Float) (ok : Checked (λ x. T (positive x)) J) (β : ℚ) (c v
       let Z = exactZ J v in
       let q = gain (k + n) in
       let mass-is : sum rational n mass ≡ Z ⊹ nat n ⋆ smallest = sum-raised n (λ j. F j ⋆ B j) smallest in
-      let more : sum rational n mass ≼ Z ⊹ ε ⋆ Z = subst (λ z. z ≼ Z ⊹ ε ⋆ Z) (sym mass-is) (≼-add (≼-refl Z) (normal .heavy)) in
+      let more : sum rational n mass ≼ Z ⊹ ε ⋆ Z = subst (λ z. z ≼ Z ⊹ ε ⋆ Z) (sym mass-is) (≼-add (≼-refl Z) (normal .outweighs)) in
       record {
         error = close .error;
         is = close .is;
@@ -188,5 +188,5 @@ module _ (J : Job Float) (ok : Checked (λ x. T (positive x)) J) (β : ℚ) (c v
 
   pub Z-pos : Posℚ (exactZ J v)
   Z-pos =
-      let p : Posℚ (ε ⋆ exactZ J v) = ≼-pos (pos-mul _ _ (above-nat n (pow-pos (J .window))) smallest-pos) (normal .heavy) in
+      let p : Posℚ (ε ⋆ exactZ J v) = ≼-pos (pos-mul _ _ (above-nat n (pow-pos (J .window))) smallest-pos) (normal .outweighs) in
       subst Posℚ (sym (*-assoc (nat (2 ^ 53)) ε (exactZ J v)) ∙ ap (λ z. z ⋆ exactZ J v) ε-one ∙ one-* (exactZ J v)) (pos-mul _ _ (above-nat (2 ^ 53) (pow-pos 53)) p)

@@ -154,10 +154,10 @@ module _ (w : ℕ) (β : ℚ) (β-nn : NonNeg β) (β-one : β ≼ oneℚ) (p : 
                 ring : (b q k c m : ℚ) → (b ⋆ q) ⋆ (k ⋆ (c ⋆ m)) ≡ k ⋆ ((q ⋆ c) ⋆ (b ⋆ m))
                 ring b q k c m = simp sorted
 
-    -- the sum of products of two vectors at such levels is heavy enough for what underflows in its terms
-    pub heavy : (F B : ℕ → ℚ) → ((j : ℕ) → j < n → NonNeg (F j)) → ((j : ℕ) → j < n → NonNeg (B j)) → ((i j : ℕ) → i < n → j < n → power (σ β p) w ⋆ B i ≼ B j)
+    -- the sum of products of two vectors at such levels is outweighs enough for what underflows in its terms
+    pub outweighs : (F B : ℕ → ℚ) → ((j : ℕ) → j < n → NonNeg (F j)) → ((j : ℕ) → j < n → NonNeg (B j)) → ((i j : ℕ) → i < n → j < n → power (σ β p) w ⋆ B i ≼ B j)
         → Settled n (θ β p) F → Settled n (θ β p) B → (Z : ℚ) → ((i : ℕ) → i < n → F i ⋆ B i ≼ Z) → nat n ⋆ smallest ≼ ε ⋆ Z
-    heavy F B F-nn B-nn apart settled settled′ Z term =
+    outweighs F B F-nn B-nn apart settled settled′ Z term =
         let s = settled .steps in
         let f = settled .level in
         let r = settled′ .steps in

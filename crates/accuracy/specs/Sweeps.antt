@@ -28,7 +28,7 @@ use Rattle.accuracy.specs.Ring.{‐_, NonNeg, _≼_, nn-frac, nn-pos}
 use Rattle.accuracy.specs.Within.{within-nonneg}
 use Rattle.accuracy.specs.Close.{Close, close-exact, close-mono, close-neg}
 use Rattle.accuracy.specs.AtValues.{stepOf-values, stepAtValue}
-use Rattle.accuracy.specs.Factors.{BoxedStep}
+use Rattle.accuracy.specs.Factors.{ModerateStep}
 use Rattle.accuracy.specs.Steps.{Clear, forwardAt-close, backwardAt-close}
 use Rattle.accuracy.specs.Finite.{backwardStep-finite}
 use Rattle.accuracy.specs.ExactSweeps.{positively-is, positively-pos, ahead, back, before, after, exactForward, exactBackward}
@@ -45,7 +45,7 @@ module _ (J : Job Float) where
       let r = E.start-at rational (J .window) j l in
       close-exact _ _ _ (ap value (E.start-at ieee (J .window) j l) ∙ sym r) (within-nonneg _ (subst NonNeg (sym r) (nn-frac 1 0)))
 
-  module _ (β : ℚ) (β-nn : NonNeg β) (β-one : β ≼ oneℚ) (W : 1 ≤ J .window) (box : (t : ℕ) → BoxedStep β (stepOf J t))
+  module _ (β : ℚ) (β-nn : NonNeg β) (β-one : β ≼ oneℚ) (W : 1 ≤ J .window) (moderate : (t : ℕ) → ModerateStep β (stepOf J t))
       (c : ℕ) (few : (t : ℕ) → length ((stepOf J t) .others) + 5 ≤ c) where
     -- the step at t, at a scale sc that stands for q
     abbrev pub Clearly : ℕ → ℚ → List ℚ → Type 0
@@ -78,7 +78,7 @@ module _ (J : Job Float) where
       forward-near : Finite (J .window) (roundedForward t sc v) → Near (k + c) (roundedForward t sc v) (exactlyForward t q g) (exactlyForward t q m)
       forward-near fin =
           step-near t k (roundedForward t sc v) (exactlyForward t q g) (exactlyForward t q m) _ _ _ (E.forward-at ieee (stepOf J t) sc (J .window) v) (entry g) (entry m) fin
-          (forwardAt-close β β-nn β-one (J .window) W (stepOf J t) (box t) sc q is q-nn k (at ieee v) (at rational g) (at rational m) near clear)
+          (forwardAt-close β β-nn β-one (J .window) W (stepOf J t) (moderate t) sc q is q-nn k (at ieee v) (at rational g) (at rational m) near clear)
         where
           entry : (h : List ℚ) (j : ℕ) → j < 2 ^ J .window → at rational (exactlyForward t q h) j ≡ forwardAt rational (J .window) (stepAtValue (stepOf J t)) q (at rational h) j
           entry h j l = E.forward-at rational (stepOf (atValues J) t) q (J .window) h j l ∙ ap (λ s. forwardAt rational (J .window) s q (at rational h) j) (stepOf-values J t)
@@ -86,7 +86,7 @@ module _ (J : Job Float) where
       backward-near : Finite (J .window) (roundedBackward t sc v) → Near (k + c) (roundedBackward t sc v) (exactlyBackward t q g) (exactlyBackward t q m)
       backward-near fin =
           step-near t k (roundedBackward t sc v) (exactlyBackward t q g) (exactlyBackward t q m) _ _ _ (E.backward-at ieee (stepOf J t) sc (J .window) v) (entry g) (entry m) fin
-          (backwardAt-close β β-nn β-one (J .window) W (stepOf J t) (box t) sc q is q-nn k (at ieee v) (at rational g) (at rational m) near clear)
+          (backwardAt-close β β-nn β-one (J .window) W (stepOf J t) (moderate t) sc q is q-nn k (at ieee v) (at rational g) (at rational m) near clear)
         where
           entry : (h : List ℚ) (j : ℕ) → j < 2 ^ J .window → at rational (exactlyBackward t q h) j ≡ backwardAt rational (J .window) (stepAtValue (stepOf J t)) q (at rational h) j
           entry h j l = E.backward-at rational (stepOf (atValues J) t) q (J .window) h j l ∙ ap (λ s. backwardAt rational (J .window) s q (at rational h) j) (stepOf-values J t)
