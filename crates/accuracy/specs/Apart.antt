@@ -1,10 +1,10 @@
 -- `Apart x y r`: x and y differ by no more than r; and what so many roundings leave of that.
-use mathlib.Core.Path.{_≡_, sym, _∙_, ap, ap₂, subst}
+use mathlib.Core.Path.{_≡_, sym, _∙_, ap₂, subst}
 use Prim.Native.Nat.{ℕ, _+_, _≤_}
 use lib.Ieee.{Float}
-use Rattle.fraction.specs.Fraction.{ℚ, oneℚ, addℚ, add-neg}
+use Rattle.fraction.specs.Fraction.{ℚ, oneℚ, addℚ}
 use Rattle.fraction.specs.Value.{value}
-use Rattle.accuracy.specs.Ring.{_⊹_, _⋆_, ‐_, _≼_, ≼-refl, ≼-of, ≼-trans, ≼-add, nat, sorted, zero-+, *-one}
+use Rattle.accuracy.specs.Ring.{_⊹_, _⋆_, _≼_, ≼-refl, ≼-of, ≼-trans, ≼-add, nat, *-one, add-take}
 use Rattle.accuracy.specs.Within.{Within, within-neg, within-mono, within-≼}
 use Rattle.accuracy.specs.Rounds.{ε}
 use Rattle.accuracy.specs.Close.{Close, gain}
@@ -20,13 +20,8 @@ apart-of x y a r e w = record {
   below = subst (λ z. z ≼ y ⊹ r) (sym e) (≼-add (≼-refl y) (within-≼ w));
   above =
       let h = within-≼ (within-neg w) in
-      record { rest = h .rest; is = ap₂ addℚ e (h .is) ∙ gone y a (h .rest); nonneg = h .nonneg };
+      record { rest = h .rest; is = ap₂ addℚ e (h .is) ∙ add-take y a (h .rest); nonneg = h .nonneg };
 }
-  where
-    gone : (y a s : ℚ) → (y ⊹ a) ⊹ ((‐ a) ⊹ s) ≡ y ⊹ s
-    gone y a s =
-        let e : (y ⊹ a) ⊹ ((‐ a) ⊹ s) ≡ (a ⊹ ‐ a) ⊹ (y ⊹ s) = simp sorted in
-        e ∙ ap (λ z. z ⊹ (y ⊹ s)) (add-neg a) ∙ zero-+ (y ⊹ s)
 
 -- what k roundings do to a number of size at most one
 pub close-apart : (k : ℕ) (x : Float) (e : ℚ) → k ≤ mostRoundings → Close k x e oneℚ → Apart (value x) e (nat (k + 1) ⋆ ε)

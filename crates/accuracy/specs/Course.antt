@@ -12,36 +12,24 @@ use lib.ListN.{length}
 use lib.Ieee.{Float, binary64, div}
 use lib.Ieee.Scale.{finite}
 use Rattle.rounding.specs.Under.{unit, nought}
-use Rattle.fraction.specs.Fraction.{ℚ, frac, sound, oneℚ, mulℚ, posℚ, Posℚ, pos-mul, pos-one}
-use Rattle.fraction.specs.Raw.{bottoms}
+use Rattle.fraction.specs.Fraction.{ℚ, oneℚ, Posℚ, pos-mul, pos-one}
 use Rattle.fraction.specs.Value.{value}
 use Rattle.transfer.specs.Rounded.{ieee}
 use Rattle.transfer.specs.Sweep.{at, largest}
-use Rattle.accuracy.specs.Ring.{_⋆_, NonNeg, _≼_, ≼-pos, nat, nn-mul, nn-pos, *-one, one-*, *-assoc}
+use Rattle.accuracy.specs.Ring.{_⋆_, NonNeg, _≼_, ≼-pos, nat, nn-mul, nn-pos, *-one, one-*}
 use Rattle.accuracy.specs.Close.{Close}
 use Rattle.accuracy.specs.Powers.{power, θ, θ-nn, θ-one, σ, power-pos}
 use Rattle.accuracy.specs.Steps.{Clear}
 use Rattle.accuracy.specs.ExactSweeps.{positively, positively-is}
-use Rattle.accuracy.specs.Sizes.{nat-mono}
+use Rattle.accuracy.specs.Sizes.{nat-mono, above-nat, pos-cancel}
 use Rattle.accuracy.specs.Roundings.{gain-half}
 use Rattle.accuracy.specs.Largest.{Entry}
 use Rattle.accuracy.specs.Rescaled.{Rescaled, rescaled}
 use Rattle.accuracy.specs.Levels.{Level, fresh, Settled}
 use Rattle.accuracy.specs.Room.{Room, not-large, clear}
 
-fourth : ℚ
-fourth = frac 1 0 3
-
-fourth-pos : Posℚ fourth
-unfolding fourth posℚ
-fourth-pos = refl
-
-fourths : fourth ⋆ nat 4 ≡ oneℚ
-unfolding fourth mulℚ bottoms
-fourths = sound refl
-
 -- what holds below t and at t holds below t + 1
-pub up-to : (P : ℕ → Type 0) (t : ℕ) → ((i : ℕ) → i < t → P i) → P t → (i : ℕ) → i < suc t → P i
+up-to : (P : ℕ → Type 0) (t : ℕ) → ((i : ℕ) → i < t → P i) → P t → (i : ℕ) → i < suc t → P i
 up-to P t h k i l = go (ℕ-discrete i t)
   where
     go : Dec (i ≡ t) → P i
@@ -65,9 +53,6 @@ module _ (w : ℕ) (W : 1 ≤ w) (β : ℚ) (β-nn : NonNeg β) (β-one : β ≼
     least = subst (λ z. power (θ β p) s ≼ nat 4 ⋆ z) (e (l .index)) (l .least);
     most = λ j m. subst (λ z. power (θ β p) s ⋆ z ≼ nat (4 * 2 ^ s)) (e j) (l .most j m);
   }
-
-  quarter : (x : ℚ) → Posℚ (nat 4 ⋆ x) → Posℚ x
-  quarter x h = subst Posℚ (sym (*-assoc fourth (nat 4) x) ∙ ap (λ z. z ⋆ x) fourths ∙ one-* x) (pos-mul fourth (nat 4 ⋆ x) fourth-pos h)
 
   pub record Course (c limit : ℕ) : Type 0 where
     pub m : ℕ → ℕ
@@ -130,7 +115,7 @@ module _ (w : ℕ) (W : 1 ≤ w) (β : ℚ) (β-nn : NonNeg β) (β-one : β ≼
     scaled : (t s : ℕ) → t < limit → L t ≡ largest ieee nought (v t) → ((j : ℕ) → j < n → Close (t * c) (at ieee (v t) j) (M t j) (M t j))
         → (s₂ : ℕ) → s₂ ≤ 4 → Level n (θ β p) s₂ (M t) → Posℚ (S t) × Level n (θ β p) s (λ j. C t ⋆ M t j)
     scaled t s l e near s₂ S₂ own =
-        let some = quarter (M t (own .index)) (≼-pos (powers-pos s₂) (own .least)) in
+        let some = pos-cancel (nat 4) (M t (own .index)) (above-nat 4 (omega arith)) (≼-pos (powers-pos s₂) (own .least)) in
         let r = rescaled n (t * c) (gain-half (t * c) (few-roundings t (omega arith))) (v t) (lengths t) (good t (omega arith)) (M t) (M-nn t) near (own .index) (own .inside) some
         (subst (λ (z : Float). T (finite (div binary64 unit z))) e (fine t l)) (not-large w β β-nn β-one p room (M t) (M-nn t) (apart t) s₂ S₂ own) in
         let r′ : Rescaled n (S t) (M t) = subst (λ (z : Float). Rescaled n (value (div binary64 unit z)) (M t)) (sym e) r in

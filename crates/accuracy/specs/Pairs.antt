@@ -1,5 +1,5 @@
 -- The Z and the N of a pair, rounded and exact: they are close, their errors of the size of Z.
-use mathlib.Core.Path.{_≡_, sym, _∙_, ap, subst}
+use mathlib.Core.Path.{_≡_, sym, ap, subst}
 use mathlib.Core.Bool.{Bool, true, false, cond, not, Bool·beq}
 use mathlib.Core.List.{List}
 use Prim.Native.Nat.{ℕ, suc, _+_, _*_, _-_, _^_, _≤_, _<_}
@@ -24,15 +24,14 @@ use Rattle.bounds.specs.Factors.{checked-notMinus}
 use Rattle.bounds.specs.Pairs.{sum-is}
 use Rattle.bounds.specs.Sweeps.{backward-beneath}
 use Rattle.bounds.specs.Bounds.{numerator-under, propagated-under, forward-finite, backward-finite}
-use Rattle.accuracy.specs.Ring.{_⊹_, _⋆_, NonNeg, _≼_, ≼-refl, ≼-trans, ≼-add, ≼-times, ≼-more, ≼-pos, nat, nn-mul, sorted}
-use Rattle.accuracy.specs.Ring.{spread, +-comm, one-*, *-assoc}
+use Rattle.accuracy.specs.Ring.{_⊹_, _⋆_, NonNeg, _≼_, ≼-refl, ≼-trans, ≼-add, ≼-times, ≼-more, ≼-pos, nat, nn-mul, sorted, spread, +-comm}
 use Rattle.accuracy.specs.Within.{Within, within-nonneg, within-mono, within-mul, within-nn}
-use Rattle.accuracy.specs.Rounds.{ε, ε-nn, ε-one, smallest, smallest-nn, smallest-pos}
+use Rattle.accuracy.specs.Rounds.{ε-pos, ε, ε-nn, smallest, smallest-nn, smallest-pos}
 use Rattle.accuracy.specs.Close.{Close, close-mul, gain, gain-nn}
 use Rattle.accuracy.specs.ExactSweeps.{ahead, exactForward, exactBackward}
 use Rattle.accuracy.specs.Sweeps.{Near, before-near, after-near, propagated-near}
 use Rattle.accuracy.specs.Sums.{sum-close, signed-close, sum-raised, sum-nn, signed-within}
-use Rattle.accuracy.specs.Sizes.{above-nat}
+use Rattle.accuracy.specs.Sizes.{pos-cancel, above-nat}
 use Rattle.accuracy.specs.Normal.{exactZ, exactN, Normal, roundings}
 
 module _ (J : Job Float) (ok : Checked (λ x. T (positive x)) J) (β : ℚ) (c v : ℕ) (inside : v ≤ J .last) (sound : T (positive (Z ieee J v)))
@@ -188,5 +187,4 @@ module _ (J : Job Float) (ok : Checked (λ x. T (positive x)) J) (β : ℚ) (c v
 
   pub Z-pos : Posℚ (exactZ J v)
   Z-pos =
-      let p : Posℚ (ε ⋆ exactZ J v) = ≼-pos (pos-mul _ _ (above-nat n (pow-pos (J .window))) smallest-pos) (normal .outweighs) in
-      subst Posℚ (sym (*-assoc (nat (2 ^ 53)) ε (exactZ J v)) ∙ ap (λ z. z ⋆ exactZ J v) ε-one ∙ one-* (exactZ J v)) (pos-mul _ _ (above-nat (2 ^ 53) (pow-pos 53)) p)
+      pos-cancel ε (exactZ J v) ε-pos (≼-pos (pos-mul _ _ (above-nat n (pow-pos (J .window))) smallest-pos) (normal .outweighs))

@@ -11,17 +11,18 @@ use lib.Ieee.{Float, binary64, up, div}
 use lib.Ieee.Positive.{positive}
 use lib.Ieee.Scale.{finite}
 use Rattle.rounding.specs.Under.{unit, nought}
-use Rattle.fraction.specs.Fraction.{ℚ, frac, oneℚ, addℚ, mulℚ, invℚ, posℚ, Posℚ, pos-mul, pos-inv, mul-inv-pos, sound, add-neg}
+use Rattle.fraction.specs.Fraction.{ℚ, frac, oneℚ, addℚ, mulℚ, invℚ, posℚ, Posℚ, pos-mul, pos-inv, mul-inv-pos, sound}
 use Rattle.fraction.specs.Raw.{bottoms}
 use Rattle.fraction.specs.Value.{value}
 use Rattle.transfer.specs.Rounded.{ieee}
 use Rattle.transfer.specs.Sweep.{at, largest}
-use Rattle.accuracy.specs.Ring.{_⊹_, _⋆_, ‐_, NonNeg, _≼_, ≼-refl, ≼-of, ≼-trans, ≼-add, ≼-times, ≼-mul, ≼-pos, nat, nn-add, nn-mul, nn-frac}
-use Rattle.accuracy.specs.Ring.{nn-pos, sorted, spread, *-one, one-*, *-comm, *-+, +-*, +-comm, zero-+}
+use Rattle.accuracy.specs.Ring.{_⊹_, _⋆_, NonNeg, _≼_, ≼-refl, ≼-of, ≼-trans, ≼-add, ≼-times, ≼-mul, ≼-pos, nat, nn-add, nn-mul, nn-frac}
+use Rattle.accuracy.specs.Ring.{add-take, nn-pos, sorted, spread, *-one, one-*, *-comm, *-+, +-*, +-comm, *-left}
 use Rattle.accuracy.specs.Within.{Within, within-≼, within-neg, within-nonneg}
 use Rattle.accuracy.specs.Rounds.{smallest, smallest-nn}
 use Rattle.accuracy.specs.Operations.{div-rounds}
 use Rattle.accuracy.specs.Close.{Close, gain, gain-nn}
+use Rattle.accuracy.specs.Tables.{value-unit}
 use Rattle.accuracy.specs.Sizes.{same}
 use Rattle.accuracy.specs.Roundings.{gain-one, twice-ε}
 use Rattle.accuracy.specs.Largest.{Entry, Top, positive-of, largest-top}
@@ -64,22 +65,13 @@ module _ {k : ℕ} {x : Float} {m : ℚ} (g : gain k ⊹ gain k ≼ oneℚ) (c :
   near-low =
       let l = within-≼ (within-neg (c .small)) in
       add-cancel (h ⋆ m) (value x) (h ⋆ m)
-      (≼-trans (subst (λ z. z ≼ value x ⊹ gain k ⋆ m) (sym (halved m)) (record { rest = l .rest; is = ap₂ addℚ (c .is) (l .is) ∙ gone m (c .error) (l .rest); nonneg = l .nonneg }))
+      (≼-trans (subst (λ z. z ≼ value x ⊹ gain k ⋆ m) (sym (halved m)) (record { rest = l .rest; is = ap₂ addℚ (c .is) (l .is) ∙ add-take m (c .error) (l .rest); nonneg = l .nonneg }))
       (≼-add (≼-refl (value x)) slight))
-    where
-      gone : (y a s : ℚ) → (y ⊹ a) ⊹ ((‐ a) ⊹ s) ≡ y ⊹ s
-      gone y a s =
-          let e : (y ⊹ a) ⊹ ((‐ a) ⊹ s) ≡ (a ⊹ ‐ a) ⊹ (y ⊹ s) = simp sorted in
-          e ∙ ap (λ z. z ⊹ (y ⊹ s)) (add-neg a) ∙ zero-+ (y ⊹ s)
 
   near-high : value x ≼ m ⊹ m
   near-high =
       subst (λ z. z ≼ m ⊹ m) (sym (c .is))
       (≼-add (≼-refl m) (≼-trans (within-≼ (c .small)) (≼-trans slight (record { rest = h ⋆ m; is = sym (halved m); nonneg = nn-mul _ _ h-nn m-nn }))))
-
-unit-one : value unit ≡ oneℚ
-unfolding value
-unit-one = refl
 
 nought-not : posℚ (value nought) ≡ false
 unfolding value posℚ
@@ -136,7 +128,7 @@ module _ (n k : ℕ) (g : gain k ⊹ gain k ≼ oneℚ) (v : List Float) (len : 
       let up : l ≼ M j ⊹ M j = subst (λ z. z ≼ M j ⊹ M j) (sym is) (near-high g (near j J) (M-nn j J)) in
       let normal : smallest ≼ i = raise l i one i-nn (≼-trans (≼-times smallest smallest-nn up) (low j J)) in
       let r = div-rounds unit L (positive-of L top-entry top-pos) fine in
-      let e : value unit ⋆ i ≡ i = ap (λ z. z ⋆ i) unit-one ∙ one-* i in
+      let e : value unit ⋆ i ≡ i = ap (λ z. z ⋆ i) value-unit ∙ one-* i in
       let w = r .small i (subst (λ z. Within z i) (sym e) (within-nonneg i i-nn)) normal in
       let c : Close 1 (div binary64 unit L) i i = record {
         error = r .error;
@@ -158,10 +150,7 @@ module _ (n k : ℕ) (g : gain k ⊹ gain k ≼ oneℚ) (v : List Float) (len : 
       }
     where
       raise : (l i : ℚ) → i ⋆ l ≡ oneℚ → NonNeg i → smallest ⋆ l ≼ oneℚ → smallest ≼ i
-      raise l i one n h = subst₂ _≼_ (ring i smallest l ∙ ap (λ z. smallest ⋆ z) one ∙ *-one smallest) (*-one i) (≼-times i n h)
-        where
-          ring : (i s l : ℚ) → i ⋆ (s ⋆ l) ≡ s ⋆ (i ⋆ l)
-          ring i s l = simp sorted
+      raise l i one n h = subst₂ _≼_ (*-left i smallest l ∙ ap (λ z. smallest ⋆ z) one ∙ *-one smallest) (*-one i) (≼-times i n h)
 
       least : (l i m c : ℚ) → i ⋆ l ≡ oneℚ → NonNeg i → NonNeg l → NonNeg m → h ⋆ i ≼ c → l ≼ m ⊹ m → oneℚ ≼ nat 4 ⋆ (c ⋆ m)
       least l i m c one I L N a b =

@@ -1,5 +1,5 @@
 -- Fractions of whole numbers by size, and doubles that are no larger than others.
-use mathlib.Core.Path.{_≡_, sym, _∙_, ap, subst₂}
+use mathlib.Core.Path.{_≡_, sym, _∙_, ap, subst₂, subst}
 use mathlib.Core.Bool.{Bool, true, false, cond}
 use Prim.Native.Nat.{ℕ, _+_, _*_, _-_, _^_, _≤_, _<_}
 use native.Mathlib.Nat.{mul-comm}
@@ -13,7 +13,7 @@ use lib.Ieee.Scale.{finite}
 use lib.Ieee.Positive.{num, den}
 use Rattle.rounding.specs.Sign.{notMinus}
 use Rattle.rounding.specs.Under as U
-use Rattle.fraction.specs.Fraction.{ℚ, frac, oneℚ, invℚ, posℚ, Posℚ, pos-inv, mul-inv-pos, add-neg}
+use Rattle.fraction.specs.Fraction.{ℚ, frac, oneℚ, invℚ, posℚ, Posℚ, pos-inv, mul-inv-pos, add-neg, pos-mul}
 use Rattle.fraction.specs.Value.{value}
 use Rattle.accuracy.specs.Ring.{_⊹_, _⋆_, ‐_, NonNeg, _≼_, ≼-times, nat, nat-add, nn-frac, nn-mul, nn-pos, +-*, +-comm, +-assoc, zero-+, one-*}
 use Rattle.accuracy.specs.Ring.{*-assoc, *-comm}
@@ -28,6 +28,11 @@ cancel c x y p h =
     let i = invℚ c in
     let e : (z : ℚ) → i ⋆ (c ⋆ z) ≡ z = λ z. sym (*-assoc i c z) ∙ ap (λ w. w ⋆ z) (*-comm i c ∙ mul-inv-pos c p) ∙ one-* z in
     subst₂ _≼_ (e x) (e y) (≼-times i (nn-pos i (pos-inv c p)) h)
+
+pub pos-cancel : (c x : ℚ) → Posℚ c → Posℚ (c ⋆ x) → Posℚ x
+pos-cancel c x p h =
+    let i = invℚ c in
+    subst Posℚ (sym (*-assoc i c x) ∙ ap (λ w. w ⋆ x) (*-comm i c ∙ mul-inv-pos c p) ∙ one-* x) (pos-mul i (c ⋆ x) (pos-inv c p) h)
 
 pub above-nat : (n : ℕ) → 0 < n → Posℚ (nat n)
 unfolding posℚ
