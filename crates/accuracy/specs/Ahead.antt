@@ -20,7 +20,7 @@ use Rattle.exactness.specs.Entries as E
 use Rattle.exactness.specs.Exact.{rational}
 use Rattle.bounds.specs.Factors.{EdgesNotMinus, checked-notMinus}
 use Rattle.bounds.specs.Bounds.{forward-finite}
-use Rattle.bounds.specs.Steps.{Finite, forwardStep-finite, start-beneath}
+use Rattle.bounds.specs.Steps.{Finite, start-beneath}
 use Rattle.bounds.specs.Sweeps.{forward-beneath}
 use Rattle.accuracy.specs.Ring.{NonNeg, _≼_, nn-pos}
 use Rattle.accuracy.specs.Powers.{θ, θ-nn, θ-one}
@@ -47,18 +47,10 @@ module _ (J : Job Float) (ok : Checked (λ x. T (positive x)) J) (β : ℚ) (β-
   fair : EdgesNotMinus (J .edges)
   fair = checked-notMinus J ok
 
-  before-finite : (d t : ℕ) → Finite w ((beforeStep ieee J (d + t)) .0) → Finite w ((beforeStep ieee J t) .0)
-  unfolding beforeStep scale
-  before-finite zero t h = let e : 0 + t ≡ t = omega arith in rw e at h
-  before-finite (suc d) t h =
-      let e : suc d + t ≡ suc (d + t) = omega arith in
-      before-finite d t (forwardStep-finite w (stepOf J (d + t)) (scale ieee J (d + t)) ((beforeStep ieee J (d + t)) .0) W (rw e at h))
-
   ahead-finite : (t : ℕ) → t ≤ suc v → Finite w ((beforeStep ieee J t) .0)
-  unfolding forward
-  ahead-finite t l =
-      let e : suc v - t + t ≡ suc v = omega arith in
-      before-finite (suc v - t) t (subst (λ (i : ℕ). Finite w ((beforeStep ieee J i) .0)) (sym e) (forward-finite J ok v v (omega arith) Z-fin))
+  unfolding beforeStep forward
+  ahead-finite zero l j b = subst (λ (x : Float). T (finite x)) (sym (E.start-at ieee w j b)) tt
+  ahead-finite (suc t) l j b = forward-finite J ok v t (omega arith) Z-fin j b
 
   ahead-signs : (t j : ℕ) → j < n → T (notMinus (at ieee ((beforeStep ieee J t) .0) j))
   unfolding beforeStep forward
