@@ -55,22 +55,22 @@ accurate J ok β c u v differ inU inV sound h =
 
 module _ (J : Job Float) (ok : Checked (λ x. T (positive x)) J) (β : ℚ) (β-pos : Posℚ β) (β-one : β ≼ oneℚ) (edges : EdgesModerate β (J .edges))
     (p : ℕ) (few : (t : ℕ) → length ((stepOf J t) .others) ≤ p) where
-  abbrev pub W : 1 ≤ J .window
+  abbrev W : 1 ≤ J .window
   W = ok .window
 
-  abbrev pub w : ℕ
+  abbrev w : ℕ
   w = J .window
 
   abbrev n : ℕ
   n = 2 ^ J .window
 
-  abbrev pub β-nn : NonNeg β
+  abbrev β-nn : NonNeg β
   β-nn = nn-pos β β-pos
 
   moderate : (t : ℕ) → ModerateStep β (stepOf J t)
   moderate = moderate-steps β J edges
 
-  abbrev pub c : ℕ
+  abbrev c : ℕ
   c = p + 5
 
   module _ (room : Room β p w) (v : ℕ) (inside : v ≤ J .last) (sound : T (positive (Z ieee J v))) (short : roundings J c ≤ 2 ^ 26) where
@@ -111,8 +111,8 @@ module _ (J : Job Float) (ok : Checked (λ x. T (positive x)) J) (β : ℚ) (β-
     }
 
   -- The theorem: every answered correlation is the textbook's but for what 2 K + 1 roundings can do, K being those on the way to Z or N.
-  pub accurately : Room β p w → (u v : ℕ) → (u ≡ v → ⊥) → u ≤ J .last → v ≤ J .last → T (positive (Z ieee J (max u v))) → roundings J c ≤ 2 ^ 26
-      → Close (2 * roundings J c + 1) (answer ieee J u v) (textbook rational (atValues J) u v) oneℚ
+  pub accurately : Room β p (J .window) → (u v : ℕ) → (u ≡ v → ⊥) → u ≤ J .last → v ≤ J .last → T (positive (Z ieee J (max u v))) → roundings J (p + 5) ≤ 2 ^ 26
+      → Close (2 * roundings J (p + 5) + 1) (answer ieee J u v) (textbook rational (atValues J) u v) oneℚ
   accurately room u v differ inU inV sound short =
       let l : max u v ≤ J .last = omega arith in
       accurate J ok β c u v differ inU inV sound (normal room (max u v) l sound short)

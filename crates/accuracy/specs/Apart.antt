@@ -10,11 +10,12 @@ use Rattle.accuracy.specs.Rounds.{ε}
 use Rattle.accuracy.specs.Close.{Close, gain}
 use Rattle.accuracy.specs.Roundings.{mostRoundings, gain-bound}
 
--- x and y differ by no more than r
+-- x and y differ by no more than r.
 pub record Apart (x y r : ℚ) : Type 0 where
   pub below : x ≼ y ⊹ r
   pub above : y ≼ x ⊹ r
 
+-- What differs by a number of size r at most is r apart.
 pub apart-of : (x y a r : ℚ) → x ≡ y ⊹ a → Within a r → Apart x y r
 apart-of x y a r e w = record {
   below = subst (λ z. z ≼ y ⊹ r) (sym e) (≼-add (≼-refl y) (within-≼ w));
@@ -23,6 +24,6 @@ apart-of x y a r e w = record {
       record { rest = h .rest; is = ap₂ addℚ e (h .is) ∙ add-take y a (h .rest); nonneg = h .nonneg };
 }
 
--- what k roundings do to a number of size at most one
+-- What k roundings do to a number of size at most one: k + 1 units of ε at most.
 pub close-apart : (k : ℕ) (x : Float) (e : ℚ) → k ≤ mostRoundings → Close k x e oneℚ → Apart (value x) e (nat (k + 1) ⋆ ε)
 close-apart k x e h c = apart-of (value x) e (c .error) (nat (k + 1) ⋆ ε) (c .is) (within-mono (c .small) (≼-trans (≼-of _ _ (*-one (gain k))) (gain-bound k h)))

@@ -44,12 +44,14 @@ backEdges-value es t d zero = refl
 backEdges-value es t d (suc n) =
     ap₂ (prepend d) (backEdge-value es t d) (backEdges-value es t (suc d) n) ∙ prepend-value d (backEdge es t d) (backEdges es t (suc d) n)
 
+-- The step of the job in fractions is the step of the job in doubles, at their values.
 pub stepOf-values : (J : Job Float) (t : ℕ) → stepOf (atValues J) t ≡ stepAtValue (stepOf J t)
 stepOf-values J t i = record {
   left = backEdge-value (J .edges) t (J .window) i;
   others = backEdges-value (J .edges) t 1 (J .window - 1) i;
 }
 
+-- The pattern does not depend on the factors.
 pub pattern-value : (bs : List (Back Float)) (k : ℕ) → pattern (map backAtValue bs) k ≡ pattern bs k
 unfolding pattern
 pattern-value [] k = refl

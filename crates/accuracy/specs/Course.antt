@@ -28,7 +28,7 @@ use Rattle.accuracy.specs.Rescaled.{Rescaled, rescaled}
 use Rattle.accuracy.specs.Levels.{Level, fresh, Settled}
 use Rattle.accuracy.specs.Room.{Room, not-large, clear}
 
--- what holds below t and at t holds below t + 1
+-- What holds below t and at t holds below t + 1.
 up-to : (P : ℕ → Type 0) (t : ℕ) → ((i : ℕ) → i < t → P i) → P t → (i : ℕ) → i < suc t → P i
 up-to P t h k i l = go (ℕ-discrete i t)
   where
@@ -54,6 +54,8 @@ module _ (w : ℕ) (W : 1 ≤ w) (β : ℚ) (β-nn : NonNeg β) (β-one : β ≼
     most = λ j m. subst (λ z. power (θ β p) s ⋆ z ≼ nat (4 * 2 ^ s)) (e j) (l .most j m);
   }
 
+  -- A sweep of so many steps, c roundings each: its rounded vectors v, its exact ones M, the stored L that the scales are one over, the phases,
+  -- and what is known of them.
   pub record Course (c limit : ℕ) : Type 0 where
     pub m : ℕ → ℕ
     pub few : (i : ℕ) → m i ≤ p
@@ -85,6 +87,7 @@ module _ (w : ℕ) (W : 1 ≤ w) (β : ℚ) (β-nn : NonNeg β) (β-one : β ≼
     abbrev C : ℕ → ℚ
     C t = positively (S t)
 
+    -- What holds after t steps: none left the normal range, the vector is settled, and the next scale takes it to the level of its phase.
     pub record Reached (t : ℕ) : Type 0 where
       pub scales : (i : ℕ) → i < t → Posℚ (value (div binary64 unit (course .L i)))
       pub steps : (i : ℕ) → i < t → Clear β (course .m i) w (positively (value (div binary64 unit (course .L i)))) (course .M i)
@@ -98,7 +101,7 @@ module _ (w : ℕ) (W : 1 ≤ w) (β : ℚ) (β-nn : NonNeg β) (β-one : β ≼
     one-in : 0 < n
     one-in = pow-pos w
 
-    -- with the stored one
+    -- Where 1.0 is stored, the level stays,
     unscaled : (t s : ℕ) → L t ≡ unit → Level n (θ β p) s (M t) → Posℚ (S t) × Level n (θ β p) s (λ j. C t ⋆ M t j)
     unscaled t s e l =
         let x : S t ≡ oneℚ = ap (λ (z : Float). value (div binary64 unit z)) e ∙ unit-over-unit in
@@ -111,7 +114,7 @@ module _ (w : ℕ) (W : 1 ≤ w) (β : ℚ) (β-nn : NonNeg β) (β-one : β ≼
     powers-pos : (s : ℕ) → Posℚ (power (θ β p) s)
     powers-pos s = power-pos (θ β p) (pos-mul β (power β p) β-pos (power-pos β β-pos p)) s
 
-    -- with the largest entry stored
+    -- and where the largest entry is stored, the vector is at its first level again.
     scaled : (t s : ℕ) → t < limit → L t ≡ largest ieee nought (v t) → ((j : ℕ) → j < n → Close (t * c) (at ieee (v t) j) (M t j) (M t j))
         → (s₂ : ℕ) → s₂ ≤ 4 → Level n (θ β p) s₂ (M t) → Posℚ (S t) × Level n (θ β p) s (λ j. C t ⋆ M t j)
     scaled t s l e near s₂ S₂ own =
@@ -133,6 +136,7 @@ module _ (w : ℕ) (W : 1 ≤ w) (β : ℚ) (β-nn : NonNeg β) (β-one : β ≼
         (subst (λ z. oneℚ ≼ nat 4 ⋆ z) (sym (start-M 0 one-in)) (subst (λ z. oneℚ ≼ z) (sym (*-one (nat 4))) (nat-mono 1 4 (omega arith))))
         (λ j b. subst (λ z. z ≼ nat 4) (sym (start-M j b)) (nat-mono 1 4 (omega arith)))
 
+    -- It holds after each step.
     pub reach : (t : ℕ) → t ≤ limit → Reached t
     reach zero l = record {
       scales = λ i b. absurd (omega arith);

@@ -16,7 +16,7 @@ use Rattle.exactness.specs.AnyScales.{Scaled}
 use Rattle.exactness.specs.Exact.{rational, atValues}
 use Rattle.accuracy.specs.Ring.{_⊹_, neg-zero, +-zero}
 
--- a number above zero, or one
+-- A number above zero, or one: no scale of the exact sweeps is another.
 abbrev pub positively : ℚ → ℚ
 positively q = cond (posℚ q) q oneℚ
 
@@ -31,14 +31,14 @@ pub positively-is : (q : ℚ) → Posℚ q → q ≡ positively q
 positively-is q h = rw h
 
 module _ (J : Job Float) where
-  -- the scales of the rounded sweeps, as fractions
+  -- The scales of the rounded sweeps, as fractions: of the forward step at t, and after i backward steps.
   unfoldable pub ahead : ℕ → ℚ
   ahead t = positively (value (scale ieee J t))
 
   unfoldable pub back : ℕ → ℚ
   back i = positively (value (div binary64 unit ((afterSteps ieee J i) .1)))
 
-  -- exact vectors: before the forward step at t, and after i backward steps
+  -- The exact vectors: before the forward step at t, and after i backward steps.
   unfoldable pub before : ℕ → List ℚ
   before zero = start rational (J .window)
   before (suc t) = forwardStep rational (J .window) (stepOf (atValues J) t) (ahead t) (before t)
@@ -55,6 +55,7 @@ module _ (J : Job Float) where
   unfolding back
   back-pos n = positively-pos (value (div binary64 unit ((afterSteps ieee J n) .1)))
 
+  -- The exact forward and backward vectors at vertex t, and the scale of the backward step to it.
   abbrev pub exactForward : ℕ → List ℚ
   exactForward t = before (suc t)
 
@@ -67,6 +68,7 @@ module _ (J : Job Float) where
   pub above : (q : ℚ) → Posℚ q → Pos rational q
   above q h = ap posℚ (ap (λ x. q ⊹ x) neg-zero ∙ +-zero q) ∙ h
 
+  -- They follow the steps of the job in fractions, at scales above zero.
   pub exact-sweeps : Scaled rational (atValues J) exactForward ahead exactBackward exactBack
   unfolding before after ahead back
   exact-sweeps = record {

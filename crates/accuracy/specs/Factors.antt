@@ -27,10 +27,12 @@ ModerateMaybe β (some x) = Moderate β x
 abbrev pub AllModerate : ℚ → List (Back Float) → Type 0
 AllModerate β bs = All (λ b. Moderate β (b .factor)) bs
 
+-- Each factor that a step reads is so.
 pub record ModerateStep (β : ℚ) (s : Step Float) : Type 0 where
   pub left : ModerateMaybe β (s .left)
   pub others : AllModerate β (s .others)
 
+-- Each factor of a job's edges is so.
 abbrev pub EdgesModerate : ℚ → List (Edge Float) → Type 0
 EdgesModerate β es = All (λ e. Moderate β (e .factor)) es
 

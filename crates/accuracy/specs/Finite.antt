@@ -21,6 +21,7 @@ entry-finite p q x y h =
     let s = add-finite binary64 (mul binary64 p x) (mul binary64 q y) h in
     (mul-finite binary64 p x (s .0) .1, mul-finite binary64 q y (s .1) .1)
 
+-- The vector before a backward step is finite where the one after it is.
 pub backwardStep-finite : (w : ℕ) (s : Step Float) (sc : Float) (v : List Float) → 1 ≤ w → Finite w (backwardStep ieee w s sc v) → Finite w v
 unfolding backwardAt
 backwardStep-finite w s sc v W h j l = go (j % 2) (j / 2) (omega arith) (omega arith)

@@ -4,12 +4,13 @@ use Rattle.fraction.specs.Fraction.{ℚ, oneℚ, addℚ}
 use Rattle.accuracy.specs.Ring.{_⊹_, _⋆_, NonNeg, _≼_, ≼-refl, ≼-of, ≼-trans, ≼-add, ≼-times, ≼-mul, ≼-more, ≼-nn, nn-add, nn-mul, nn-one}
 use Rattle.accuracy.specs.Ring.{sorted, spread, *-one, one-*, *-assoc, *-+, +-comm}
 
--- x is from b to one over b
+-- x is from b to one over b.
 pub record Weight (b x : ℚ) : Type 0 where
   pub least : b ≼ x
   pub most : b ⋆ x ≼ oneℚ
 
 module _ {a b : ℚ} (A : NonNeg a) (B : NonNeg b) where
+  -- Products of weights are weights, and wider ranges have more of them.
   pub weight-mul : {x y : ℚ} → Weight a x → Weight b y → Weight (a ⋆ b) (x ⋆ y)
   weight-mul {x} {y} h k = record {
     least = ≼-mul A (≼-nn B (k .least)) (h .least) (k .least);
@@ -22,7 +23,7 @@ module _ {a b : ℚ} (A : NonNeg a) (B : NonNeg b) where
   pub weight-less : {x : ℚ} → a ≼ b → Weight b x → Weight a x
   weight-less {x} l h = record { least = ≼-trans l (h .least); most = ≼-trans (≼-mul A (≼-nn B (h .least)) l (≼-refl x)) (h .most) }
 
--- two weights, one at most b b times less than the other
+-- Of two weights, one is b b times the other or more.
 pub weight-ratio : {b x y : ℚ} → NonNeg b → Weight b x → Weight b y → (b ⋆ b) ⋆ x ≼ y
 weight-ratio {b} {x} {y} B h k =
     ≼-trans (subst₂ _≼_ (sym (*-assoc b b x)) (*-one b) (≼-times b B (h .most))) (k .least)
@@ -43,6 +44,7 @@ module _ {t : ℚ} (t-nn : NonNeg t) where
     second-nn : NonNeg (h .y ⋆ (c ⋆ B))
     second-nn = nn-mul _ _ (≼-nn t-nn (h .y-weight .least)) cB
 
+    -- Such a sum is t times each of its numbers or more, and t times it is their sum or less.
     pub mix-first : t ⋆ (c ⋆ A) ≼ z
     mix-first = subst (λ q. t ⋆ (c ⋆ A) ≼ q) (sym (h .is)) (≼-trans (≼-mul t-nn cA (h .x-weight .least) (≼-refl _)) (≼-more _ _ second-nn))
 
@@ -62,7 +64,7 @@ module _ {t : ℚ} (t-nn : NonNeg t) where
     pub mix-nn : NonNeg z
     mix-nn = subst NonNeg (sym (h .is)) (nn-add _ _ first-nn second-nn)
 
-  -- entries made of such as differ by a factor r at most differ by t t r at most
+  -- Sums of two numbers, of which each is r times its fellow or more: one is t t r times the other or more.
   pub mix-ratio : {c A B z A′ B′ z′ : ℚ} (r : ℚ) → Mix t c A B z → Mix t c A′ B′ z′ → NonNeg c → NonNeg A → NonNeg B → NonNeg A′ → NonNeg B′ → NonNeg r
       → r ⋆ A ≼ A′ → r ⋆ B ≼ B′ → ((t ⋆ t) ⋆ r) ⋆ z ≼ z′
   mix-ratio {c} {A} {B} {z} {A′} {B′} {z′} r h k C nA nB nA′ nB′ nr a b =

@@ -22,10 +22,11 @@ exactZ J v = ZOf rational (atValues J) (exactForward J) (ahead J) (exactBackward
 abbrev pub exactN : Job Float → ℕ → ℕ → ℚ
 exactN J u v = NOf rational (atValues J) (exactForward J) (ahead J) (exactBackward J) u v
 
--- the roundings on the way to a Z or an N, and one more for what underflows in their terms; c of them a step
+-- The roundings on the way to a Z or an N, c of them a step, and one more for what underflows in their terms.
 abbrev pub roundings : Job Float → ℕ → ℕ
 roundings J c = suc (suc (suc (J .last) * c) + 2 ^ J .window)
 
+-- At the vertex v both sweeps stay in the normal range, and Z outweighs what underflows in its terms.
 pub record Normal (J : Job Float) (ok : Checked (λ x. T (positive x)) J) (β : ℚ) (c v : ℕ) : Type 0 where
   pub β-nn : NonNeg β
   pub β-one : β ≼ oneℚ

@@ -71,7 +71,7 @@ module _ (J : Job Float) (ok : Checked (λ x. T (positive x)) J) (β : ℚ) (c v
   count : suc (suc v * c + (J .last - v) * c) ≡ k
   count = ap suc (let e : suc (J .last) ≡ suc v + (J .last - v) = omega arith in omega (arith, ap (λ (m : ℕ). m * c) e))
 
-  -- a vector as close as the forward one, times the backward one
+  -- A vector as close as the forward one, times the backward one.
   term-near : (x : List Float) (g : List ℚ) → Near J (suc v * c) x g (exactForward J v) → (j : ℕ) → j < n → T (finite (mul binary64 (at ieee x j) (at ieee (backward ieee J v) j)))
       → Close k (mul binary64 (at ieee x j) (at ieee (backward ieee J v) j)) (at rational g j ⋆ B j) (mass j)
   term-near x g near j l f =
@@ -179,12 +179,14 @@ module _ (J : Job Float) (ok : Checked (λ x. T (positive x)) J) (β : ℚ) (c v
       ring : (q e z : ℚ) → (q ⊹ e ⋆ (oneℚ ⊹ q)) ⋆ z ≡ q ⋆ (z ⊹ e ⋆ z) ⊹ e ⋆ z
       ring q e z = simp (spread, sorted)
 
+  -- Z and N are close to the exact ones, their errors of the size of the exact Z,
   pub Z-close : Close (roundings J c) (Z ieee J v) (exactZ J v) (exactZ J v)
   Z-close = lifted Z-near (within-nonneg (exactZ J v) Z-nn)
 
   pub N-close : (u : ℕ) → u ≤ v → Close (roundings J c) (N ieee J u v) (exactN J u v) (exactZ J v)
   N-close u before = lifted (N-near u before) (N-within u before)
 
+  -- which is above zero.
   pub Z-pos : Posℚ (exactZ J v)
   Z-pos =
       pos-cancel ε (exactZ J v) ε-pos (≼-pos (pos-mul _ _ (above-nat n (pow-pos (J .window))) smallest-pos) (normal .outweighs))

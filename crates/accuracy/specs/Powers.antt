@@ -6,6 +6,7 @@ use native.Mathlib.Omega.{arith}
 use Rattle.fraction.specs.Fraction.{ℚ, oneℚ, Posℚ, pos-one, pos-mul}
 use Rattle.accuracy.specs.Ring.{_⋆_, NonNeg, _≼_, ≼-refl, ≼-mul, nn-mul, *-one, one-*, nn-one, *-assoc}
 
+-- b to the n.
 unfoldable pub power : ℚ → ℕ → ℚ
 power b zero = oneℚ
 power b (suc n) = power b n ⋆ b

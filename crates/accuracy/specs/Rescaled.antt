@@ -85,7 +85,7 @@ fours : (oneℚ ⊹ oneℚ) ⊹ (oneℚ ⊹ oneℚ) ≡ nat 4
 unfolding addℚ bottoms
 fours = sound refl
 
--- a scale and the exact entries: positive, one scaled entry a quarter or more, none above four
+-- The scale c is above zero, one scaled entry a quarter or more, and none above four.
 pub record Rescaled (n : ℕ) (c : ℚ) (M : ℕ → ℚ) : Type 0 where
   pub positive : Posℚ c
   pub index : ℕ
@@ -114,6 +114,7 @@ module _ (n k : ℕ) (g : gain k ⊹ gain k ≼ oneℚ) (v : List Float) (len : 
   top-entry : Entry (largest ieee nought v)
   top-entry = subst Entry (sym (found .1 .1)) (good (found .0) (found .1 .0))
 
+  -- One over the largest entry is such a scale, where no exact entry is too large for one over it to be normal.
   pub rescaled : T (finite (div binary64 unit (largest ieee nought v))) → ((j : ℕ) → j < n → smallest ⋆ (M j ⊹ M j) ≼ oneℚ)
       → Rescaled n (value (div binary64 unit (largest ieee nought v))) M
   rescaled fine low =

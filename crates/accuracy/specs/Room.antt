@@ -33,7 +33,7 @@ module _ (w : ℕ) (β : ℚ) (β-nn : NonNeg β) (β-one : β ≼ oneℚ) (p : 
   less : (a b : ℕ) → b ≤ a → power (θ β p) a ≼ power (θ β p) b
   less = power-less (θ β p) (θ-nn β β-nn β-one p) (θ-one β β-nn β-one p)
 
-  -- below one factor, and below the product of two
+  -- A product is no more than its first factor, where the second is one at most.
   under : (x y : ℚ) → NonNeg x → NonNeg y → y ≼ oneℚ → x ⋆ y ≼ x
   under x y X N h = subst (λ z. x ⋆ y ≼ z) (*-one x) (≼-times x X h)
 
@@ -75,12 +75,12 @@ module _ (w : ℕ) (β : ℚ) (β-nn : NonNeg β) (β-one : β ≼ oneℚ) (p : 
     small : smallest ≼ lowest β p w
     small = subst (λ z. z ≼ lowest β p w) (one-* smallest) (fewer 1 (omega arith))
 
-    -- k times x is at least k times the smallest normal double
+    -- x is normal where k times x reaches the least that a sweep comes down to.
     down : (k : ℕ) (x : ℚ) → 0 < k → k ≤ 256 → lowest β p w ≼ nat k ⋆ x → smallest ≼ x
     down k x K h l = cancel (nat k) smallest x (above-nat k K) (≼-trans (fewer k h) l)
 
     module _ (M : ℕ → ℚ) (M-nn : (j : ℕ) → j < n → NonNeg (M j)) (apart : (i j : ℕ) → i < n → j < n → power (σ β p) w ⋆ M i ≼ M j) where
-      -- from one entry to all
+      -- What one scaled entry reaches, each reaches but for the ratio of a window.
       all : (a : ℚ) (s i j : ℕ) → NonNeg a → i < n → j < n → power (θ β p) s ≼ nat 4 ⋆ (a ⋆ M i) → power (σ β p) w ⋆ power (θ β p) s ≼ nat 4 ⋆ (a ⋆ M j)
       all a s i j A I J h =
           ≼-trans (subst (λ z. power (σ β p) w ⋆ power (θ β p) s ≼ z) (ring (power (σ β p) w) (nat 4) a (M i)) (≼-times (power (σ β p) w) σs-nn h))
@@ -90,7 +90,7 @@ module _ (w : ℕ) (β : ℚ) (β-nn : NonNeg β) (β-one : β ≼ oneℚ) (p : 
           ring s f a m = simp sorted
 
       module _ (s₂ : ℕ) (S₂ : s₂ ≤ 4) (own : Level n (θ β p) s₂ M) where
-        -- no entry is too large for the largest one's inverse to be normal
+        -- No entry is too large for one over it to be normal.
         pub not-large : (j : ℕ) → j < n → smallest ⋆ (M j ⊹ M j) ≼ oneℚ
         not-large j l =
             let m = M j in
@@ -102,6 +102,7 @@ module _ (w : ℕ) (β : ℚ) (β-nn : NonNeg β) (β-one : β ≼ oneℚ) (p : 
             ring : (k s m : ℚ) → (k ⋆ s) ⋆ m ⊹ (k ⋆ s) ⋆ m ≡ k ⋆ (s ⋆ (m ⊹ m))
             ring k s m = simp (spread, sorted)
 
+        -- A step on a vector that is settled, at a scale that takes it to one of the first levels, leaves the normal range nowhere.
         pub clear : (m : ℕ) → m ≤ p → (c : ℚ) → NonNeg c → (s : ℕ) → s ≤ 3 → Level n (θ β p) s (λ j. c ⋆ M j) → Clear β m w c M
         clear m few c C s S level = record {
           factors = ≼-trans small (≼-trans (subst (λ z. lowest β p w ≼ z) (power-first (θ β p)) (lowest-power 1 (omega arith))) (θ-power m few));
@@ -148,7 +149,7 @@ module _ (w : ℕ) (β : ℚ) (β-nn : NonNeg β) (β-one : β ≼ oneℚ) (p : 
                 ring : (b q k c m : ℚ) → (b ⋆ q) ⋆ (k ⋆ (c ⋆ m)) ≡ k ⋆ ((q ⋆ c) ⋆ (b ⋆ m))
                 ring b q k c m = simp sorted
 
-    -- the sum of products of two vectors at such levels is outweighs enough for what underflows in its terms
+    -- The sum of the products of two vectors at such levels outweighs what underflows in its terms.
     pub outweighs : (F B : ℕ → ℚ) → ((j : ℕ) → j < n → NonNeg (F j)) → ((j : ℕ) → j < n → NonNeg (B j)) → ((i j : ℕ) → i < n → j < n → power (σ β p) w ⋆ B i ≼ B j)
         → Settled n (θ β p) F → Settled n (θ β p) B → (Z : ℚ) → ((i : ℕ) → i < n → F i ⋆ B i ≼ Z) → nat n ⋆ smallest ≼ ε ⋆ Z
     outweighs F B F-nn B-nn apart settled settled′ Z term =

@@ -17,7 +17,7 @@ use Rattle.accuracy.specs.Sizes.{cancel, above-nat, same, nat-mono}
 -- ---- Bernoulli's inequality, G being one over ε
 
 module _ (G : ℕ) (G-one : nat G ⋆ ε ≡ oneℚ) where
-  -- (1 + ε) m is at most m + 1, where m is at most 1 / ε
+  -- (1 + ε) m is at most m + 1, where m is at most 1 / ε.
   one-more : (m : ℕ) → m ≤ G → (oneℚ ⊹ ε) ⋆ nat m ≼ nat (suc m)
   one-more m h =
       let e : suc m ≡ m + 1 = omega arith in
@@ -58,7 +58,7 @@ module _ (G : ℕ) (G-one : nat G ⋆ ε ≡ oneℚ) where
       off : {a b : ℚ} → oneℚ ⊹ a ≼ oneℚ ⊹ b → a ≼ b
       off {a} {b} h = record { rest = h .rest; is = same oneℚ b (a ⊹ h .rest) (h .is ∙ +-assoc oneℚ a (h .rest)); nonneg = h .nonneg }
 
--- up to so many roundings, k of them come to at most (k + 1) ε: k (k + 1) is at most 2 ^ 53
+-- Up to so many roundings, k of them come to at most (k + 1) ε: k (k + 1) is at most 2 ^ 53.
 abbrev pub mostRoundings : ℕ
 mostRoundings = 94906264
 
@@ -78,7 +78,7 @@ gain-bound k h =
     less : (k G : ℕ) → k * (k + 1) ≤ G → k * G ≤ (k + 1) * (G - k)
     less k G h = split k (G - k) G (omega arith) h
 
--- and up to 2 ^ 52 of them to at most twice as many
+-- Up to 2 ^ 52 of them come to at most twice as many.
 pub gain-double : (k : ℕ) → k ≤ 2 ^ 52 → gain k ≼ nat (2 * k) ⋆ ε
 gain-double k h = gain-within (2 ^ 53) ε-one k (2 * k) (wide k (2 ^ 52) (2 ^ 53) (lit≤ tt) h) (half k (2 ^ 52) (2 ^ 53) (lit≤ tt) h)
   where
@@ -92,7 +92,7 @@ pub gain-one : gain 1 ≡ ε
 unfolding gain
 gain-one = zero-+ _ ∙ ap (λ z. ε ⋆ z) (+-zero oneℚ) ∙ *-one ε
 
--- (1 + ε) ^ k - 1 is a half at most
+-- Up to 2 ^ 26 of them come to a half at most.
 pub gain-half : (k : ℕ) → k ≤ 2 ^ 26 → gain k ⊹ gain k ≼ oneℚ
 gain-half k l =
     let b = gain-bound k (le-trans l (lit≤ tt)) in

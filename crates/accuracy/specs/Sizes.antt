@@ -23,6 +23,7 @@ use Rattle.accuracy.specs.Operations.{value-signed, mul-signed}
 
 -- ---- fractions
 
+-- A factor above zero can be taken off both sides.
 pub cancel : (c x y : ℚ) → Posℚ c → c ⋆ x ≼ c ⋆ y → x ≼ y
 cancel c x y p h =
     let i = invℚ c in
@@ -38,7 +39,7 @@ pub above-nat : (n : ℕ) → 0 < n → Posℚ (nat n)
 unfolding posℚ
 above-nat n h = lt-ltb 0 n h
 
--- a sum's second term is settled by the first and the sum
+-- Equal sums with equal first terms have equal second terms.
 pub same : (a b c : ℚ) → a ⊹ b ≡ a ⊹ c → b ≡ c
 same a b c h = cc (+-assoc (‐ a) a b, +-assoc (‐ a) a c, +-comm (‐ a) a, add-neg a, zero-+ b, zero-+ c)
 
@@ -48,6 +49,7 @@ nat-mono m n h = let e : n ≡ m + (n - m) = omega arith in record { rest = nat 
 pub frac-mul : (a b c d : ℕ) → 0 < c → 0 < d → frac a 0 (c - 1) ⋆ frac b 0 (d - 1) ≡ frac (a * b) 0 (c * d - 1)
 frac-mul a b c d C D = mul-signed false false a b c d C D
 
+-- The order of fractions, by whole numbers.
 pub frac-≼ : (a c b d : ℕ) → 0 < c → 0 < d → a * d ≤ b * c → frac a 0 (c - 1) ≼ frac b 0 (d - 1)
 frac-≼ a c b d C D h =
     let P = frac 1 0 (c * d - 1) in
@@ -66,6 +68,7 @@ smallest-one = frac-≼ 1 (2 ^ 1022) 1 1 (pow-pos 1022) (pow-pos 0) (lit≤ tt)
 
 -- ---- doubles: no larger in size
 
+-- A double that is under another is no larger in size.
 pub under-within : (x y : Float) → U.Under x y → T (finite y) → Within (value x) (value y)
 under-within x y u f = go x y (u .sign) (u .size f .isFinite) f (u .size f .atMost)
   where

@@ -36,6 +36,7 @@ use Rattle.accuracy.specs.ExactSweeps.{positively-is, positively-pos, ah
 module _ (J : Job Float) where
   -- ---- the vectors are close: k roundings a step
 
+  -- Entry by entry, v is close to g with k roundings, the errors of the size of m's entries.
   abbrev pub Near : ℕ → List Float → List ℚ → List ℚ → Type 0
   Near k v g m = (j : ℕ) → j < 2 ^ J .window → Close k (at ieee v j) (at rational g j) (at rational m j)
 
@@ -47,7 +48,7 @@ module _ (J : Job Float) where
 
   module _ (β : ℚ) (β-nn : NonNeg β) (β-one : β ≼ oneℚ) (W : 1 ≤ J .window) (moderate : (t : ℕ) → ModerateStep β (stepOf J t))
       (c : ℕ) (few : (t : ℕ) → length ((stepOf J t) .others) + 5 ≤ c) where
-    -- the step at t, at a scale sc that stands for q
+    -- The step at t, at the scale q, leaves the normal range nowhere.
     abbrev pub Clearly : ℕ → ℚ → List ℚ → Type 0
     Clearly t q m = Clear β (length ((stepOf J t) .others)) (J .window) q (at rational m)
 
@@ -91,15 +92,17 @@ module _ (J : Job Float) where
           entry : (h : List ℚ) (j : ℕ) → j < 2 ^ J .window → at rational (exactlyBackward t q h) j ≡ backwardAt rational (J .window) (stepAtValue (stepOf J t)) q (at rational h) j
           entry h j l = E.backward-at rational (stepOf (atValues J) t) q (J .window) h j l ∙ ap (λ s. backwardAt rational (J .window) s q (at rational h) j) (stepOf-values J t)
 
-    -- the steps before t leave the normal range nowhere
+    -- The forward steps before t leave the normal range nowhere, and their scales are above zero;
     pub record ClearAhead (t : ℕ) : Type 0 where
       pub scales : (i : ℕ) → i < t → Posℚ (value (scale ieee J i))
       pub steps : (i : ℕ) → i < t → Clearly i (ahead J i) (before J i)
 
+    -- so the first n backward steps.
     pub record ClearBack (n : ℕ) : Type 0 where
       pub scales : (i : ℕ) → i < n → Posℚ (value (div binary64 unit ((afterSteps ieee J i) .1)))
       pub steps : (i : ℕ) → i < n → Clearly (J .last - i) (back J i) (after J i)
 
+    -- Then the forward vector is close to the exact one, with c roundings a step,
     pub before-near : (t : ℕ) → ClearAhead t → Finite (J .window) ((beforeStep ieee J t) .0) → Near (t * c) ((beforeStep ieee J t) .0) (before J t) (before J t)
     unfolding before beforeStep ahead scale
     before-near zero clear fin j l = close-mono (0 * c) (omega arith) (start-near j l)
@@ -114,6 +117,7 @@ module _ (J : Job Float) where
         (forward-near t (t * c) sc (ahead J t) is (nn-pos _ (positively-pos (value sc))) ((beforeStep ieee J t) .0) (before J t) (before J t)
         (before-near t earlier fin₁) (clear .steps t (omega arith)) fin) j l
 
+    -- and so is the backward vector.
     pub after-near : (n : ℕ) → ClearBack n → Finite (J .window) ((afterSteps ieee J n) .0) → Near (n * c) ((afterSteps ieee J n) .0) (after J n) (after J n)
     unfolding after afterSteps back
     after-near zero clear fin j l = close-mono (0 * c) (omega arith) (start-near j l)
@@ -128,7 +132,7 @@ module _ (J : Job Float) where
         (backward-near (J .last - n) (n * c) sc (back J n) is (nn-pos _ (positively-pos (value sc))) ((afterSteps ieee J n) .0) (after J n) (after J n)
         (after-near n earlier fin₁) (clear .steps n (omega arith)) fin) j l
 
-    -- a propagated vector is close to the exact one, its errors of the size that the forward vector's entries have
+    -- A propagated vector is close to the exact one, its errors of the size of the forward vector's entries.
     alternate-near : (k : ℕ) (v : List Float) (m : List ℚ) → Near k v m m → Near k (alternate ieee (J .window) v) (alternate rational (J .window) m) m
     alternate-near k v m near j l =
         subst₂ (λ (x : Float) (e : ℚ). Close k x e (at rational m j)) (sym (E.alternate-at ieee (J .window) v j l)) (sym (E.alternate-at rational (J .window) m j l))
