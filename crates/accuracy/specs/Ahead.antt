@@ -66,7 +66,8 @@ module _ (J : Job Float) (ok : Checked (λ x. T (positive x)) J) (β : ℚ) (β-
       let f = ahead-finite (suc t) (omega arith) 0 (pow-pos w) in
       let made = E.forward-at ieee s sc w x 0 (pow-pos w) ∙ E.forward-even ieee s sc w (at ieee x) 0 in
       let g = subst (λ (z : Float). T (finite z)) made f in
-      let u = mul-finite binary64 (add binary64 (mul binary64 (ep ieee (s .left)) (at ieee x 0)) (mul binary64 (em ieee (s .left)) (at ieee x (2 ^ (w - 1) + 0)))) (E.upAt ieee s sc 0) g .1 in
+      let u = mul-finite binary64 (add binary64 (mul binary64 (ep ieee (s .left)) (at ieee x 0))
+      (mul binary64 (em ieee (s .left)) (at ieee x (2 ^ (w - 1) + 0)))) (E.upAt ieee s sc 0) g .1 in
       mul-finite binary64 _ sc u .1
 
   lengths-ahead : (t : ℕ) → length ((beforeStep ieee J t) .0) ≡ n
@@ -88,13 +89,16 @@ module _ (J : Job Float) (ok : Checked (λ x. T (positive x)) J) (β : ℚ) (β-
     phases = λ t. phase-most (J .manner) (t % 4) (omega arith);
     start-M = λ j l. E.start-at rational w j l;
     start-L = refl;
-    step = λ t s level. ahead-level w W (θ β p) (θ-nn β β-nn β-one p) (θ-one β β-nn β-one p) (ahead J t) (nn-pos _ (ahead-pos J t)) (at rational (before J t)) (at rational (before J (suc t)))
+    step =
+        λ t s level. ahead-level w W (θ β p) (θ-nn β β-nn β-one p) (θ-one β β-nn β-one p) (ahead J t) (nn-pos _ (ahead-pos J t)) (at rational (before J t))
+        (at rational (before J (suc t)))
         (S.before-nn J W β β-nn β-one moderate p few t) s level (S.before-mix J W β β-nn β-one moderate p few t);
     next = λ t. phase-next (J .manner) 3 t (t % 4) (suc t % 4) _ (λ h. omega (arith, h));
     lengths = lengths-ahead;
     good = λ t l j b. record { isFinite = ahead-finite t l j b; sign = ahead-signs t j b };
     fine = ahead-fine;
-    near = λ t l scales steps. before-near J β β-nn β-one W moderate (p + 5) (step-roundings J p few) t (record { scales = scales; steps = steps }) (ahead-finite t l);
+    near = λ t l scales steps. before-near J β β-nn β-one W moderate (p + 5) (step-roundings J p few) t (record { scales = scales; steps = steps })
+        (ahead-finite t l);
   }
 
   module _ (room : Room β p w) (β-pos : Posℚ β) (short : (suc v) * (p + 5) ≤ 2 ^ 26) where

@@ -58,7 +58,8 @@ module _ (J : Job Float) (ok : Checked (λ x. T (positive x)) J) (β : ℚ) (β-
   after-finite zero i h = let e : 0 + i ≡ i = omega arith in rw e at h
   after-finite (suc d) i h =
       let e : suc d + i ≡ suc (d + i) = omega arith in
-      after-finite d i (backwardStep-finite w (stepOf J (J .last - (d + i))) (div binary64 unit ((afterSteps ieee J (d + i)) .1)) ((afterSteps ieee J (d + i)) .0) W (rw e at h))
+      after-finite d i (backwardStep-finite w (stepOf J (J .last - (d + i))) (div binary64 unit ((afterSteps ieee J (d + i)) .1))
+      ((afterSteps ieee J (d + i)) .0) W (rw e at h))
 
   back-finite : (i : ℕ) → i ≤ J .last - v → Finite w ((afterSteps ieee J i) .0)
   unfolding backward
@@ -107,7 +108,9 @@ module _ (J : Job Float) (ok : Checked (λ x. T (positive x)) J) (β : ℚ) (β-
     phases = λ i. phase-most (J .manner) (3 - (J .last - i) % 4) (omega arith);
     start-M = λ j l. E.start-at rational w j l;
     start-L = refl;
-    step = λ t s level. back-level w W (θ β p) (θ-nn β β-nn β-one p) (θ-one β β-nn β-one p) (back J t) (nn-pos _ (back-pos J t)) (at rational (after J t)) (at rational (after J (suc t)))
+    step =
+        λ t s level. back-level w W (θ β p) (θ-nn β β-nn β-one p) (θ-one β β-nn β-one p) (back J t) (nn-pos _ (back-pos J t)) (at rational (after J t))
+        (at rational (after J (suc t)))
         (S.after-nn J W β β-nn β-one moderate p few t) s level (S.after-mix J W β β-nn β-one moderate p few t);
     next = λ i. phase-next (J .manner) 0 (J .last - i) _ _ _ (turn (J .last - i) (J .last - suc i) (omega arith));
     lengths = lengths-back;

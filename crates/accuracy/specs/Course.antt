@@ -119,7 +119,8 @@ module _ (w : ℕ) (W : 1 ≤ w) (β : ℚ) (β-nn : NonNeg β) (β-one : β ≼
         → (s₂ : ℕ) → s₂ ≤ 4 → Level n (θ β p) s₂ (M t) → Posℚ (S t) × Level n (θ β p) s (λ j. C t ⋆ M t j)
     scaled t s l e near s₂ S₂ own =
         let some = pos-cancel (nat 4) (M t (own .index)) (above-nat 4 (omega arith)) (≼-pos (powers-pos s₂) (own .least)) in
-        let r = rescaled n (t * c) (gain-half (t * c) (few-roundings t (omega arith))) (v t) (lengths t) (good t (omega arith)) (M t) (M-nn t) near (own .index) (own .inside) some
+        let r = rescaled n (t * c) (gain-half (t * c) (few-roundings t (omega arith))) (v t) (lengths t) (good t (omega arith)) (M t) (M-nn t) near (own .index)
+        (own .inside) some
         (subst (λ (z : Float). T (finite (div binary64 unit z))) e (fine t l)) (not-large w β β-nn β-one p room (M t) (M-nn t) (apart t) s₂ S₂ own) in
         let r′ : Rescaled n (S t) (M t) = subst (λ (z : Float). Rescaled n (value (div binary64 unit z)) (M t)) (sym e) r in
         let q = r′ .positive in
@@ -150,7 +151,8 @@ module _ (w : ℕ) (W : 1 ≤ w) (β : ℚ) (β-nn : NonNeg β) (β-one : β ≼
         more r =
             let b : t < limit = omega arith in
             let (q, lev) = r .now b in
-            let here = clear w β β-nn β-one p room (M t) (M-nn t) (apart t) (r .settled .steps) (r .settled .few) (r .settled .level) (m t) (few t) (C t) (C-nn t q) (phase t) (phases t) lev in
+            let here = clear w β β-nn β-one p room (M t) (M-nn t) (apart t) (r .settled .steps) (r .settled .few) (r .settled .level) (m t) (few t) (C t)
+            (C-nn t q) (phase t) (phases t) lev in
             let scales : (i : ℕ) → i < suc t → Posℚ (S i) = λ i j. up-to (λ i. Posℚ (S i)) t (r .scales) q i j in
             let steps : (i : ℕ) → i < suc t → Clear β (m i) w (C i) (M i) = λ i j. up-to (λ i. Clear β (m i) w (C i) (M i)) t (r .steps) here i j in
             let own = step t (phase t) lev in
@@ -162,7 +164,8 @@ module _ (w : ℕ) (W : 1 ≤ w) (β : ℚ) (β-nn : NonNeg β) (β-one : β ≼
               now = λ d. go d (near (suc t) l scales steps) own o (next t);
             }
           where
-            go : suc t < limit → ((j : ℕ) → j < n → Close (suc t * c) (at ieee (v (suc t)) j) (M (suc t) j) (M (suc t) j)) → Level n (θ β p) (suc (phase t)) (M (suc t)) → suc (phase t) ≤ 4
+            go : suc t < limit → ((j : ℕ) → j < n → Close (suc t * c) (at ieee (v (suc t)) j) (M (suc t) j) (M (suc t) j))
+                → Level n (θ β p) (suc (phase t)) (M (suc t)) → suc (phase t) ≤ 4
                 → (((L (suc t) ≡ unit) × (phase (suc t) ≡ suc (phase t))) ⊎ (L (suc t) ≡ largest ieee nought (v (suc t))))
                 → Posℚ (S (suc t)) × Level n (θ β p) (phase (suc t)) (λ j. C (suc t) ⋆ M (suc t) j)
             go d near own o (inl (e, f)) = unscaled (suc t) (phase (suc t)) e (subst (λ (s : ℕ). Level n (θ β p) s (M (suc t))) (sym f) own)

@@ -71,7 +71,8 @@ module _ {t : ℚ} (t-nn : NonNeg t) where
       subst₂ _≼_ (ring (t ⋆ t) r (h .x) c A (h .y) B ∙ ap (λ q. ((t ⋆ t) ⋆ r) ⋆ q) (sym (h .is))) (sym (k .is))
       (≼-add
       (≼-mul (nn-mul _ _ (nn-mul _ _ t-nn t-nn) (≼-nn t-nn (h .x-weight .least))) (nn-mul _ _ C nA′) (weight-ratio t-nn (h .x-weight) (k .x-weight)) (≼-times c C a))
-      (≼-mul (nn-mul _ _ (nn-mul _ _ t-nn t-nn) (≼-nn t-nn (h .y-weight .least))) (nn-mul _ _ C nB′) (weight-ratio t-nn (h .y-weight) (k .y-weight)) (≼-times c C b)))
+      (≼-mul (nn-mul _ _ (nn-mul _ _ t-nn t-nn) (≼-nn t-nn (h .y-weight .least))) (nn-mul _ _ C nB′) (weight-ratio t-nn (h .y-weight) (k .y-weight))
+      (≼-times c C b)))
     where
       one : (s r x c A : ℚ) → (s ⋆ x) ⋆ (c ⋆ (r ⋆ A)) ≡ (s ⋆ r) ⋆ (x ⋆ (c ⋆ A))
       one s r x c A = simp sorted

@@ -56,11 +56,14 @@ module _ (J : Job Float) (ok : Checked (λ x. T (positive x)) J) (β : ℚ) (c v
 
   ahead-near : Near J (suc v * c) (forward ieee J v) (exactForward J v) (exactForward J v)
   unfolding forward
-  ahead-near = before-near J β (normal .β-nn) (normal .β-one) (ok .window) (normal .moderate) c (normal .few) (suc v) (normal .clear-ahead) (forward-finite J ok v v (omega arith) Z-fin)
+  ahead-near =
+      before-near J β (normal .β-nn) (normal .β-one) (ok .window) (normal .moderate) c (normal .few) (suc v) (normal .clear-ahead)
+      (forward-finite J ok v v (omega arith) Z-fin)
 
   back-near : Near J ((J .last - v) * c) (backward ieee J v) (exactBackward J v) (exactBackward J v)
   unfolding backward
-  back-near = after-near J β (normal .β-nn) (normal .β-one) (ok .window) (normal .moderate) c (normal .few) (J .last - v) (normal .clear-back) (backward-finite J ok v Z-fin)
+  back-near =
+      after-near J β (normal .β-nn) (normal .β-one) (ok .window) (normal .moderate) c (normal .few) (J .last - v) (normal .clear-back) (backward-finite J ok v Z-fin)
 
   F-nn : (j : ℕ) → j < n → NonNeg (F j)
   F-nn j l = within-nn (ahead-near j l .size)
@@ -72,7 +75,8 @@ module _ (J : Job Float) (ok : Checked (λ x. T (positive x)) J) (β : ℚ) (c v
   count = ap suc (let e : suc (J .last) ≡ suc v + (J .last - v) = omega arith in omega (arith, ap (λ (m : ℕ). m * c) e))
 
   -- A vector as close as the forward one, times the backward one.
-  term-near : (x : List Float) (g : List ℚ) → Near J (suc v * c) x g (exactForward J v) → (j : ℕ) → j < n → T (finite (mul binary64 (at ieee x j) (at ieee (backward ieee J v) j)))
+  term-near : (x : List Float) (g : List ℚ) → Near J (suc v * c) x g (exactForward J v) → (j : ℕ) → j < n
+      → T (finite (mul binary64 (at ieee x j) (at ieee (backward ieee J v) j)))
       → Close k (mul binary64 (at ieee x j) (at ieee (backward ieee J v) j)) (at rational g j ⋆ B j) (mass j)
   term-near x g near j l f =
       let b = back-near j l in
@@ -115,8 +119,10 @@ module _ (J : Job Float) (ok : Checked (λ x. T (positive x)) J) (β : ℚ) (c v
     far-near : Near J (suc v * c) (propagated ieee J u (v - u)) g (exactForward J v)
     unfolding g
     far-near =
-        subst (λ (m : ℕ). Near J (suc m * c) (propagated ieee J u (v - u)) (propagatedOf rational (atValues J) (exactForward J) (ahead J) (exactBackward J) u (v - u)) (exactForward J m)) e
-        (propagated-near J β (normal .β-nn) (normal .β-one) (ok .window) (normal .moderate) c (normal .few) ok u (v - u) (rw e (normal .clear-ahead)) (rw e (forward-finite J ok v v (omega arith) Z-fin)))
+        subst (λ (m : ℕ). Near J (suc m * c) (propagated ieee J u (v - u))
+        (propagatedOf rational (atValues J) (exactForward J) (ahead J) (exactBackward J) u (v - u)) (exactForward J m)) e
+        (propagated-near J β (normal .β-nn) (normal .β-one) (ok .window) (normal .moderate) c (normal .few) ok u (v - u) (rw e (normal .clear-ahead))
+        (rw e (forward-finite J ok v v (omega arith) Z-fin)))
 
     far-finite : (j : ℕ) → j < n → T (finite (mul binary64 (at ieee (propagated ieee J u (v - u)) j) (at ieee (backward ieee J v) j)))
     far-finite j l =

@@ -65,7 +65,8 @@ module _ {k : ℕ} {x : Float} {m : ℚ} (g : gain k ⊹ gain k ≼ oneℚ) (c :
   near-low =
       let l = within-≼ (within-neg (c .small)) in
       add-cancel (h ⋆ m) (value x) (h ⋆ m)
-      (≼-trans (subst (λ z. z ≼ value x ⊹ gain k ⋆ m) (sym (halved m)) (record { rest = l .rest; is = ap₂ addℚ (c .is) (l .is) ∙ add-take m (c .error) (l .rest); nonneg = l .nonneg }))
+      (≼-trans (subst (λ z. z ≼ value x ⊹ gain k ⋆ m) (sym (halved m))
+      (record { rest = l .rest; is = ap₂ addℚ (c .is) (l .is) ∙ add-take m (c .error) (l .rest); nonneg = l .nonneg }))
       (≼-add (≼-refl (value x)) slight))
 
   near-high : value x ≼ m ⊹ m
@@ -107,7 +108,8 @@ module _ (n k : ℕ) (g : gain k ⊹ gain k ≼ oneℚ) (v : List Float) (len : 
   found : (j : ℕ) × ((j < n) × (largest ieee nought v ≡ at ieee v j))
   found = go (top .from)
     where
-      go : ((largest ieee nought v ≡ nought) ⊎ ((j : ℕ) × ((j < length v) × (largest ieee nought v ≡ at ieee v j)))) → (j : ℕ) × ((j < n) × (largest ieee nought v ≡ at ieee v j))
+      go : ((largest ieee nought v ≡ nought) ⊎ ((j : ℕ) × ((j < length v) × (largest ieee nought v ≡ at ieee v j))))
+          → (j : ℕ) × ((j < n) × (largest ieee nought v ≡ at ieee v j))
       go (inl e) = absurd (true≢false (sym top-pos ∙ ap (λ (x : Float). posℚ (value x)) e ∙ nought-not))
       go (inr (j, (l, e))) = (j, (omega arith, e))
 

@@ -38,7 +38,8 @@ module _ (w : ℕ) (β : ℚ) (β-nn : NonNeg β) (β-one : β ≼ oneℚ) (p : 
   under x y X N h = subst (λ z. x ⋆ y ≼ z) (*-one x) (≼-times x X h)
 
   lowest-power : (s : ℕ) → s ≤ 8 → lowest β p w ≼ power (θ β p) s
-  lowest-power s h = ≼-trans (under (power (θ β p) 8) (power (σ β p) w) (θs-nn 8) σs-nn (power-one (σ β p) (σ-nn β β-nn β-one p) (σ-one β β-nn β-one p) w)) (less 8 s h)
+  lowest-power s h =
+      ≼-trans (under (power (θ β p) 8) (power (σ β p) w) (θs-nn 8) σs-nn (power-one (σ β p) (σ-nn β β-nn β-one p) (σ-one β β-nn β-one p) w)) (less 8 s h)
 
   lowest-spread : (s : ℕ) → s ≤ 7 → lowest β p w ≼ θ β p ⋆ (power (σ β p) w ⋆ power (θ β p) s)
   unfolding power
@@ -61,9 +62,12 @@ module _ (w : ℕ) (β : ℚ) (β-nn : NonNeg β) (β-one : β ≼ oneℚ) (p : 
   module _ (room : Room β p w) where
     many : nat 256 ⋆ smallest ≼ lowest β p w
     many =
-        let e : nat (2 ^ 53) ⋆ (ε ⋆ lowest β p w) ≡ lowest β p w = sym (*-assoc (nat (2 ^ 53)) ε (lowest β p w)) ∙ ap (λ z. z ⋆ lowest β p w) ε-one ∙ one-* (lowest β p w) in
-        let x : nat (2 ^ 53) ⋆ (nat (n * 16) ⋆ smallest) ≼ lowest β p w = subst (λ z. nat (2 ^ 53) ⋆ (nat (n * 16) ⋆ smallest) ≼ z) e (≼-times (nat (2 ^ 53)) (nat-nn (2 ^ 53)) room) in
-        let q : nat 256 ≼ nat (2 ^ 53) ⋆ nat (n * 16) = subst (λ z. nat 256 ≼ z) (nat-mul (2 ^ 53) (n * 16)) (nat-mono 256 (2 ^ 53 * (n * 16)) (large n (pow-pos w))) in
+        let e : nat (2 ^ 53) ⋆ (ε ⋆ lowest β p w) ≡ lowest β p w =
+        sym (*-assoc (nat (2 ^ 53)) ε (lowest β p w)) ∙ ap (λ z. z ⋆ lowest β p w) ε-one ∙ one-* (lowest β p w) in
+        let x : nat (2 ^ 53) ⋆ (nat (n * 16) ⋆ smallest) ≼ lowest β p w =
+        subst (λ z. nat (2 ^ 53) ⋆ (nat (n * 16) ⋆ smallest) ≼ z) e (≼-times (nat (2 ^ 53)) (nat-nn (2 ^ 53)) room) in
+        let q : nat 256 ≼ nat (2 ^ 53) ⋆ nat (n * 16) =
+        subst (λ z. nat 256 ≼ z) (nat-mul (2 ^ 53) (n * 16)) (nat-mono 256 (2 ^ 53 * (n * 16)) (large n (pow-pos w))) in
         ≼-trans (≼-mul (nat-nn 256) smallest-nn q (≼-refl smallest)) (subst (λ z. z ≼ lowest β p w) (sym (*-assoc (nat (2 ^ 53)) (nat (n * 16)) smallest)) x)
       where
         large : (x : ℕ) → 0 < x → 256 ≤ 2 ^ 53 * (x * 16)
@@ -95,7 +99,8 @@ module _ (w : ℕ) (β : ℚ) (β-nn : NonNeg β) (β-one : β ≼ oneℚ) (p : 
         not-large j l =
             let m = M j in
             let x : power (θ β p) s₂ ⋆ m ≼ nat 64 = ≼-trans (own .most j l) (nat-mono (4 * 2 ^ s₂) 64 (let q = pow-mono S₂ in omega arith)) in
-            let y : (nat 128 ⋆ smallest) ⋆ m ≼ nat 64 = ≼-trans (≼-mul (nn-mul _ _ (nat-nn 128) smallest-nn) (M-nn j l) (≼-trans (fewer 128 (omega arith)) (lowest-power s₂ (omega arith))) (≼-refl m)) x in
+            let y : (nat 128 ⋆ smallest) ⋆ m ≼ nat 64 =
+            ≼-trans (≼-mul (nn-mul _ _ (nat-nn 128) smallest-nn) (M-nn j l) (≼-trans (fewer 128 (omega arith)) (lowest-power s₂ (omega arith))) (≼-refl m)) x in
             cancel (nat 128) _ _ (above-nat 128 (omega arith))
             (subst₂ _≼_ (ring (nat 128) smallest m) (sym (nat-add 64 64) ∙ sym (*-one (nat 128))) (≼-add y y))
           where
@@ -118,11 +123,13 @@ module _ (w : ℕ) (β : ℚ) (β-nn : NonNeg β) (β-one : β ≼ oneℚ) (p : 
                 let I = level .inside in
                 let pw = power β m in
                 let x : power (θ β p) s₂ ⋆ power (θ β p) s ≼ nat 256 ⋆ c =
-                ≼-trans (subst (λ z. power (θ β p) s₂ ⋆ power (θ β p) s ≼ z) (ring (power (θ β p) s₂) (nat 4) c (M i)) (≼-times (power (θ β p) s₂) (θs-nn s₂) (level .least)))
+                ≼-trans (subst (λ z. power (θ β p) s₂ ⋆ power (θ β p) s ≼ z) (ring (power (θ β p) s₂) (nat 4) c (M i))
+                (≼-times (power (θ β p) s₂) (θs-nn s₂) (level .least)))
                 (≼-trans (≼-times (nat 4 ⋆ c) (nn-mul _ _ (nat-nn 4) C) (≼-trans (own .most i I) (nat-mono (4 * 2 ^ s₂) 64 (let q = pow-mono S₂ in omega arith))))
                 (≼-of _ _ (ring₂ (nat 4) c (nat 64) ∙ ap (λ z. z ⋆ c) (sym (nat-mul 4 64))))) in
                 let y : lowest β p w ≼ θ β p ⋆ (power (θ β p) s₂ ⋆ power (θ β p) s) =
-                ≼-trans (lowest-power (s₂ + s + 1) (omega arith)) (≼-of _ _ (power-add (θ β p) (s₂ + s) 1 ∙ ap₂ mulℚ (power-add (θ β p) s₂ s) (power-first (θ β p)) ∙ *-comm _ (θ β p))) in
+                ≼-trans (lowest-power (s₂ + s + 1) (omega arith))
+                (≼-of _ _ (power-add (θ β p) (s₂ + s) 1 ∙ ap₂ mulℚ (power-add (θ β p) s₂ s) (power-first (θ β p)) ∙ *-comm _ (θ β p))) in
                 down 256 (pw ⋆ c) (omega arith) (omega arith)
                 (≼-trans y (≼-trans (≼-mul (θ-nn β β-nn β-one p) (nn-mul _ _ (nat-nn 256) C) (θ-power m few) x) (≼-of _ _ (*-left pw (nat 256) c))))
               where
@@ -134,17 +141,20 @@ module _ (w : ℕ) (β : ℚ) (β-nn : NonNeg β) (β-one : β ≼ oneℚ) (p : 
 
             entry : (j : ℕ) → j < n → smallest ≼ β ⋆ M j
             entry j l =
-                let x = all oneℚ s₂ (own .index) j (nn-frac 1 0) (own .inside) l (subst (λ z. power (θ β p) s₂ ≼ nat 4 ⋆ z) (sym (one-* (M (own .index)))) (own .least)) in
+                let x = all oneℚ s₂ (own .index) j (nn-frac 1 0) (own .inside) l
+                (subst (λ z. power (θ β p) s₂ ≼ nat 4 ⋆ z) (sym (one-* (M (own .index)))) (own .least)) in
                 let y : power (σ β p) w ⋆ power (θ β p) s₂ ≼ nat 4 ⋆ M j = subst (λ z. power (σ β p) w ⋆ power (θ β p) s₂ ≼ nat 4 ⋆ z) (one-* (M j)) x in
                 down 4 (β ⋆ M j) (omega arith) (omega arith)
-                (≼-trans (lowest-spread s₂ (omega arith)) (≼-trans (≼-mul (θ-nn β β-nn β-one p) (nn-mul _ _ (nat-nn 4) (M-nn j l)) θ-β y) (≼-of _ _ (*-left β (nat 4) (M j)))))
+                (≼-trans (lowest-spread s₂ (omega arith))
+                (≼-trans (≼-mul (θ-nn β β-nn β-one p) (nn-mul _ _ (nat-nn 4) (M-nn j l)) θ-β y) (≼-of _ _ (*-left β (nat 4) (M j)))))
 
             result : (j : ℕ) → j < n → smallest ≼ (power β m ⋆ c) ⋆ (β ⋆ M j)
             result j l =
                 let x = all c s (level .index) j C (level .inside) l (level .least) in
                 let t : θ β p ≼ β ⋆ power β m = ≼-times β β-nn (power-less β β-nn β-one p m few) in
                 down 4 _ (omega arith) (omega arith)
-                (≼-trans (lowest-spread s (omega arith)) (≼-trans (≼-mul (θ-nn β β-nn β-one p) (nn-mul _ _ (nat-nn 4) (nn-mul _ _ C (M-nn j l))) t x) (≼-of _ _ (ring β (power β m) (nat 4) c (M j)))))
+                (≼-trans (lowest-spread s (omega arith)) (≼-trans (≼-mul (θ-nn β β-nn β-one p) (nn-mul _ _ (nat-nn 4) (nn-mul _ _ C (M-nn j l))) t x)
+                (≼-of _ _ (ring β (power β m) (nat 4) c (M j)))))
               where
                 ring : (b q k c m : ℚ) → (b ⋆ q) ⋆ (k ⋆ (c ⋆ m)) ≡ k ⋆ ((q ⋆ c) ⋆ (b ⋆ m))
                 ring b q k c m = simp sorted
@@ -165,7 +175,8 @@ module _ (w : ℕ) (β : ℚ) (β-nn : NonNeg β) (β-one : β ≼ oneℚ) (p : 
         ≼-trans (≼-mul (θs-nn s) (nn-mul _ _ (nat-nn 4) (B-nn i I)) (f .least) x)
         (≼-trans (≼-of _ _ (ring (nat 4) (F i) (B i) ∙ ap (λ z. z ⋆ (F i ⋆ B i)) (sym (nat-mul 4 4)))) (≼-times (nat 16) (nat-nn 16) (term i I))) in
         let z : lowest β p w ≼ power (θ β p) s ⋆ (power (σ β p) w ⋆ power (θ β p) r) =
-        ≼-trans (≼-mul (θs-nn 8) σs-nn (≼-trans (less 8 (s + r) (omega (arith, settled .few, settled′ .few))) (≼-of _ _ (power-add (θ β p) s r))) (≼-refl (power (σ β p) w))) (≼-of _ _ (ring₂ (power (θ β p) s) (power (θ β p) r) (power (σ β p) w))) in
+        ≼-trans (≼-mul (θs-nn 8) σs-nn (≼-trans (less 8 (s + r) (omega (arith, settled .few, settled′ .few))) (≼-of _ _ (power-add (θ β p) s r)))
+        (≼-refl (power (σ β p) w))) (≼-of _ _ (ring₂ (power (θ β p) s) (power (θ β p) r) (power (σ β p) w))) in
         cancel (nat 16) _ _ (above-nat 16 (omega arith))
         (subst₂ _≼_ (ap (λ q. q ⋆ smallest) (nat-mul n 16) ∙ ring₃ (nat n) (nat 16) smallest) (*-left ε (nat 16) Z) (≼-trans room (≼-times ε ε-nn (≼-trans z y))))
       where

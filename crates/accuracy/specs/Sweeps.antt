@@ -78,19 +78,27 @@ module _ (J : Job Float) where
     module _ (t k : ℕ) (sc : Float) (q : ℚ) (is : value sc ≡ q) (q-nn : NonNeg q) (v : List Float) (g m : List ℚ) (near : Near k v g m) (clear : Clearly t q m) where
       forward-near : Finite (J .window) (roundedForward t sc v) → Near (k + c) (roundedForward t sc v) (exactlyForward t q g) (exactlyForward t q m)
       forward-near fin =
-          step-near t k (roundedForward t sc v) (exactlyForward t q g) (exactlyForward t q m) _ _ _ (E.forward-at ieee (stepOf J t) sc (J .window) v) (entry g) (entry m) fin
+          step-near t k (roundedForward t sc v) (exactlyForward t q g) (exactlyForward t q m) _ _ _ (E.forward-at ieee (stepOf J t) sc (J .window) v) (entry g)
+          (entry m) fin
           (forwardAt-close β β-nn β-one (J .window) W (stepOf J t) (moderate t) sc q is q-nn k (at ieee v) (at rational g) (at rational m) near clear)
         where
-          entry : (h : List ℚ) (j : ℕ) → j < 2 ^ J .window → at rational (exactlyForward t q h) j ≡ forwardAt rational (J .window) (stepAtValue (stepOf J t)) q (at rational h) j
-          entry h j l = E.forward-at rational (stepOf (atValues J) t) q (J .window) h j l ∙ ap (λ s. forwardAt rational (J .window) s q (at rational h) j) (stepOf-values J t)
+          entry : (h : List ℚ) (j : ℕ) → j < 2 ^ J .window
+              → at rational (exactlyForward t q h) j ≡ forwardAt rational (J .window) (stepAtValue (stepOf J t)) q (at rational h) j
+          entry h j l =
+              E.forward-at rational (stepOf (atValues J) t) q (J .window) h j l
+              ∙ ap (λ s. forwardAt rational (J .window) s q (at rational h) j) (stepOf-values J t)
 
       backward-near : Finite (J .window) (roundedBackward t sc v) → Near (k + c) (roundedBackward t sc v) (exactlyBackward t q g) (exactlyBackward t q m)
       backward-near fin =
-          step-near t k (roundedBackward t sc v) (exactlyBackward t q g) (exactlyBackward t q m) _ _ _ (E.backward-at ieee (stepOf J t) sc (J .window) v) (entry g) (entry m) fin
+          step-near t k (roundedBackward t sc v) (exactlyBackward t q g) (exactlyBackward t q m) _ _ _ (E.backward-at ieee (stepOf J t) sc (J .window) v)
+          (entry g) (entry m) fin
           (backwardAt-close β β-nn β-one (J .window) W (stepOf J t) (moderate t) sc q is q-nn k (at ieee v) (at rational g) (at rational m) near clear)
         where
-          entry : (h : List ℚ) (j : ℕ) → j < 2 ^ J .window → at rational (exactlyBackward t q h) j ≡ backwardAt rational (J .window) (stepAtValue (stepOf J t)) q (at rational h) j
-          entry h j l = E.backward-at rational (stepOf (atValues J) t) q (J .window) h j l ∙ ap (λ s. backwardAt rational (J .window) s q (at rational h) j) (stepOf-values J t)
+          entry : (h : List ℚ) (j : ℕ) → j < 2 ^ J .window
+              → at rational (exactlyBackward t q h) j ≡ backwardAt rational (J .window) (stepAtValue (stepOf J t)) q (at rational h) j
+          entry h j l =
+              E.backward-at rational (stepOf (atValues J) t) q (J .window) h j l
+              ∙ ap (λ s. backwardAt rational (J .window) s q (at rational h) j) (stepOf-values J t)
 
     -- The forward steps before t leave the normal range nowhere, and their scales are above zero;
     pub record ClearAhead (t : ℕ) : Type 0 where
@@ -147,11 +155,13 @@ module _ (J : Job Float) where
       propagated-finite u i fin j l = propagated-under J ok u i j .size (fin j l) .isFinite
 
       pub propagated-near : (u i : ℕ) → ClearAhead (suc (u + i)) → Finite (J .window) (forward ieee J (u + i))
-          → Near (suc (u + i) * c) (propagated ieee J u i) (propagatedOf rational (atValues J) (exactForward J) (ahead J) (exactBackward J) u i) (exactForward J (u + i))
+          → Near (suc (u + i) * c) (propagated ieee J u i) (propagatedOf rational (atValues J) (exactForward J) (ahead J) (exactBackward J) u i)
+          (exactForward J (u + i))
       unfolding propagated propagatedOf forward before ahead
       propagated-near u zero clear fin j l =
           let e : u + 0 ≡ u = add-zero u in
-          subst (λ (n : ℕ). Near (suc n * c) (alternate ieee (J .window) (forward ieee J u)) (alternate rational (J .window) (exactForward J u)) (exactForward J n)) (sym e)
+          subst (λ (n : ℕ). Near (suc n * c) (alternate ieee (J .window) (forward ieee J u)) (alternate rational (J .window) (exactForward J u))
+          (exactForward J n)) (sym e)
           (alternate-near (suc u * c) (forward ieee J u) (exactForward J u) (before-near (suc u) (rw e at clear) (rw e at fin))) j l
       propagated-near u (suc i) clear fin j l =
           let t = u + suc i in
@@ -160,9 +170,12 @@ module _ (J : Job Float) where
           let earlier : ClearAhead (suc (u + i)) = record { scales = λ n l. clear .scales n (omega arith); steps = λ n l. clear .steps n (omega arith) } in
           let fin₁ = forward-finite-before J ok (u + i) (rw e at fin) in
           let ih = propagated-near u i earlier fin₁ in
-          let ih₁ = subst (λ (n : ℕ). Near (suc (u + i) * c) (propagated ieee J u i) (propagatedOf rational (atValues J) (exactForward J) (ahead J) (exactBackward J) u i) (before J n)) (sym e) ih in
+          let ih₁ = subst (λ (n : ℕ). Near (suc (u + i) * c) (propagated ieee J u i)
+          (propagatedOf rational (atValues J) (exactForward J) (ahead J) (exactBackward J) u i) (before J n)) (sym e) ih in
           let k : suc (u + i) * c + c ≡ suc (u + suc i) * c = ap (λ (n : ℕ). n * c + c) (sym e) ∙ omega arith in
-          subst (λ (k : ℕ). Near k (propagated ieee J u (suc i)) (propagatedOf rational (atValues J) (exactForward J) (ahead J) (exactBackward J) u (suc i)) (exactForward J t)) k
+          subst (λ (k : ℕ). Near k (propagated ieee J u (suc i)) (propagatedOf rational (atValues J) (exactForward J) (ahead J) (exactBackward J) u (suc i))
+          (exactForward J t)) k
           (forward-near t (suc (u + i) * c) sc (ahead J t) (positively-is (value sc) (clear .scales t (omega arith))) (nn-pos _ (positively-pos (value sc)))
-          (propagated ieee J u i) (propagatedOf rational (atValues J) (exactForward J) (ahead J) (exactBackward J) u i) (before J t) ih₁ (clear .steps t (omega arith))
+          (propagated ieee J u i) (propagatedOf rational (atValues J) (exactForward J) (ahead J) (exactBackward J) u i) (before J t) ih₁
+          (clear .steps t (omega arith))
           (propagated-finite u (suc i) fin)) j l
