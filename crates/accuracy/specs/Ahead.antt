@@ -38,12 +38,6 @@ module _ (J : Job Float) (ok : Checked (λ x. T (positive x)) J) (β : ℚ) (β-
   abbrev w : ℕ
   w = J .window
 
-  abbrev W : 1 ≤ w
-  W = ok .window
-
-  abbrev n : ℕ
-  n = 2 ^ w
-
   fair : EdgesNotMinus (J .edges)
   fair = checked-notMinus J ok
 
@@ -52,14 +46,14 @@ module _ (J : Job Float) (ok : Checked (λ x. T (positive x)) J) (β : ℚ) (β-
   ahead-finite zero l j b = subst (λ (x : Float). T (finite x)) (sym (E.start-at ieee w j b)) tt
   ahead-finite (suc t) l j b = forward-finite J ok v t (omega arith) Z-fin j b
 
-  ahead-signs : (t j : ℕ) → j < n → T (notMinus (at ieee ((beforeStep ieee J t) .0) j))
+  ahead-signs : (t j : ℕ) → j < 2 ^ w → T (notMinus (at ieee ((beforeStep ieee J t) .0) j))
   unfolding beforeStep forward
   ahead-signs zero j l = start-beneath w j .sign
   ahead-signs (suc t) j l = forward-beneath J fair t j .sign
 
-  ahead-fine : (t : ℕ) → t < suc v → T (finite (div binary64 unit ((beforeStep ieee J t) .1)))
+  ahead-scale : (t : ℕ) → t < suc v → T (finite (div binary64 unit ((beforeStep ieee J t) .1)))
   unfolding beforeStep up scale
-  ahead-fine t l =
+  ahead-scale t l =
       let s = stepOf J t in
       let sc = scale ieee J t in
       let x = (beforeStep ieee J t) .0 in
@@ -70,12 +64,12 @@ module _ (J : Job Float) (ok : Checked (λ x. T (positive x)) J) (β : ℚ) (β-
       (mul binary64 (em ieee (s .left)) (at ieee x (2 ^ (w - 1) + 0)))) (E.upAt ieee s sc 0) g .1 in
       mul-finite binary64 _ sc u .1
 
-  lengths-ahead : (t : ℕ) → length ((beforeStep ieee J t) .0) ≡ n
+  lengths-ahead : (t : ℕ) → length ((beforeStep ieee J t) .0) ≡ 2 ^ w
   unfolding beforeStep start forwardStep
-  lengths-ahead zero = tabulate-length _ n
-  lengths-ahead (suc t) = tabulate-length _ n
+  lengths-ahead zero = tabulate-length _ (2 ^ w)
+  lengths-ahead (suc t) = tabulate-length _ (2 ^ w)
 
-  course-ahead : Course w W β β-nn β-one p (p + 5) (suc v)
+  course-ahead : Course w (ok .window) β β-nn β-one p (p + 5) (suc v)
   unfolding before beforeStep ahead scale
   course-ahead = record {
     m = λ i. length ((stepOf J i) .others);
@@ -84,33 +78,33 @@ module _ (J : Job Float) (ok : Checked (λ x. T (positive x)) J) (β : ℚ) (β-
     L = λ i. (beforeStep ieee J i) .1;
     M = λ i j. at rational (before J i) j;
     phase = λ t. phase (J .manner) (t % 4);
-    M-nn = S.before-nn J W β β-nn β-one moderate p few;
-    apart = S.before-spread J W β β-nn β-one moderate p few;
+    M-nn = S.before-nn J (ok .window) β β-nn β-one moderate p few;
+    apart = S.before-spread J (ok .window) β β-nn β-one moderate p few;
     phases = λ t. phase-most (J .manner) (t % 4) (omega arith);
     start-M = λ j l. E.start-at rational w j l;
     start-L = refl;
     step =
-        λ t s level. ahead-level w W (θ β p) (θ-nn β β-nn β-one p) (θ-one β β-nn β-one p) (ahead J t) (nn-pos _ (ahead-pos J t)) (at rational (before J t))
+        λ t s level. ahead-level w (ok .window) (θ β p) (θ-nn β β-nn β-one p) (θ-one β β-nn β-one p) (ahead J t) (nn-pos _ (ahead-pos J t)) (at rational (before J t))
         (at rational (before J (suc t)))
-        (S.before-nn J W β β-nn β-one moderate p few t) s level (S.before-mix J W β β-nn β-one moderate p few t);
+        (S.before-nn J (ok .window) β β-nn β-one moderate p few t) s level (S.before-mix J (ok .window) β β-nn β-one moderate p few t);
     next = λ t. phase-next (J .manner) 3 t (t % 4) (suc t % 4) _ (λ h. omega (arith, h));
     lengths = lengths-ahead;
-    good = λ t l j b. record { isFinite = ahead-finite t l j b; sign = ahead-signs t j b };
-    fine = ahead-fine;
-    near = λ t l scales steps. before-near J β β-nn β-one W moderate (p + 5) (step-roundings J p few) t (record { scales = scales; steps = steps })
+    entries = λ t l j b. record { isFinite = ahead-finite t l j b; sign = ahead-signs t j b };
+    finite-scale = ahead-scale;
+    near = λ t l scales steps. before-near J β β-nn β-one (ok .window) moderate (p + 5) (step-roundings J p few) t (record { scales = scales; steps = steps })
         (ahead-finite t l);
   }
 
   module _ (room : Room β p w) (β-pos : Posℚ β) (short : (suc v) * (p + 5) ≤ 2 ^ 26) where
-    reached : Reached w W β β-nn β-one p room β-pos (p + 5) (suc v) short course-ahead (suc v)
-    reached = reach w W β β-nn β-one p room β-pos (p + 5) (suc v) short course-ahead (suc v) (omega arith)
+    reached : Reached w (ok .window) β β-nn β-one p room β-pos (p + 5) (suc v) short course-ahead (suc v)
+    reached = reach w (ok .window) β β-nn β-one p room β-pos (p + 5) (suc v) short course-ahead (suc v) (omega arith)
 
     -- No step leaves the normal range,
-    pub ahead-clear : ClearAhead J β β-nn β-one W moderate (p + 5) (step-roundings J p few) (suc v)
+    pub ahead-clear : ClearAhead J β β-nn β-one (ok .window) moderate (p + 5) (step-roundings J p few) (suc v)
     unfolding course-ahead ahead scale
     ahead-clear = record { scales = reached .scales; steps = reached .steps }
 
     -- and the last vector is a few steps after a rescaling.
-    pub ahead-settled : Settled n (θ β p) (at rational (before J (suc v)))
+    pub ahead-settled : Settled (2 ^ w) (θ β p) (at rational (before J (suc v)))
     unfolding course-ahead
     ahead-settled = reached .settled

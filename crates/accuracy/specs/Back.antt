@@ -41,12 +41,6 @@ module _ (J : Job Float) (ok : Checked (λ x. T (positive x)) J) (β : ℚ) (β-
   abbrev w : ℕ
   w = J .window
 
-  abbrev W : 1 ≤ w
-  W = ok .window
-
-  abbrev n : ℕ
-  n = 2 ^ w
-
   fair : EdgesNotMinus (J .edges)
   fair = checked-notMinus J ok
 
@@ -59,7 +53,7 @@ module _ (J : Job Float) (ok : Checked (λ x. T (positive x)) J) (β : ℚ) (β-
   after-finite (suc d) i h =
       let e : suc d + i ≡ suc (d + i) = omega arith in
       after-finite d i (backwardStep-finite w (stepOf J (J .last - (d + i))) (div binary64 unit ((afterSteps ieee J (d + i)) .1))
-      ((afterSteps ieee J (d + i)) .0) W (rw e at h))
+      ((afterSteps ieee J (d + i)) .0) (ok .window) (rw e at h))
 
   back-finite : (i : ℕ) → i ≤ J .last - v → Finite w ((afterSteps ieee J i) .0)
   unfolding backward
@@ -73,9 +67,9 @@ module _ (J : Job Float) (ok : Checked (λ x. T (positive x)) J) (β : ℚ) (β-
       let e : J .last - (J .last - i) ≡ i = omega arith in
       subst (λ (i : ℕ). T (notMinus (at ieee ((afterSteps ieee J i) .0) j))) e (backward-beneath J fair (J .last - i) j .sign)
 
-  back-fine : (i : ℕ) → i < J .last - v → T (finite (div binary64 unit ((afterSteps ieee J i) .1)))
+  back-scale : (i : ℕ) → i < J .last - v → T (finite (div binary64 unit ((afterSteps ieee J i) .1)))
   unfolding afterSteps up
-  back-fine i l =
+  back-scale i l =
       let s = stepOf J (J .last - i) in
       let sc = div binary64 unit ((afterSteps ieee J i) .1) in
       let x = (afterSteps ieee J i) .0 in
@@ -89,12 +83,12 @@ module _ (J : Job Float) (ok : Checked (λ x. T (positive x)) J) (β : ℚ) (β-
       let u = mul-finite binary64 (at ieee x 0) (E.upAt ieee s sc 0) b .1 in
       mul-finite binary64 _ sc u .1
 
-  lengths-back : (i : ℕ) → length ((afterSteps ieee J i) .0) ≡ n
+  lengths-back : (i : ℕ) → length ((afterSteps ieee J i) .0) ≡ 2 ^ w
   unfolding afterSteps start backwardStep
-  lengths-back zero = tabulate-length _ n
-  lengths-back (suc i) = tabulate-length _ n
+  lengths-back zero = tabulate-length _ (2 ^ w)
+  lengths-back (suc i) = tabulate-length _ (2 ^ w)
 
-  course-back : Course w W β β-nn β-one p (p + 5) (J .last - v)
+  course-back : Course w (ok .window) β β-nn β-one p (p + 5) (J .last - v)
   unfolding after afterSteps back
   course-back = record {
     m = λ i. length ((stepOf J (J .last - i)) .others);
@@ -103,32 +97,32 @@ module _ (J : Job Float) (ok : Checked (λ x. T (positive x)) J) (β : ℚ) (β-
     L = λ i. (afterSteps ieee J i) .1;
     M = λ i j. at rational (after J i) j;
     phase = λ i. phase (J .manner) (3 - (J .last - i) % 4);
-    M-nn = S.after-nn J W β β-nn β-one moderate p few;
-    apart = S.after-spread J W β β-nn β-one moderate p few;
+    M-nn = S.after-nn J (ok .window) β β-nn β-one moderate p few;
+    apart = S.after-spread J (ok .window) β β-nn β-one moderate p few;
     phases = λ i. phase-most (J .manner) (3 - (J .last - i) % 4) (omega arith);
     start-M = λ j l. E.start-at rational w j l;
     start-L = refl;
     step =
-        λ t s level. back-level w W (θ β p) (θ-nn β β-nn β-one p) (θ-one β β-nn β-one p) (back J t) (nn-pos _ (back-pos J t)) (at rational (after J t))
+        λ t s level. back-level w (ok .window) (θ β p) (θ-nn β β-nn β-one p) (θ-one β β-nn β-one p) (back J t) (nn-pos _ (back-pos J t)) (at rational (after J t))
         (at rational (after J (suc t)))
-        (S.after-nn J W β β-nn β-one moderate p few t) s level (S.after-mix J W β β-nn β-one moderate p few t);
+        (S.after-nn J (ok .window) β β-nn β-one moderate p few t) s level (S.after-mix J (ok .window) β β-nn β-one moderate p few t);
     next = λ i. phase-next (J .manner) 0 (J .last - i) _ _ _ (turn (J .last - i) (J .last - suc i) (omega arith));
     lengths = lengths-back;
-    good = λ t l j b. record { isFinite = back-finite t l j b; sign = back-signs t j l };
-    fine = back-fine;
-    near = λ t l scales steps. after-near J β β-nn β-one W moderate (p + 5) (step-roundings J p few) t (record { scales = scales; steps = steps }) (back-finite t l);
+    entries = λ t l j b. record { isFinite = back-finite t l j b; sign = back-signs t j l };
+    finite-scale = back-scale;
+    near = λ t l scales steps. after-near J β β-nn β-one (ok .window) moderate (p + 5) (step-roundings J p few) t (record { scales = scales; steps = steps }) (back-finite t l);
   }
 
   module _ (room : Room β p w) (β-pos : Posℚ β) (short : (J .last - v) * (p + 5) ≤ 2 ^ 26) where
-    reached : Reached w W β β-nn β-one p room β-pos (p + 5) (J .last - v) short course-back (J .last - v)
-    reached = reach w W β β-nn β-one p room β-pos (p + 5) (J .last - v) short course-back (J .last - v) (omega arith)
+    reached : Reached w (ok .window) β β-nn β-one p room β-pos (p + 5) (J .last - v) short course-back (J .last - v)
+    reached = reach w (ok .window) β β-nn β-one p room β-pos (p + 5) (J .last - v) short course-back (J .last - v) (omega arith)
 
     -- No step leaves the normal range,
-    pub back-clear : ClearBack J β β-nn β-one W moderate (p + 5) (step-roundings J p few) (J .last - v)
+    pub back-clear : ClearBack J β β-nn β-one (ok .window) moderate (p + 5) (step-roundings J p few) (J .last - v)
     unfolding course-back back
     back-clear = record { scales = reached .scales; steps = reached .steps }
 
     -- and the last vector is a few steps after a rescaling.
-    pub back-settled : Settled n (θ β p) (at rational (after J (J .last - v)))
+    pub back-settled : Settled (2 ^ w) (θ β p) (at rational (after J (J .last - v)))
     unfolding course-back
     back-settled = reached .settled

@@ -40,8 +40,6 @@ module _ (w : ℕ) (W : 1 ≤ w) (β : ℚ) (β-nn : NonNeg β) (β-one : β ≼
   abbrev n : ℕ
   n = 2 ^ w
 
-  -- ---- a sweep: vectors v, rounded, and M, exact, and the stored L that the scales are one over
-
   unit-over-unit : value (div binary64 unit unit) ≡ oneℚ
   unfolding value div
   unit-over-unit = refl
@@ -54,8 +52,8 @@ module _ (w : ℕ) (W : 1 ≤ w) (β : ℚ) (β-nn : NonNeg β) (β-one : β ≼
     most = λ j m. subst (λ z. power (θ β p) s ⋆ z ≼ nat (4 * 2 ^ s)) (e j) (l .most j m);
   }
 
-  -- A sweep of so many steps, c roundings each: its rounded vectors v, its exact ones M, the stored L that the scales are one over, the phases,
-  -- and what is known of them.
+  -- A sweep of so many steps, c roundings each, and what is known of it: m near edges at each step, rounded vectors v, exact ones M, the stored L
+  -- that the scales are one over, and the steps since the last rescaling, its phase.
   pub record Course (c limit : ℕ) : Type 0 where
     pub m : ℕ → ℕ
     pub few : (i : ℕ) → m i ≤ p
@@ -72,14 +70,14 @@ module _ (w : ℕ) (W : 1 ≤ w) (β : ℚ) (β-nn : NonNeg β) (β-one : β ≼
         → Level (2 ^ w) (θ β p) (suc s) (M (suc t))
     pub next : (t : ℕ) → ((L (suc t) ≡ unit) × (phase (suc t) ≡ suc (phase t))) ⊎ (L (suc t) ≡ largest ieee nought (v (suc t)))
     pub lengths : (t : ℕ) → length (v t) ≡ 2 ^ w
-    pub good : (t : ℕ) → t ≤ limit → (j : ℕ) → j < 2 ^ w → Entry (at ieee (v t) j)
-    pub fine : (t : ℕ) → t < limit → T (finite (div binary64 unit (L t)))
+    pub entries : (t : ℕ) → t ≤ limit → (j : ℕ) → j < 2 ^ w → Entry (at ieee (v t) j)
+    pub finite-scale : (t : ℕ) → t < limit → T (finite (div binary64 unit (L t)))
     pub near : (t : ℕ) → t ≤ limit → ((i : ℕ) → i < t → Posℚ (value (div binary64 unit (L i))))
         → ((i : ℕ) → i < t → Clear β (m i) w (positively (value (div binary64 unit (L i)))) (M i))
         → (j : ℕ) → j < 2 ^ w → Close (t * c) (at ieee (v t) j) (M t j) (M t j)
 
   module _ (room : Room β p w) (β-pos : Posℚ β) (c limit : ℕ) (short : limit * c ≤ 2 ^ 26) (course : Course c limit) where
-    open Course course using (m, few, v, L, M, phase, M-nn, apart, phases, start-M, start-L, step, next, lengths, good, fine, near)
+    open Course course using (m, few, v, L, M, phase, M-nn, apart, phases, start-M, start-L, step, next, lengths, entries, finite-scale, near)
 
     abbrev S : ℕ → ℚ
     S t = value (div binary64 unit (L t))
@@ -119,9 +117,9 @@ module _ (w : ℕ) (W : 1 ≤ w) (β : ℚ) (β-nn : NonNeg β) (β-one : β ≼
         → (s₂ : ℕ) → s₂ ≤ 4 → Level n (θ β p) s₂ (M t) → Posℚ (S t) × Level n (θ β p) s (λ j. C t ⋆ M t j)
     scaled t s l e near s₂ S₂ own =
         let some = pos-cancel (nat 4) (M t (own .index)) (above-nat 4 (omega arith)) (≼-pos (powers-pos s₂) (own .least)) in
-        let r = rescaled n (t * c) (gain-half (t * c) (few-roundings t (omega arith))) (v t) (lengths t) (good t (omega arith)) (M t) (M-nn t) near (own .index)
+        let r = rescaled n (t * c) (gain-half (t * c) (few-roundings t (omega arith))) (v t) (lengths t) (entries t (omega arith)) (M t) (M-nn t) near (own .index)
         (own .inside) some
-        (subst (λ (z : Float). T (finite (div binary64 unit z))) e (fine t l)) (not-large w β β-nn β-one p room (M t) (M-nn t) (apart t) s₂ S₂ own) in
+        (subst (λ (z : Float). T (finite (div binary64 unit z))) e (finite-scale t l)) (not-large w β β-nn β-one p room (M t) (M-nn t) (apart t) s₂ S₂ own) in
         let r′ : Rescaled n (S t) (M t) = subst (λ (z : Float). Rescaled n (value (div binary64 unit z)) (M t)) (sym e) r in
         let q = r′ .positive in
         let is = positively-is (S t) q in

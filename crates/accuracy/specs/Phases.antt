@@ -1,4 +1,4 @@
--- Steps since the last rescaling, in either manner: at most three, and where one more is taken, none is rescaled.
+-- The phase of a sweep, in either manner: the steps since its last rescaling, at most three.
 use mathlib.Core.Path.{_≡_, refl}
 use mathlib.Core.Logic.{_⊎_, inl, inr}
 use mathlib.Core.Bool.{Bool, true, false, cond}
@@ -13,7 +13,7 @@ use Rattle.transfer.specs.Job.{Manner, block, perElement}
 use Rattle.transfer.specs.Rounded.{ieee}
 use Rattle.transfer.specs.Sweep.{stored, largest}
 
--- A block rescales after every fourth step, so r says how many steps ago; the other manner rescales after each.
+-- In blocks of four steps the phase is r; in the other manner each step rescales.
 abbrev pub phase : Manner → ℕ → ℕ
 phase block r = r
 phase perElement r = 0

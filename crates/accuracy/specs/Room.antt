@@ -5,7 +5,7 @@ use native.Mathlib.Omega.{arith}
 use lib.Pow.{pow-pos, pow-mono}
 use Rattle.fraction.specs.Fraction.{ℚ, oneℚ, mulℚ}
 use Rattle.accuracy.specs.Ring.{_⊹_, _⋆_, NonNeg, _≼_, ≼-refl, ≼-of, ≼-trans, ≼-add, ≼-times, ≼-mul, nat, nat-add, nat-mul, nn-mul, nn-frac}
-use Rattle.accuracy.specs.Ring.{*-left, sorted, spread, *-one, one-*, *-comm, *-assoc}
+use Rattle.accuracy.specs.Ring.{nn-one, *-left, sorted, spread, *-one, one-*, *-comm, *-assoc}
 use Rattle.accuracy.specs.Rounds.{ε, ε-nn, ε-one, smallest, smallest-nn}
 use Rattle.accuracy.specs.Powers.{power, power-nn, power-one, θ, θ-nn, θ-one, σ, σ-nn, σ-one, power-first, power-less, power-add}
 use Rattle.accuracy.specs.Steps.{Clear}
@@ -141,7 +141,7 @@ module _ (w : ℕ) (β : ℚ) (β-nn : NonNeg β) (β-one : β ≼ oneℚ) (p : 
 
             entry : (j : ℕ) → j < n → smallest ≼ β ⋆ M j
             entry j l =
-                let x = all oneℚ s₂ (own .index) j (nn-frac 1 0) (own .inside) l
+                let x = all oneℚ s₂ (own .index) j nn-one (own .inside) l
                 (subst (λ z. power (θ β p) s₂ ≼ nat 4 ⋆ z) (sym (one-* (M (own .index)))) (own .least)) in
                 let y : power (σ β p) w ⋆ power (θ β p) s₂ ≼ nat 4 ⋆ M j = subst (λ z. power (σ β p) w ⋆ power (θ β p) s₂ ≼ nat 4 ⋆ z) (one-* (M j)) x in
                 down 4 (β ⋆ M j) (omega arith) (omega arith)
@@ -170,7 +170,7 @@ module _ (w : ℕ) (β : ℚ) (β-nn : NonNeg β) (β-one : β ≼ oneℚ) (p : 
         let i = f .index in
         let I = f .inside in
         let x = subst (λ z. power (σ β p) w ⋆ power (θ β p) r ≼ nat 4 ⋆ z) (one-* (B i))
-        (all B B-nn apart oneℚ r (b .index) i (nn-frac 1 0) (b .inside) I (subst (λ z. power (θ β p) r ≼ nat 4 ⋆ z) (sym (one-* (B (b .index)))) (b .least))) in
+        (all B B-nn apart oneℚ r (b .index) i nn-one (b .inside) I (subst (λ z. power (θ β p) r ≼ nat 4 ⋆ z) (sym (one-* (B (b .index)))) (b .least))) in
         let y : power (θ β p) s ⋆ (power (σ β p) w ⋆ power (θ β p) r) ≼ nat 16 ⋆ Z =
         ≼-trans (≼-mul (θs-nn s) (nn-mul _ _ (nat-nn 4) (B-nn i I)) (f .least) x)
         (≼-trans (≼-of _ _ (ring (nat 4) (F i) (B i) ∙ ap (λ z. z ⋆ (F i ⋆ B i)) (sym (nat-mul 4 4)))) (≼-times (nat 16) (nat-nn 16) (term i I))) in

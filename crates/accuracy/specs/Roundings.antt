@@ -5,8 +5,8 @@ use native.Mathlib.Nat.{mul-le-mul, mul-le-mul-left, le-trans}
 use native.Mathlib.Omega.{arith}
 use lib.Dec.{lit≤}
 use Rattle.fraction.specs.Fraction.{ℚ, oneℚ}
-use Rattle.accuracy.specs.Ring.{_⊹_, _⋆_, _≼_, ≼-refl, ≼-of, ≼-trans, ≼-add, ≼-times, nat, nat-add, nat-mul, nn-frac, nn-add, sorted, spread}
-use Rattle.accuracy.specs.Ring.{+-*, +-assoc, +-zero, zero-+, one-*, *-one, *-assoc, *-comm}
+use Rattle.accuracy.specs.Ring.{_⊹_, _⋆_, _≼_, ≼-refl, ≼-of, ≼-trans, ≼-add, ≼-times, nat, nat-add, nat-mul, nn-add, sorted, spread}
+use Rattle.accuracy.specs.Ring.{nn-one, +-*, +-assoc, +-zero, zero-+, one-*, *-one, *-assoc, *-comm}
 use Rattle.accuracy.specs.Rounds.{ε, ε-nn, ε-one}
 use Rattle.accuracy.specs.Close.{gain, gain-nn}
 use Rattle.accuracy.specs.Sizes.{cancel, above-nat, same, nat-mono}
@@ -32,7 +32,7 @@ module _ (G : ℕ) (G-one : nat G ⋆ ε ≡ oneℚ) where
       let e : suc (G - suc k) ≡ G - k = omega arith in
       let x = subst (λ (n : ℕ). (oneℚ ⊹ ε) ⋆ nat m ≼ nat n) e (one-more m (omega arith)) in
       ≼-trans (≼-of _ _ (ring (gain k) ε (nat m)))
-      (≼-trans (≼-times (oneℚ ⊹ gain k) (nn-add _ _ (nn-frac 1 0) (gain-nn k)) x) (bernoulli k (omega arith)))
+      (≼-trans (≼-times (oneℚ ⊹ gain k) (nn-add _ _ nn-one (gain-nn k)) x) (bernoulli k (omega arith)))
     where
       ring : (g e m : ℚ) → (oneℚ ⊹ (g ⊹ e ⋆ (oneℚ ⊹ g))) ⋆ m ≡ (oneℚ ⊹ g) ⋆ ((oneℚ ⊹ e) ⋆ m)
       ring g e m = simp (spread, sorted)
@@ -88,6 +88,7 @@ gain-double k h = gain-within (2 ^ 53) ε-one k (2 * k) (wide k (2 ^ 52) (2 ^ 53
     half : (k m g : ℕ) → 2 * m ≤ g → k ≤ m → k * g ≤ 2 * k * (g - k)
     half k m g a b = let l : g ≤ 2 * (g - k) = omega arith in le-trans (mul-le-mul-left k l) (omega arith)
 
+-- One rounding comes to ε.
 pub gain-one : gain 1 ≡ ε
 unfolding gain
 gain-one = zero-+ _ ∙ ap (λ z. ε ⋆ z) (+-zero oneℚ) ∙ *-one ε
@@ -103,7 +104,4 @@ gain-half k l =
     wide k m g a b = omega arith
 
 pub twice-ε : ε ⊹ ε ≼ oneℚ
-twice-ε = subst (λ z. z ⊹ z ≼ oneℚ) one (gain-half 1 (lit≤ tt))
-  where
-    one : gain 1 ≡ ε
-    one = gain-one
+twice-ε = subst (λ z. z ⊹ z ≼ oneℚ) gain-one (gain-half 1 (lit≤ tt))

@@ -24,7 +24,7 @@ use Rattle.exactness.specs.Entries as E
 use Rattle.exactness.specs.Exact.{rational, atValues}
 use Rattle.bounds.specs.Steps.{Finite, forwardStep-finite}
 use Rattle.bounds.specs.Bounds.{propagated-under, forward-finite-before}
-use Rattle.accuracy.specs.Ring.{‐_, NonNeg, _≼_, nn-frac, nn-pos}
+use Rattle.accuracy.specs.Ring.{‐_, NonNeg, _≼_, nn-pos, nn-one}
 use Rattle.accuracy.specs.Within.{within-nonneg}
 use Rattle.accuracy.specs.Close.{Close, close-exact, close-mono, close-neg}
 use Rattle.accuracy.specs.AtValues.{stepOf-values, stepAtValue}
@@ -34,8 +34,6 @@ use Rattle.accuracy.specs.Finite.{backwardStep-finite}
 use Rattle.accuracy.specs.ExactSweeps.{positively-is, positively-pos, ahead, back, before, after, exactForward, exactBackward}
 
 module _ (J : Job Float) where
-  -- ---- the vectors are close: k roundings a step
-
   -- Entry by entry, v is close to g with k roundings, the errors of the size of m's entries.
   abbrev pub Near : ℕ → List Float → List ℚ → List ℚ → Type 0
   Near k v g m = (j : ℕ) → j < 2 ^ J .window → Close k (at ieee v j) (at rational g j) (at rational m j)
@@ -44,7 +42,7 @@ module _ (J : Job Float) where
   unfolding value
   start-near j l =
       let r = E.start-at rational (J .window) j l in
-      close-exact _ _ _ (ap value (E.start-at ieee (J .window) j l) ∙ sym r) (within-nonneg _ (subst NonNeg (sym r) (nn-frac 1 0)))
+      close-exact _ _ _ (ap value (E.start-at ieee (J .window) j l) ∙ sym r) (within-nonneg _ (subst NonNeg (sym r) nn-one))
 
   module _ (β : ℚ) (β-nn : NonNeg β) (β-one : β ≼ oneℚ) (W : 1 ≤ J .window) (moderate : (t : ℕ) → ModerateStep β (stepOf J t))
       (c : ℕ) (few : (t : ℕ) → length ((stepOf J t) .others) + 5 ≤ c) where
@@ -52,7 +50,7 @@ module _ (J : Job Float) where
     abbrev pub Clearly : ℕ → ℚ → List ℚ → Type 0
     Clearly t q m = Clear β (length ((stepOf J t) .others)) (J .window) q (at rational m)
 
-    -- A vector made of entries x is near one made of entries a, their errors of the size of d, where the entries are: the step at t takes c roundings.
+    -- Vectors are near where their entries x, a and d are close, with the roundings of the step at t: at most c.
     step-near : (t k : ℕ) (v : List Float) (g m : List ℚ) (x : ℕ → Float) (a d : ℕ → ℚ)
         → ((j : ℕ) → j < 2 ^ J .window → at ieee v j ≡ x j) → ((j : ℕ) → j < 2 ^ J .window → at rational g j ≡ a j)
         → ((j : ℕ) → j < 2 ^ J .window → at rational m j ≡ d j) → Finite (J .window) v
@@ -105,7 +103,7 @@ module _ (J : Job Float) where
       pub scales : (i : ℕ) → i < t → Posℚ (value (scale ieee J i))
       pub steps : (i : ℕ) → i < t → Clearly i (ahead J i) (before J i)
 
-    -- so the first n backward steps.
+    -- and so do the first n backward steps.
     pub record ClearBack (n : ℕ) : Type 0 where
       pub scales : (i : ℕ) → i < n → Posℚ (value (div binary64 unit ((afterSteps ieee J i) .1)))
       pub steps : (i : ℕ) → i < n → Clearly (J .last - i) (back J i) (after J i)
