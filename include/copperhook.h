@@ -180,6 +180,31 @@ size_t copperhook_estimates(size_t count, const double *squares, size_t squares_
 /* The square root of IEEE 754, rounded to the nearest, of any double. No call is refused. */
 double copperhook_sqrt(double x);
 
+/* ---- How far answers can be from the exact ones. */
+
+/*
+ * How far each result of copperhook_correlations, for the same graph, floor and factors, can be from the exact correlation: the ratio of
+ * sums over all spin settings, without rounding, at the factors AS LENT. How far the factors are from the exponentials that they stand for
+ * is not in it. It holds for all pairs, in either manner, and nothing is swept to tell it.
+ * A bound is known, and *known is true, where every factor is from 2^-k to 2^k: with window w and at most p edges back from a vertex that
+ * are shorter than w, k is the largest whole number up to 52 with k * (p + 1) * (2 * w + 8) + w + 57 <= 1022. *bound is then
+ * (2 * (p + 5) * n + 2^(w + 1) + 6) * 2^-53, exactly. Else *known is false and *bound as it was: nothing is promised of the digits then.
+ * Refusals: 1 to 7, 10.
+ */
+size_t copperhook_error_bound(size_t n, size_t floor, const size_t *a, size_t a_len, const size_t *b, size_t b_len, const double *m,
+                              size_t m_len, const double *factors, size_t factors_len, bool *known, double *bound);
+
+/*
+ * The same of each correlation that copperhook_exhaustive and copperhook_sample sum and copperhook_exhaustive_c stores: two factors for each
+ * beta and kept edge, all of them from 2^-k to 2^k. With *bound = (r + 1) * 2^-53, and c chunks of s configurations each (enumerated:
+ * s = min(1024, count)), the mean that copperhook_estimate tells is within (2 * r + 3 + s + c) * 2^-53 of the exact mean square, while
+ * 2 * r + 2 + s + c is at most 94,906,264; past that within 2 * (2 * r + 2 + s + c) * 2^-53. Of its standard error nothing is promised.
+ * Refusals: 1 to 7 (4 of the betas too), 10.
+ */
+size_t copperhook_totals_error_bound(size_t n, size_t floor, const size_t *a, size_t a_len, const size_t *b, size_t b_len,
+                                     const double *m, size_t m_len, const double *betas, size_t betas_len, const double *factors,
+                                     size_t factors_len, bool *known, double *bound);
+
 /* ---- Graphs. */
 
 /*

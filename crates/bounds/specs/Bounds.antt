@@ -2,7 +2,7 @@
 -- Of a job only its factors matter, finite and above zero, and of a pair its Z, which is to be so too.
 use mathlib.Core.Path.{_≡_}
 use mathlib.Core.List.{List}
-use Prim.Native.Nat.{ℕ, _+_, _*_, _-_, _^_, _≤_, _<_, min, max}
+use Prim.Native.Nat.{ℕ, suc, _+_, _*_, _-_, _^_, _≤_, _<_, min, max}
 use native.Mathlib.Nat.{le-trans, min-le-left, le-max-left}
 use native.Mathlib.Omega.{arith}
 use lib.Dec.{T}
@@ -24,7 +24,7 @@ use Rattle.exactness.specs.Own as Own
 use Rattle.exactness.specs.Literal.{literalForward, literalScale, literalPropagated, literalZ, literalAnswer}
 use Rattle.bounds.specs.Factors.{checked-notMinus}
 use Rattle.bounds.specs.Steps.{Finite}
-use Rattle.bounds.specs.Sweeps.{Fair, own-fair, literal-fair, propagated-beneath, propagated-le, earlier-finite}
+use Rattle.bounds.specs.Sweeps.{Fair, own-fair, literal-fair, propagated-beneath, propagated-le, before-finite, earlier-finite}
 use Rattle.bounds.specs.Pairs.{N-under-Z, Z-finite}
 use Rattle.bounds.specs.Chunks.{chunked-ordered, chunks-cover, configuration-lt}
 
@@ -62,6 +62,10 @@ module _ (J : Job Float) (checked : Checked (λ x. T (positive x)) J) where
   -- A finite Z at v has finite forward vectors up to v, and a finite backward vector at v.
   pub forward-finite : (v t : ℕ) → t ≤ v → T (finite (Z ieee J v)) → Finite (J .window) (forward ieee J t)
   forward-finite v t l h = forward-finite-of own (checked .window) v t l (rw (Own.Z-same ieee J v) at h)
+
+  -- and a finite forward vector has a finite one before it
+  pub forward-finite-before : (t : ℕ) → Finite (J .window) (forward ieee J (suc t)) → Finite (J .window) (forward ieee J t)
+  forward-finite-before = before-finite own (checked .window)
 
   pub backward-finite : (v : ℕ) → T (finite (Z ieee J v)) → Finite (J .window) (backward ieee J v)
   backward-finite v h j b = Z-finite own v (rw (Own.Z-same ieee J v) at h) j b .1

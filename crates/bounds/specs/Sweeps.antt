@@ -114,7 +114,7 @@ module _ {J : Job Float} {F : ℕ → List Float} {f : ℕ → Float} {B : ℕ �
   propagated-le u i j k = under-le (abs-under (propagated-beneath u i j)) k
 
   -- a finite vector came from finite ones
-  before-finite : 1 ≤ J .window → (t : ℕ) → Finite (J .window) (F (suc t)) → Finite (J .window) (F t)
+  pub before-finite : 1 ≤ J .window → (t : ℕ) → Finite (J .window) (F (suc t)) → Finite (J .window) (F t)
   before-finite wide t h = forwardStep-finite (J .window) (stepOf J (suc t)) (f (suc t)) (F t) wide (rw (fair .stepped t) at h)
 
   pub earlier-finite : 1 ≤ J .window → (t i : ℕ) → Finite (J .window) (F (t + i)) → Finite (J .window) (F t)

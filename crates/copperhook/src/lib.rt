@@ -1,5 +1,6 @@
 // The shipped library: its entries by the C calling convention. A slice is a pointer and the number of its elements; an answer is the
 // refusal's number, 0 for accepted, and a value goes out through a reference.
+mod accuracies;
 mod correlations;
 mod counts;
 mod coupling;

@@ -105,8 +105,8 @@ module _ (n floor : ℕ) (a b : List ℕ) (m : List Float) (us vs : List ℕ) (b
 
   module _ (most : ℕ)
       (accepted : refusal ofEnumeration (enumerationRequest n floor a b m us vs betas factors (free a b m) most misfit work bad) ≡ 0) where
-    facts : AcceptedTotals n floor a b m us vs betas factors misfit work × (free a b m ≤ most)
-    facts = accepted-enumeration n floor a b m us vs betas factors (free a b m) most misfit work bad 0 accepted (inl refl)
+    pub enumeration-facts : AcceptedTotals n floor a b m us vs betas factors misfit work × (free a b m ≤ most)
+    enumeration-facts = accepted-enumeration n floor a b m us vs betas factors (free a b m) most misfit work bad 0 accepted (inl refl)
 
     none-bad : bad ≡ false
     none-bad =
@@ -115,10 +115,10 @@ module _ (n floor : ℕ) (a b : List ℕ) (m : List Float) (us vs : List ℕ) (b
         none .1 .1 .1 .1 .1 .1 .1 .1 .1 .1 .1 .1 .0
 
     pub few-free : free a b m ≤ most
-    few-free = facts .1
+    few-free = enumeration-facts .1
 
     pub configuration-sound : (x beta : ℕ) → x < 2 ^ free a b m → beta < length betas → Sound (job x beta) us vs
     configuration-sound x beta h l =
-        signed-sound (facts .0) (enumeratedMinus (isTree (early a b m) (late a b m)) x) beta l
+        signed-sound (enumeration-facts .0) (enumeratedMinus (isTree (early a b m) (late a b m)) x) beta l
         (none-at (λ c. unsound (job x c) us vs) (length betas) beta l
         (none-at (λ y. some (λ c. unsound (job y c) us vs) (length betas)) (2 ^ free a b m) x h none-bad))

@@ -1,25 +1,36 @@
 -- What the demands say of an accepted call of `correlations`, of the stored results and with no tolerance.
 use mathlib.Core.Path.{_≡_, sym, _∙_}
 use mathlib.Core.Bool.{false}
-use mathlib.Core.List.{List}
+use mathlib.Core.List.{List, []}
 use mathlib.Core.Logic.{inl}
 use Prim.Native.Nat.{ℕ, _<_}
 use native.Mathlib.Omega.{arith}
+use lib.Dec.{T}
 use lib.Ieee.{Float, nan}
-use lib.ListN.{length, getD}
+use lib.Ieee.Positive.{positive}
+use lib.ListN.{length, getD, length-map}
+use Rattle.fraction.specs.Value.{value}
 use Rattle.transfer.specs.Job.{Job}
 use Rattle.transfer.specs.Rounded.{ieee}
 use Rattle.transfer.specs.Sweep as S
-use Rattle.checks.specs.AcceptedJob.{AcceptedCorrelations, accepted-correlations}
+use Rattle.exactness.specs.Exact.{rational, atValues}
+use Rattle.exactness.specs.Textbook.{textbook}
+use Rattle.accuracy.specs.Apart.{Apart}
+use Rattle.checks.specs.AcceptedJob.{AcceptedCorrelations, accepted-correlations, passes-positive}
+use Rattle.checks.specs.Edges.{kept, earlyEnds}
 use Rattle.checks.specs.First.{passed, checks-numbered}
 use Rattle.checks.specs.Refusal.{checks, ofCorrelations}
 use Rattle.checks.specs.Request.{correlationRequest}
 use Rattle.answers.specs.Sound.{unsound}
-use Rattle.glass.specs.Correlations.{jobGiven, Correlated}
+use Rattle.glass.specs.Correlations.{mannerOf, jobGiven, Correlated}
 use Rattle.glass.specs.declared.Manner.{Manner}
+use Rattle.error_bound.specs.Bound.{mostBits, errorBoundOf}
+use Rattle.error_bound.specs.declared.answer.ErrorBound.the-variants.{Within}
+use Rattle.error_bound.specs.Margin.{bits-few, near-one-all}
 use Rattle.demands.specs.Lists.{settled-at}
 use Rattle.demands.specs.Given.{checked-given}
-use Rattle.demands.specs.OneJob.{InUnit, Exact, Bounded, Sound, exact, bounded}
+use Rattle.demands.specs.OneJob.{InUnit, Exact, Bounded, Sound, Z-positive, exact, bounded}
+use Rattle.demands.specs.Accurate.{nearOf, bound-known, made-close, close-within}
 
 module _ {n floor : ℕ} {a b : List ℕ} {m : List Float} {us vs : List ℕ} {factors : List Float} {manner : Manner} {r : ℕ}
     {results results′ work work′ : List Float} (call : Correlated n floor a b m us vs factors manner r results results′ work work′) (accepted : r ≡ 0) where
@@ -62,3 +73,19 @@ module _ {n floor : ℕ} {a b : List ℕ} {m : List Float} {us vs : List ℕ} {f
   -- and no entry of a propagated vector exceeds the forward vector's in size, nor one of the half that is stored.
   pub result-within : Bounded job us vs
   result-within = bounded result-sound
+
+  -- Accurate: where `error_bound` answers a bound for the same graph, floor and factors, each stored result is within it of the textbook ratio.
+  pub result-accurate : (bound : Float) → errorBoundOf n floor a b m [] factors false ≡ Within bound → (i : ℕ) → i < length us
+      → Apart (value (getD results′ i nan)) (textbook rational (atValues job) (getD us i 0) (getD vs i 0)) (value bound)
+  result-accurate bound answer i l =
+      let f = facts .lists in
+      let w = job .window in
+      let near = nearOf n floor a b m in
+      let told = bound-known n floor a b m [] factors false bound answer in
+      let edges : length (earlyEnds (kept a b m)) ≡ length (kept a b m) = length-map (kept a b m) (λ x. x .early) in
+      let positive-at : (e : ℕ) → e < length (kept a b m) → T (positive (getD factors e nan)) = λ e k. passes-positive (getD factors e nan) (f .factors-pass e k) in
+      rw (result-is i l, told .1)
+      (close-within n floor a b m us vs (mannerOf manner) (facts .job) (λ e. getD factors e nan) positive-at
+      (made-close n floor a b m us vs (mannerOf manner) (facts .job) (λ e. getD factors e nan) positive-at
+      (λ e k. near-one-all (mostBits w near) (bits-few w near) factors (told .0) e (omega (arith, f .factor-count)) (positive-at e (omega arith)))
+      i l (Z-positive result-sound i l)))

@@ -1,25 +1,40 @@
 -- What the demands say of an accepted call of `exhaustive`, of the stored totals and with no tolerance.
-use mathlib.Core.Path.{_≡_}
-use mathlib.Core.Bool.{Bool}
+use mathlib.Core.Path.{_≡_, sym, _∙_}
+use mathlib.Core.Bool.{Bool, true}
 use mathlib.Core.List.{List}
-use Prim.Native.Nat.{ℕ, _*_, _/_, _%_, _^_, _<_}
+use Prim.Native.Nat.{ℕ, _+_, _*_, _/_, _%_, _^_, _≤_, _<_}
 use native.Mathlib.Omega.{arith}
 use lib.Ieee.{Float, nan, binary64}
 use lib.ListN.{length, getD}
+use lib.Pow.{pow-pos, pow-mono}
 use Rattle.rounding.specs.Powers.{Ordered}
+use Rattle.fraction.specs.Fraction.{ℚ, invℚ}
+use Rattle.fraction.specs.Value.{value}
+use Rattle.exactness.specs.Exact.{rational}
+use Rattle.accuracy.specs.Apart.{Apart}
+use Rattle.accuracy.specs.Ring.{_⋆_, nat}
+use Rattle.accuracy.specs.Stated.{squaresRoundings, fourthsRoundings, totalBound}
+use Rattle.estimate.specs.Estimates.{number, meanOf}
+use Rattle.forest.specs.Labels.{isTree}
+use Rattle.transfer.specs.Configuration.{enumeratedMinus}
 use Rattle.transfer.specs.Job.{Job}
 use Rattle.transfer.specs.Rounded.{ieee}
-use Rattle.transfer.specs.Totals.{square, fourth, enumerated, enumeratedCount}
+use Rattle.transfer.specs.Totals.{square, fourth, chunkSize, chunkCount, enumerated, enumeratedCount}
 use Rattle.checks.specs.declared.Answer.the-variants.{Number}
-use Rattle.checks.specs.AcceptedTotals.{misfits}
+use Rattle.checks.specs.AcceptedTotals.{AcceptedTotals, misfits}
 use Rattle.checks.specs.Request.{mostCounted}
 use Rattle.bounds.specs.Bounds.{enumerated-answers-bounded}
+use Rattle.bounds.specs.Chunks.{chunks-cover, configuration-lt}
 use Rattle.chunks.specs.Powers.{correlationAt}
 use Rattle.glass.specs.declared.Manner.{Manner}
 use Rattle.totals.specs.Calls.{Enumerated, refusedEnumeration}
+use Rattle.error_bound.specs.Bound.{errorBoundOf}
+use Rattle.error_bound.specs.declared.answer.ErrorBound.the-variants.{Within}
 use Rattle.demands.specs.Lists.{settled-at}
 use Rattle.demands.specs.Configurations as C
-use Rattle.demands.specs.Configurations.{accepted-number, pair-inside, beta-inside, few-free, configuration-sound}
+use Rattle.demands.specs.Configurations.{accepted-number, pair-inside, beta-inside, enumeration-facts, few-free, configuration-sound}
+use Rattle.demands.specs.Accurate.{Accurate}
+use Rattle.demands.specs.AccurateTotals as A
 use Rattle.demands.specs.OneJob.{Exact, Bounded, Sound, answerable, exact, bounded}
 
 module _ {n floor : ℕ} {a b : List ℕ} {m : List Float} {us vs : List ℕ} {betas factors : List Float} {manner : Manner}
@@ -76,3 +91,60 @@ module _ {n floor : ℕ} {a b : List ℕ} {m : List Float} {us vs : List ℕ} {b
   -- each correlation summed lies in [-1, 1], and no entry of a propagated vector exceeds the forward vector's in size.
   pub enumeration-within : (x beta : ℕ) → x < 2 ^ free → beta < length betas → Bounded (configuration x beta) us vs
   enumeration-within x beta h l = bounded (enumeration-sound x beta h l)
+
+  -- Accurate: where `totals_error_bound` answers a bound for the same graph, floor, betas and factors,
+  module _ (bound : Float) (answered : errorBoundOf n floor a b m betas factors true ≡ Within bound) where
+    facts : AcceptedTotals n floor a b m us vs betas factors misfit (length work)
+    facts = enumeration-facts n floor a b m us vs betas factors manner misfit (length work) mostCounted (accepted .0) .0
+
+    -- each correlation summed is within it of the textbook ratio,
+    pub enumeration-accurate : (x beta : ℕ) → x < 2 ^ free → beta < length betas → Accurate (configuration x beta) us vs bound
+    enumeration-accurate x beta h l =
+        A.signed-accurate n floor a b m us vs betas factors manner misfit (length work) facts bound answered
+        (enumeratedMinus (isTree (C.early a b m) (C.late a b m)) x) beta l (enumeration-sound x beta h l)
+
+    module _ (k : ℕ) (l : k < length betas * length us) where
+      abbrev ratio : ℕ → ℚ
+      ratio x = A.exactly (configuration x (k / length us)) us vs (k % length us)
+
+      abbrev taken : ℕ
+      taken = A.roundings n floor a b m
+
+      abbrev minus : ℕ → ℕ → ℕ → Bool
+      minus c j = enumeratedMinus (isTree (C.early a b m) (C.late a b m)) (c * chunkSize free + j)
+
+      covered : chunkCount free * chunkSize free ≡ count
+      covered = chunks-cover free ∙ sym enumeration-counted
+
+      few : chunkCount free * chunkSize free ≤ 2 ^ 34
+      few = rw (chunks-cover free) (pow-mono (few-free n floor a b m us vs betas factors manner misfit (length work) mostCounted (accepted .0)))
+
+      sound-at : (c j : ℕ) → c < chunkCount free → j < chunkSize free → Sound (configuration (c * chunkSize free + j) (k / length us)) us vs
+      sound-at c j u v = enumeration-sound (c * chunkSize free + j) (k / length us) (configuration-lt free c j u v) (beta-inside (length betas) (length us) k l)
+
+      -- each total is within the count times so many units of that of the textbook ratios,
+      pub squares-accurate : Apart (value (getD squares′ k nan)) (enumerated rational (square rational) free ratio)
+          (nat count ⋆ value (totalBound (squaresRoundings taken (chunkCount free) (chunkSize free))))
+      unfolding enumerated
+      squares-accurate =
+          rw (squares-are k l, ← covered)
+          (A.squares-apart n floor a b m us vs betas factors manner misfit (length work) facts bound answered (chunkCount free) (chunkSize free) few minus
+          (k / length us) (k % length us) (beta-inside (length betas) (length us) k l) (pair-inside (length betas) (length us) k l) sound-at)
+
+      pub fourths-accurate : Apart (value (getD fourths′ k nan)) (enumerated rational (fourth rational) free ratio)
+          (nat count ⋆ value (totalBound (fourthsRoundings taken (chunkCount free) (chunkSize free))))
+      unfolding enumerated
+      fourths-accurate =
+          rw (fourths-are k l, ← covered)
+          (A.fourths-apart n floor a b m us vs betas factors manner misfit (length work) facts bound answered (chunkCount free) (chunkSize free) few minus
+          (k / length us) (k % length us) (beta-inside (length betas) (length us) k l) (pair-inside (length betas) (length us) k l) sound-at)
+
+      -- and the mean of the squares, as `estimate` divides, within so many units of the exact mean.
+      pub mean-accurate : Apart (value (meanOf (number count) (getD squares′ k nan))) (enumerated rational (square rational) free ratio ⋆ invℚ (nat count))
+          (value (totalBound (squaresRoundings taken (chunkCount free) (chunkSize free) + 1)))
+      unfolding enumerated
+      mean-accurate =
+          rw (squares-are k l, ← covered)
+          (A.mean-apart n floor a b m us vs betas factors manner misfit (length work) facts bound answered (chunkCount free) (chunkSize free) few minus
+          (k / length us) (k % length us) (beta-inside (length betas) (length us) k l) (pair-inside (length betas) (length us) k l) sound-at
+          (rw (chunks-cover free) (pow-pos free)))

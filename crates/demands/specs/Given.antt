@@ -77,7 +77,7 @@ checked-given n floor a b m us vs factors results work manner ok =
 -- of totals: two factors for each beta and kept edge
 module _ (n floor : ℕ) (a b : List ℕ) (m : List Float) (us vs : List ℕ) (betas factors : List Float) (misfit : Bool) (work : ℕ) (manner : Given.Manner)
     (ok : AcceptedTotals n floor a b m us vs betas factors misfit work) where
-  lent-inside : (edges b e : ℕ) (minus : Bool) → e < edges → b < length betas → lentAt edges b e minus < signedFactors (length betas) edges
+  pub lent-inside : (edges b e : ℕ) (minus : Bool) → e < edges → b < length betas → lentAt edges b e minus < signedFactors (length betas) edges
   lent-inside edges b e minus l k =
       let h : (b + 1) * edges ≤ length betas * edges = mul-le-mul-right edges (omega arith) in
       let s = sign-small minus in

@@ -3,8 +3,10 @@ pub mod Lists
 pub mod Given
 pub mod Halves
 pub mod OneJob
+pub mod Accurate
 pub mod Correlations
 pub mod Configurations
+pub mod AccurateTotals
 pub mod Exhaustive
 pub mod Storing
 pub mod Sampling

@@ -1,14 +1,23 @@
 -- What the demands say of an accepted call of `sample`, of the stored totals and with no tolerance.
 use mathlib.Core.Path.{_≡_, refl, subst}
-use mathlib.Core.Bool.{Bool, false}
+use mathlib.Core.Bool.{Bool, true, false}
 use mathlib.Core.List.{List}
 use mathlib.Core.Logic.{inl}
-use Prim.Native.Nat.{ℕ, _+_, _-_, _*_, _/_, _%_, _≤_, _<_}
+use Prim.Native.Nat.{ℕ, _+_, _-_, _*_, _/_, _%_, _^_, _≤_, _<_}
+use native.Mathlib.Nat.{le-trans}
 use native.Mathlib.Omega.{arith}
+use lib.Dec.{lit≤}
 use lib.Ieee.{Float, nan, binary64}
 use lib.ListN.{length, getD}
 use Rattle.vector.specs.Search.{some, none-at}
 use Rattle.rounding.specs.Powers.{Ordered}
+use Rattle.fraction.specs.Fraction.{ℚ, invℚ}
+use Rattle.fraction.specs.Value.{value}
+use Rattle.exactness.specs.Exact.{rational}
+use Rattle.accuracy.specs.Apart.{Apart}
+use Rattle.accuracy.specs.Ring.{_⋆_, nat}
+use Rattle.accuracy.specs.Stated.{squaresRoundings, fourthsRoundings, totalBound}
+use Rattle.estimate.specs.Estimates.{number, meanOf}
 use Rattle.transfer.specs.Configuration.{sampledMinus}
 use Rattle.transfer.specs.Job.{Job}
 use Rattle.transfer.specs.Rounded.{ieee}
@@ -26,9 +35,13 @@ use Rattle.glass.specs.Correlations.{mannerOf}
 use Rattle.glass.specs.declared.Manner.{Manner}
 use Rattle.totals.specs.Jobs.{unsoundSampling}
 use Rattle.totals.specs.Calls.{Sampled, refusedSampling}
+use Rattle.error_bound.specs.Bound.{errorBoundOf}
+use Rattle.error_bound.specs.declared.answer.ErrorBound.the-variants.{Within}
 use Rattle.demands.specs.Lists.{settled-at}
 use Rattle.demands.specs.Configurations as C
 use Rattle.demands.specs.Configurations.{accepted-number, pair-inside, beta-inside, signed-sound}
+use Rattle.demands.specs.Accurate.{Accurate}
+use Rattle.demands.specs.AccurateTotals as A
 use Rattle.demands.specs.OneJob.{Exact, Bounded, Sound, answerable, exact, bounded}
 
 module _ {n floor : ℕ} {a b : List ℕ} {m : List Float} {us vs : List ℕ} {betas factors : List Float} {manner : Manner} {seed from to samples : ℕ}
@@ -105,3 +118,55 @@ module _ {n floor : ℕ} {a b : List ℕ} {m : List Float} {us vs : List ℕ} {b
   -- each correlation summed lies in [-1, 1], and no entry of a propagated vector exceeds the forward vector's in size.
   pub sampling-within : (chunk j beta : ℕ) → from ≤ chunk → chunk < to → j < samples → beta < length betas → Bounded (drawn chunk j beta) us vs
   sampling-within chunk j beta u v s l = bounded (sampling-sound chunk j beta u v s l)
+
+  -- Accurate: where `totals_error_bound` answers a bound for the same graph, floor, betas and factors,
+  module _ (bound : Float) (answered : errorBoundOf n floor a b m betas factors true ≡ Within bound) where
+    -- each correlation summed is within it of the textbook ratio,
+    pub sampling-accurate : (chunk j beta : ℕ) → from ≤ chunk → chunk < to → j < samples → beta < length betas → Accurate (drawn chunk j beta) us vs bound
+    sampling-accurate chunk j beta u v s l =
+        A.signed-accurate n floor a b m us vs betas factors manner misfit (length work) (facts .0) bound answered
+        (sampledMinus seed (length (C.early a b m)) chunk j) beta l (sampling-sound chunk j beta u v s l)
+
+    module _ (k : ℕ) (l : k < length betas * length us) where
+      abbrev ratio : ℕ → ℕ → ℚ
+      ratio chunk j = A.exactly (drawn chunk j (k / length us)) us vs (k % length us)
+
+      abbrev taken : ℕ
+      taken = A.roundings n floor a b m
+
+      few : (to - from) * samples ≤ 2 ^ 34
+      few = le-trans (facts .1) (lit≤ tt)
+
+      sound-at : (c j : ℕ) → c < to - from → j < samples → Sound (drawn (from + c) j (k / length us)) us vs
+      sound-at c j u v = drawn-sound c j (k / length us) u v (beta-inside (length betas) (length us) k l)
+
+      -- each total is within the count times so many units of that of the textbook ratios,
+      pub sampled-squares-accurate : Apart (value (getD squares′ k nan)) (sampled rational (square rational) from to samples ratio)
+          (nat count ⋆ value (totalBound (squaresRoundings taken (to - from) samples)))
+      unfolding sampled
+      sampled-squares-accurate =
+          rw (sampled-squares-are k l, sampling-counted)
+          (A.squares-apart n floor a b m us vs betas factors manner misfit (length work) (facts .0) bound answered (to - from) samples few
+          (λ c j. sampledMinus seed (length (C.early a b m)) (from + c) j) (k / length us) (k % length us)
+          (beta-inside (length betas) (length us) k l) (pair-inside (length betas) (length us) k l) sound-at)
+
+      pub sampled-fourths-accurate : Apart (value (getD fourths′ k nan)) (sampled rational (fourth rational) from to samples ratio)
+          (nat count ⋆ value (totalBound (fourthsRoundings taken (to - from) samples)))
+      unfolding sampled
+      sampled-fourths-accurate =
+          rw (sampled-fourths-are k l, sampling-counted)
+          (A.fourths-apart n floor a b m us vs betas factors manner misfit (length work) (facts .0) bound answered (to - from) samples few
+          (λ c j. sampledMinus seed (length (C.early a b m)) (from + c) j) (k / length us) (k % length us)
+          (beta-inside (length betas) (length us) k l) (pair-inside (length betas) (length us) k l) sound-at)
+
+      -- and, where something is counted, the mean of the squares within so many units of the exact mean of these samples.
+      pub sampled-mean-accurate : 0 < count
+          → Apart (value (meanOf (number count) (getD squares′ k nan))) (sampled rational (square rational) from to samples ratio ⋆ invℚ (nat count))
+          (value (totalBound (squaresRoundings taken (to - from) samples + 1)))
+      unfolding sampled
+      sampled-mean-accurate some =
+          let counted : 0 < (to - from) * samples = subst (λ (c : ℕ). 0 < c) sampling-counted some in
+          rw (sampled-squares-are k l, sampling-counted)
+          (A.mean-apart n floor a b m us vs betas factors manner misfit (length work) (facts .0) bound answered (to - from) samples few
+          (λ c j. sampledMinus seed (length (C.early a b m)) (from + c) j) (k / length us) (k % length us)
+          (beta-inside (length betas) (length us) k l) (pair-inside (length betas) (length us) k l) sound-at counted)

@@ -1,6 +1,6 @@
 -- What the demands say of an accepted call of `exhaustive_c`, of the stored correlations and with no tolerance.
 use mathlib.Core.Path.{_≡_, ap, _∙_}
-use mathlib.Core.Bool.{Bool, not}
+use mathlib.Core.Bool.{Bool, true, not}
 use mathlib.Core.List.{List}
 use Prim.Native.Nat.{ℕ, _+_, _*_, _/_, _%_, _^_, _≤_, _<_}
 use native.Mathlib.Nat.{mod-lt, div-lt-iff-lt-mul, add-zero, mul-add-div-right, mul-add-mod-self-right, mod-eq-of-lt, div-eq-of-lt, mul-le-mul-right}
@@ -9,6 +9,10 @@ use lib.Dec.{eqb}
 use lib.Ieee.{Float, nan}
 use lib.ListN.{length, getD}
 use lib.Pow.{pow-pos}
+use Rattle.fraction.specs.Value.{value}
+use Rattle.forest.specs.Labels.{isTree}
+use Rattle.transfer.specs.Configuration.{enumeratedMinus}
+use Rattle.accuracy.specs.Apart.{Apart}
 use Rattle.transfer.specs.Job.{Job}
 use Rattle.transfer.specs.Rounded.{ieee}
 use Rattle.transfer.specs.Sweep as S
@@ -19,9 +23,12 @@ use Rattle.chunks.specs.Powers.{correlationAt, pair-numbered}
 use Rattle.glass.specs.declared.Manner.{Manner}
 use Rattle.totals.specs.Jobs.{storedCount}
 use Rattle.totals.specs.Calls.{EnumeratedEach, refusedStoring}
+use Rattle.error_bound.specs.Bound.{errorBoundOf}
+use Rattle.error_bound.specs.declared.answer.ErrorBound.the-variants.{Within}
 use Rattle.demands.specs.Lists.{settled-at}
 use Rattle.demands.specs.Configurations as C
-use Rattle.demands.specs.Configurations.{accepted-number, pair-inside, beta-inside, configuration-sound}
+use Rattle.demands.specs.Configurations.{accepted-number, pair-inside, beta-inside, enumeration-facts, configuration-sound}
+use Rattle.demands.specs.AccurateTotals.{exactly, signed-accurate}
 use Rattle.demands.specs.OneJob.{InUnit, Exact, Bounded, Sound, exact, bounded}
 
 module _ {n floor : ℕ} {a b : List ℕ} {m : List Float} {us vs : List ℕ} {betas factors : List Float} {manner : Manner}
@@ -83,3 +90,14 @@ module _ {n floor : ℕ} {a b : List ℕ} {m : List Float} {us vs : List ℕ} {b
   -- and no entry of a propagated vector exceeds the forward vector's in size.
   pub stored-within : (x beta : ℕ) → x < 2 ^ free → beta < length betas → Bounded (configuration x beta) us vs
   stored-within x beta h l = bounded (storing-sound x beta h l)
+
+  -- Accurate: where `totals_error_bound` answers a bound for the same graph, floor, betas and factors, each stored double is within it of the
+  -- textbook ratio.
+  pub stored-accurate : (bound : Float) → errorBoundOf n floor a b m betas factors true ≡ Within bound
+      → (x beta p : ℕ) → x < 2 ^ free → beta < length betas → p < length us
+      → Apart (value (getD stored′ ((beta * length us + p) * 2 ^ free + x) nan)) (exactly (configuration x beta) us vs p) (value bound)
+  stored-accurate bound answered x beta p h l k =
+      rw (stored-at x beta p h l k)
+      (signed-accurate n floor a b m us vs betas factors manner misfit (length work)
+      (enumeration-facts n floor a b m us vs betas factors manner misfit (length work) mostStored (accepted .0) .0) bound answered
+      (enumeratedMinus (isTree (C.early a b m) (C.late a b m)) x) beta l (storing-sound x beta h l) .correlation p k)

@@ -10,7 +10,7 @@ pub fn passes(x: f64) -> bool
 }
 
 // 10. The factor list has another length, or an entry isn't finite and above zero.
-pub(crate) fn bad_factors(factors: &[f64], count: usize) -> bool
+pub fn bad_factors(factors: &[f64], count: usize) -> bool
     ensures { λ r. ⌜ r ≡ badFactorList (now (factors .entry)) count ⌝ }
 {
     if factors.len() != count {

@@ -3,6 +3,7 @@ mod factors;
 mod lists;
 mod totals;
 
+pub use factors::bad_factors;
 pub use factors::passes;
 pub use lists::check_lists;
 pub use totals::check_enumeration;

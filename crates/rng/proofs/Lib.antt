@@ -1,2 +1,1 @@
 mod Product
-mod Scaled

@@ -3,3 +3,4 @@ pub mod Under
 pub mod Whole
 pub mod Sums
 pub mod Powers
+pub mod Scaled

@@ -3,3 +3,4 @@ pub mod Graphs
 pub mod Distances
 pub mod Vertices
 pub mod Estimated
+pub mod Bounds

@@ -1,16 +1,17 @@
 //! Copperhook's time beside the original's: the same jobs, in one run, both built for release.
 //!
-//!     rust/bench/run [--quick | --width N | --checks | --totals [--width N] | --growth | --limits]
+//!     rust/bench/run [--quick | --width N | --checks | --totals [--width N] | --growth | --limits | --accuracy]
 //!
 //! proves what is needed, builds the archive and runs this. Without an option, widths 4 to 20, the checks and the totals are measured. `--quick`
 //! stops at width 10, and for the totals at 8; `--width N` measures one width alone, from 1 to 24, and tells how much memory a job's room is;
 //! `--checks` measures what a call costs before its sweeps, `--totals` the totals alone, of one width from 4 to 20 where it is told; `--growth`
 //! how the time grows with the window, the vertices, the pairs and the betas; `--limits` how far the sweeps are from a copy of as much memory,
-//! and the sums from the adder's latency.
+//! and the sums from the adder's latency; `--accuracy` how large errors are beside their proved bound.
 //!
 //! The original's plan and work memory are made once, outside the timed loop, as its callers do. Ours checks and plans in every call and
 //! clears its room. The original takes the exponentials of the couplings inside, ours is lent factors: the last column adds to ours the time
 //! of these exponentials. Each job's bits are compared first. A time is the least of several rounds, in which the sides take turns.
+mod accuracy;
 mod checks;
 mod clock;
 mod growth;
@@ -18,6 +19,7 @@ mod limits;
 mod ours;
 mod ratios;
 mod totals;
+mod wide;
 
 use clock::{least_times, Rounds};
 use oracle::glass::{correlations, Plan};
@@ -220,6 +222,7 @@ fn main() {
         ["--totals", "--width", w] => totals::print_totals(one_of(totals::WIDTHS, w)),
         ["--growth"] => growth::print_growth(),
         ["--limits"] => limits::print_limits(),
+        ["--accuracy"] => accuracy::print_accuracy(),
         ["--width", w] => print_sheet(one_of(1..=24, w), &Rounds { least: 3, ..rounds }, true),
         _ => usage(),
     }
@@ -234,7 +237,7 @@ fn one_of(widths: RangeInclusive<usize>, word: &str) -> RangeInclusive<usize> {
 }
 
 fn usage() -> ! {
-    eprintln!("usage: rust/bench/run [--quick | --width N | --checks | --totals [--width N] | --growth | --limits]");
+    eprintln!("usage: rust/bench/run [--quick | --width N | --checks | --totals [--width N] | --growth | --limits | --accuracy]");
     eprintln!("N is from 1 to 24, of totals from 4 to 20");
     std::process::exit(2);
 }

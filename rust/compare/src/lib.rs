@@ -3,6 +3,7 @@
 //! are to be written hold NaNs of any payload before. The calls are those of the archive itself, `unsafe` for their
 //! pointers alone: each is a guarded list's or a variable's.
 
+mod accuracies;
 mod columns;
 mod correlations;
 mod couplings;
@@ -36,7 +37,7 @@ pub struct Group {
     try_one: Try,
 }
 
-pub const GROUPS: [Group; 9] = [
+pub const GROUPS: [Group; 10] = [
     Group { name: "generators", share: 1.0, refusals: &[], try_one: generators::try_one },
     Group { name: "graphs", share: 1.0, refusals: &[1, 2, 3, 4, 5, 8, 12], try_one: graphs::try_one },
     Group { name: "strips", share: 1.0, refusals: &[12, 15, 16, 17], try_one: strips::try_one },
@@ -45,6 +46,7 @@ pub const GROUPS: [Group; 9] = [
     Group { name: "estimates", share: 1.0, refusals: &[18], try_one: estimates::try_one },
     Group { name: "totals", share: 4.0, refusals: &[1, 2, 3, 4, 5, 6, 7, 8, 9, 10, 11, 12, 13, 14], try_one: totals::try_one },
     Group { name: "columns", share: 1.0, refusals: &[2, 12, 18], try_one: columns::try_one },
+    Group { name: "accuracies", share: 1.0, refusals: &[1, 2, 3, 4, 5, 6, 7, 10], try_one: accuracies::try_one },
     Group { name: "wide", share: 0.0, refusals: &[], try_one: correlations::try_wide },
 ];
 

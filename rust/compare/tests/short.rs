@@ -2,7 +2,7 @@
 
 use compare::{line, run, Until, GROUPS};
 
-const JOBS: [(&str, u64); 8] = [
+const JOBS: [(&str, u64); 9] = [
     ("generators", 150_000),
     ("graphs", 12_000),
     ("strips", 50_000),
@@ -11,6 +11,7 @@ const JOBS: [(&str, u64); 8] = [
     ("estimates", 500_000),
     ("totals", 20_000),
     ("columns", 20_000),
+    ("accuracies", 20_000),
 ];
 
 #[test]

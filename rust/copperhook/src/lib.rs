@@ -17,6 +17,7 @@
 //! # Ok::<(), copperhook::Refusal>(())
 //! ```
 
+mod accuracy;
 mod graph;
 mod job;
 mod lists;
@@ -25,6 +26,7 @@ mod rng;
 mod strip;
 pub mod sys;
 
+pub use accuracy::mean_error_bound;
 pub use graph::{Graph, Kept};
 pub use job::{estimate, estimates, sqrt, Estimate, Job, Manner, Pair, Sampling};
 pub use lists::{EdgeList, Factors, LabelledPair};

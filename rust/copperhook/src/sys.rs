@@ -177,6 +177,38 @@ extern "C" {
 
     pub fn copperhook_sqrt(x: f64) -> f64;
 
+    pub fn copperhook_error_bound(
+        n: usize,
+        floor: usize,
+        a: *const usize,
+        a_len: usize,
+        b: *const usize,
+        b_len: usize,
+        m: *const f64,
+        m_len: usize,
+        factors: *const f64,
+        factors_len: usize,
+        known: *mut bool,
+        bound: *mut f64,
+    ) -> usize;
+
+    pub fn copperhook_totals_error_bound(
+        n: usize,
+        floor: usize,
+        a: *const usize,
+        a_len: usize,
+        b: *const usize,
+        b_len: usize,
+        m: *const f64,
+        m_len: usize,
+        betas: *const f64,
+        betas_len: usize,
+        factors: *const f64,
+        factors_len: usize,
+        known: *mut bool,
+        bound: *mut f64,
+    ) -> usize;
+
     pub fn copperhook_graph(
         n: usize,
         floor: usize,

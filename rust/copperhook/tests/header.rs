@@ -120,6 +120,9 @@ fn square_sheet() -> Result<String, Refusal> {
         for (pair, x) in pairs.iter().zip(&results) {
             text += &format!("{} {} {} {:016x}\n", pair.label, pair.u, pair.v, x.to_bits());
         }
+        // 62 units of 2^-53
+        assert_eq!(job.graph.error_bound(&[2.0, 2.0, 2.0, last])?, Some(62.0 / 2f64.powi(53)));
+        text += "within 0x1.fp-48\n";
     }
     Ok(text)
 }

@@ -1,6 +1,8 @@
 //! The settled examples of document 01, through the bindings, and what lists hold after calls that are refused.
 
-use copperhook::{estimate, estimates, Dilution, EdgeList, Estimate, Graph, Job, Kind, Manner, Pair, Refusal, Rng, Sampling, Strip};
+use copperhook::{
+    estimate, estimates, mean_error_bound, Dilution, EdgeList, Estimate, Graph, Job, Kind, Manner, Pair, Refusal, Rng, Sampling, Strip,
+};
 
 const MANNERS: [Manner; 2] = [Manner::PerElement, Manner::Block];
 
@@ -165,6 +167,38 @@ fn columns_of_estimates() {
     assert_eq!((estimates(0, &[], &[], &mut [], &mut []), estimates(1, &[], &[], &mut [], &mut [])), (Err(Refusal::Sums), Ok(())));
 }
 
+/// So many units of 2^-53.
+fn units(count: u64) -> f64 {
+    count as f64 / (1u64 << 53) as f64
+}
+
+#[test]
+fn error_bounds() {
+    // 2 (p + 5) n + 2^(w + 1) + 6 units: the square has window 2 and one shorter edge back from a vertex
+    let strip = Strip { kind: Kind::Square, width: 2, length: 2, periodic: false };
+    let edges = strip.edge_list().unwrap();
+    let graph = edges.graph(4);
+    assert_eq!(graph.error_bound(&[2.0, 2.0, 2.0, 0.5]), Ok(Some(units(2 * 6 * 4 + 8 + 6))));
+    assert_eq!(graph.with_floor(3).error_bound(&[2.0; 4]), Ok(Some(units(2 * 7 * 4 + 16 + 6))));
+    // k * 2 * 12 + 2 + 57 is at most 1,022 up to k = 40
+    let (most, above) = (2f64.powi(40), f64::from_bits(2f64.powi(40).to_bits() + 1));
+    let (least, below) = (2f64.powi(-40), f64::from_bits(2f64.powi(-40).to_bits() - 1));
+    for (factor, known) in [(most, true), (above, false), (least, true), (below, false), (5e-324, false)] {
+        for place in 0..8 {
+            let mut factors = [1.0; 8];
+            factors[place] = factor;
+            assert_eq!(graph.error_bound(&factors[4 * (place / 4)..][..4]).unwrap().is_some(), known);
+            assert_eq!(graph.totals_error_bound(&[1.0], &factors).unwrap(), known.then_some(units(62)));
+        }
+    }
+    assert_eq!(graph.error_bound(&[1.0; 8]), Err(Refusal::Factors));
+    assert_eq!(graph.totals_error_bound(&[1.0, f64::NAN], &[1.0; 16]), Err(Refusal::Magnitude));
+    assert_eq!(Graph::new(30, &[], &[], &[]).with_floor(25).error_bound(&[]), Err(Refusal::Window));
+    assert_eq!(mean_error_bound(units(62), 1, 2), units(2 * 61 + 3 + 2 + 1));
+    assert_eq!(mean_error_bound(units(62), 1 << 20, 1 << 12), units(2 * 61 + 3 + (1 << 20) + (1 << 12)));
+    assert_eq!(mean_error_bound(units(62), 1 << 27, 32), units(2 * (2 * 61 + 2 + 32 + (1 << 27))));
+}
+
 #[test]
 fn limits() {
     let job = |floor| Job { graph: Graph::new(30, &[], &[], &[]).with_floor(floor), us: &[], vs: &[] };
@@ -238,7 +272,9 @@ fn largest_calls() -> Result<(), Refusal> {
     graph.rotated(&mut [0; 4096], &mut [0; 4096], &mut [0.0; 4096])?;
     graph.spanning_forest(&mut vec![false; edges.m.len()])?;
     graph.components(&mut vec![0; 1024])?;
+    graph.error_bound(&vec![1.5; edges.m.len()])?;
     let (betas, factors) = ([0.5; 64], graph.factors(&[0.5; 64])?.all);
+    graph.totals_error_bound(&betas, &factors)?;
     let (mut squares, mut fourths) = (vec![0.0; 64 * us.len()], vec![0.0; 64 * us.len()]);
     let by = Sampling { seed: 1, from: 0, to: 1, samples: 1 };
     job.sample(&betas, &factors, Manner::Block, &by, &mut squares, &mut fourths, &mut work)?;

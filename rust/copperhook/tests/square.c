@@ -1,5 +1,6 @@
 /* The sheet of a free square strip, 2 by 2, with factors 2 and 1/2 in both configurations: one line for each pair, its label, its ends and
-   the bits of its correlation; in the second configuration from pair records. Written as a C program would use the library. */
+   the bits of its correlation; in the second configuration from pair records. Then how far they are from the exact ones at most, where that
+   is known. Written as a C program would use the library. */
 #include "copperhook.h"
 
 #include <inttypes.h>
@@ -27,6 +28,15 @@ static size_t make(struct strip *s) {
     return refused;
 }
 
+static size_t print_bound(const struct strip *s, const double *factors) {
+    bool known;
+    double bound;
+    size_t refused = copperhook_error_bound(s->n, 0, s->a, s->edges, s->b, s->edges, s->m, s->edges, factors, s->edges, &known, &bound);
+    if (!refused && known)
+        printf("within %a\n", bound);
+    return refused;
+}
+
 static size_t print_sheet(const struct strip *s, bool as_records, const double *factors, double *work, size_t room) {
     double results[COPPERHOOK_STANDARD_PAIRS];
     const char *label = (const char *)s->labels;
@@ -44,7 +54,7 @@ static size_t print_sheet(const struct strip *s, bool as_records, const double *
         memcpy(&bits, &results[i], sizeof bits);
         printf("%s %zu %zu %016" PRIx64 "\n", label, s->us[i], s->vs[i], bits);
     }
-    return 0;
+    return print_bound(s, factors);
 }
 
 int main(void) {

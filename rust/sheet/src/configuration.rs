@@ -1,7 +1,7 @@
 //! The correlations of one configuration.
 
 use crate::board::{counted, Board};
-use crate::source::{Done, Source, Values};
+use crate::source::{Bounds, Done, Source, Values};
 use crate::trouble::Trouble;
 use copperhook::Rng;
 
@@ -58,6 +58,13 @@ impl Source for Configuration {
 
     fn sweeps(&self) -> f64 {
         1.0
+    }
+
+    fn bounds(&self, board: &Board) -> Result<Bounds, Trouble> {
+        let betas = board.beta_values();
+        let factors = board.graph().factors(&betas).map_err(|refusal| board.refused(refusal))?;
+        let bound = |i| board.graph().error_bound(&factors.of_signs(i, &self.minus)).map_err(|refusal| board.refused(refusal));
+        (0..betas.len()).map(bound).collect()
     }
 
     fn values(&self, board: &Board, work: &mut [f64], done: Done) -> Result<Values, Trouble> {

@@ -10,7 +10,7 @@ pub fn csv(sheet: &Sheet) -> String {
             text += &format!(",{column} bits");
         }
     }
-    text.push('\n');
+    text += &format!(",{} bound\n", sheet.columns[0]);
     for (i, beta) in sheet.betas.iter().enumerate() {
         for row in &sheet.rows {
             let distance = row.distance.map_or(String::new(), |d| d.to_string());
@@ -22,7 +22,7 @@ pub fn csv(sheet: &Sheet) -> String {
                     text += &format!(",{}", bits(x));
                 }
             }
-            text.push('\n');
+            text += &format!(",{}\n", sheet.bounds[i].map_or(String::new(), |bound| format!("{bound:?}")));
         }
     }
     text
@@ -30,10 +30,11 @@ pub fn csv(sheet: &Sheet) -> String {
 
 pub fn json(sheet: &Sheet) -> String {
     let betas: Vec<String> = sheet.betas.iter().map(|b| string(b)).collect();
+    let bounds: Vec<String> = sheet.bounds.iter().map(|b| b.map_or("null".to_string(), |bound| format!("{bound:?}"))).collect();
     let rows: Vec<String> = sheet.rows.iter().map(|row| format!("    {}", json_row(sheet, row))).collect();
     format!(
         "{{\n  \"kind\": {},\n  \"boundary\": {},\n  \"width\": {},\n  \"length\": {},\n  \"title\": {},\n  \"source\": {},\n  \"manner\": {},\n  \
-         \"betas\": [{}],\n  \"pairs\": [\n{}\n  ]\n}}\n",
+         \"betas\": [{}],\n  {}: [{}],\n  \"pairs\": [\n{}\n  ]\n}}\n",
         string(&sheet.kind),
         string(&sheet.boundary),
         sheet.width,
@@ -42,6 +43,8 @@ pub fn json(sheet: &Sheet) -> String {
         string(&sheet.source),
         string(sheet.manner),
         betas.join(", "),
+        string(&format!("{} bound", sheet.columns[0])),
+        bounds.join(", "),
         rows.join(",\n")
     )
 }

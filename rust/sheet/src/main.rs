@@ -1,5 +1,6 @@
 //! The program that makes a sheet: `sheet --help` tells its options.
 
+mod accuracy;
 mod board;
 mod configuration;
 mod cost;
@@ -26,11 +27,12 @@ use trouble::Trouble;
 fn make(options: &Options) -> Result<String, Trouble> {
     let board = Board::new(options)?;
     let source = source::chosen(options, &board)?;
+    let bounds = source.bounds(&board)?;
     let cost = Cost::of(&board, source.as_ref());
     cost.say();
     let mut work = work_memory(&board, source.threads())?;
     let values = progress::shown(&cost, |done| source.values(&board, &mut work, done))?;
-    let sheet = Sheet::new(&board, source.as_ref(), values, options.bits);
+    let sheet = Sheet::new(&board, source.as_ref(), bounds, values, options.bits);
     Ok(match options.format {
         Format::Text => text::text(&sheet),
         Format::Csv => data::csv(&sheet),

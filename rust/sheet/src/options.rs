@@ -33,6 +33,9 @@ how it is told
     --output FILE            to this file, which is there whole or not at all
     --help                   this text
 
+The foot of a text tells how far its correlations, or means, are from the exact ones at most, for the factors that the
+host's exp makes. That is proved, and no digit past it is printed. csv and json carry the bound, and every digit.
+
 examples
     sheet --kind square --width 4 --length 6 --beta 0.44,0.6
     sheet --kind tri --width 3 --length 8 --cylinder --beta 0.3 --seed 7 --format csv

@@ -1,7 +1,7 @@
 //! A sheet: a table of values with what they are of.
 
 use crate::board::Board;
-use crate::source::{Source, Values};
+use crate::source::{Bounds, Source, Values};
 
 pub struct Row {
     pub label: String,
@@ -23,12 +23,14 @@ pub struct Sheet {
     /// As they were written.
     pub betas: Vec<String>,
     pub columns: &'static [&'static str],
+    /// How far the first column's values can be from the exact ones, by beta, where that is proved.
+    pub bounds: Bounds,
     pub rows: Vec<Row>,
     pub bits: bool,
 }
 
 impl Sheet {
-    pub fn new(board: &Board, source: &dyn Source, values: Values, bits: bool) -> Sheet {
+    pub fn new(board: &Board, source: &dyn Source, bounds: Bounds, values: Values, bits: bool) -> Sheet {
         let row = |i: usize| {
             let pair = &board.pairs[i];
             let values = values.iter().map(|of_beta| of_beta[i].clone()).collect();
@@ -44,6 +46,7 @@ impl Sheet {
             manner: if board.manner == copperhook::Manner::Block { "block" } else { "element" },
             betas: board.betas.iter().map(|b| b.text.clone()).collect(),
             columns: source.columns(),
+            bounds,
             rows: (0..board.pairs.len()).map(row).collect(),
             bits,
         }

@@ -9,6 +9,9 @@ use crate::trouble::Trouble;
 /// The values of each pair, beta after beta.
 pub type Values = Vec<Vec<Vec<f64>>>;
 
+/// A bound, where one is proved, beta after beta.
+pub type Bounds = Vec<Option<f64>>;
+
 /// How far a run is: so many of all, and what they are called.
 pub type Done<'a> = &'a (dyn Fn(u64, u64, &str) + Sync);
 
@@ -26,6 +29,9 @@ pub trait Source {
     fn threads(&self) -> usize {
         1
     }
+
+    /// For each beta, how far a value of the first column can be from the exact one at these factors, where that is proved.
+    fn bounds(&self, board: &Board) -> Result<Bounds, Trouble>;
 
     /// For each beta and pair the values that `columns` names. `work` has the room of each thread. `done` hears how far it is.
     fn values(&self, board: &Board, work: &mut [f64], done: Done) -> Result<Values, Trouble>;

@@ -1,5 +1,6 @@
 //! The sheet as aligned text.
 
+use crate::accuracy::{foot, value};
 use crate::sheet::{bits, Sheet};
 
 pub fn text(sheet: &Sheet) -> String {
@@ -18,7 +19,7 @@ pub fn text(sheet: &Sheet) -> String {
         text += cells.collect::<Vec<_>>().join("  ").trim_end();
         text.push('\n');
     }
-    text
+    text + &foot(sheet)
 }
 
 /// Its head and a line for each pair, cell by cell.
@@ -34,32 +35,13 @@ fn table(sheet: &Sheet) -> Vec<Vec<String>> {
     for row in &sheet.rows {
         let mut cells = vec![row.label.clone(), row.u.to_string(), row.v.to_string()];
         cells.push(row.distance.map_or("-".to_string(), |d| d.to_string()));
-        for &x in row.values.iter().flatten() {
-            cells.push(value(x));
-            cells.extend(sheet.bits.then(|| bits(x)));
+        for (of_beta, &bound) in row.values.iter().zip(&sheet.bounds) {
+            for (c, &x) in of_beta.iter().enumerate() {
+                cells.push(value(x, if c == 0 { bound } else { None }));
+                cells.extend(sheet.bits.then(|| bits(x)));
+            }
         }
         table.push(cells);
     }
     table
-}
-
-/// Twelve decimals, or twelve digits of what is too small for them.
-fn value(x: f64) -> String {
-    if x != 0.0 && x.abs() < 1e-6 {
-        format!("{x:.11e}")
-    } else {
-        format!("{x:.12}")
-    }
-}
-
-#[cfg(test)]
-mod tests {
-    use super::value;
-
-    #[test]
-    fn small_values_keep_their_digits() {
-        assert_eq!(value(0.6), "0.600000000000");
-        assert_eq!(value(-1.5e-9), "-1.50000000000e-9");
-        assert_eq!(value(0.0), "0.000000000000");
-    }
 }

@@ -1,9 +1,9 @@
 //! Mean squares of correlations, and their standard errors: over all configurations, or over drawn ones.
 
 use crate::board::{counted, Board};
-use crate::source::{Done, Source, Values};
+use crate::source::{Bounds, Done, Source, Values};
 use crate::trouble::Trouble;
-use copperhook::{estimates, Refusal, Sampling};
+use copperhook::{estimates, mean_error_bound, Refusal, Sampling};
 use std::collections::BTreeMap;
 use std::sync::atomic::{AtomicU64, Ordering};
 use std::sync::Mutex;
@@ -52,6 +52,13 @@ impl Sums {
     }
 }
 
+/// The bound of a call's means at these betas, for a total of so many chunks of `size` configurations.
+fn mean_bound(board: &Board, betas: &[f64], chunks: u64, size: u64) -> Result<Option<f64>, Refusal> {
+    let factors = board.graph().factors(betas)?.all;
+    let bound = board.graph().totals_error_bound(betas, &factors)?;
+    Ok(bound.map(|bound| mean_error_bound(bound, chunks, size)))
+}
+
 /// All configurations.
 pub struct Enumerated {
     free: usize,
@@ -81,6 +88,12 @@ impl Source for Enumerated {
 
     fn sweeps(&self) -> f64 {
         self.count as f64
+    }
+
+    fn bounds(&self, board: &Board) -> Result<Bounds, Trouble> {
+        let size = self.count.min(1024);
+        let bound = |beta: &f64| mean_bound(board, &[*beta], (self.count / size) as u64, size as u64);
+        board.beta_values().iter().map(bound).collect::<Result<_, _>>().map_err(|refusal| board.refused(refusal))
     }
 
     /// Beta after beta: the sums of one do not depend on the others.
@@ -175,6 +188,13 @@ impl Source for Sampled {
 
     fn threads(&self) -> usize {
         self.threads
+    }
+
+    /// One call has all betas, and a bound for all or for none.
+    fn bounds(&self, board: &Board) -> Result<Bounds, Trouble> {
+        let betas = board.beta_values();
+        let bound = mean_bound(board, &betas, self.chunks(), self.by.samples as u64).map_err(|refusal| board.refused(refusal))?;
+        Ok(vec![bound; betas.len()])
     }
 
     /// Threads take chunk after chunk; the sums are added in the order of the chunks, as one call of all would add them.

@@ -38,10 +38,13 @@ corner-adj-l      0  2         1           0.441176470588
 short-end-to-end  0  1         1           0.441176470588
 end-to-end-l      0  2         1           0.441176470588
 opp-corners       0  3         2           0.000000000000
+
+each correlation is within 6.9e-15 of the exact value for these factors, proved
 ";
     assert_eq!(printed(&format!("{SQUARE} --signs +++-")), expected);
     let first = |line: &str| printed(&format!("{SQUARE} --format csv --bits {line}")).lines().nth(1).unwrap().to_string();
-    let row = format!("square,free,2,2,0.6931471805599453,corner-adj-a,0,1,1,{:?},0x{:016x}", 255.0 / 353.0, (255.0f64 / 353.0).to_bits());
+    let (c, bound) = (255.0f64 / 353.0, 62.0 / (1u64 << 53) as f64);
+    let row = format!("square,free,2,2,0.6931471805599453,corner-adj-a,0,1,1,{c:?},0x{:016x},{bound:?}", c.to_bits());
     assert_eq!(first("--signs plus"), row);
     assert_eq!(first("--signs ++++"), row);
 }
@@ -107,11 +110,16 @@ corner-adj-l      0  2         1              0.358234484804               0.163
 short-end-to-end  0  1         1              0.358234484804               0.163597806603
 end-to-end-l      0  2         1              0.358234484804               0.163597806603
 opp-corners       0  3         2              0.203135407555               0.203135407555
+
+each mean is within 1.5e-14 of the exact value for these factors, proved; of the errors no bound is proved
 ";
     assert_eq!(printed(SQUARE), expected);
     assert_eq!(printed(&format!("{SQUARE} --enumerate")), expected);
     let tree = printed("--kind square --width 1 --length 3 --beta 0.6931471805599453 --format csv --pairs 0-1");
-    assert_eq!(tree, "kind,boundary,width,length,beta,pair,u,v,distance,mean\nsquare,free,1,3,0.6931471805599453,0-1,0,1,1,0.36\n");
+    // 2 (2 (0 + 5) 3 + 2^2 + 5) + 2 roundings of the square, one configuration in one chunk, and one unit more
+    let bound = 83.0 / (1u64 << 53) as f64;
+    let head = "kind,boundary,width,length,beta,pair,u,v,distance,mean,mean bound";
+    assert_eq!(tree, format!("{head}\nsquare,free,1,3,0.6931471805599453,0-1,0,1,1,0.36,{bound:?}\n"));
 }
 
 /// Labels with the bits of the means and of the errors, beta after beta.
@@ -147,6 +155,65 @@ fn totals_are_the_originals() {
             assert_eq!(told(&format!("--sample 7 --chunks 3..20 --seed 8 --threads {threads}")), total, "{line} with {threads} threads");
         }
     }
+}
+
+/// What stands under the table.
+fn foot(line: &str) -> String {
+    printed(line).rsplit_once("\n\n").unwrap().1.to_string()
+}
+
+#[test]
+fn the_foot_tells_what_is_proved() {
+    let square = "--kind square --width 2 --length 2 --pairs 0-1";
+    let within = "is within 6.9e-15 of the exact value for these factors, proved";
+    // factors up to 2^40 have a bound: couplings up to 27.7
+    let none = "no bound is proved for couplings this strong\n";
+    assert_eq!(foot(&format!("{square} --signs plus --beta 0.5,27.7")), format!("each correlation {within}\n"));
+    for which in ["--signs plus", "--signs ---+", "--enumerate", "--sample 3", "--sample 1"] {
+        assert_eq!(foot(&format!("{square} {which} --beta 27.8")), none);
+        assert_eq!(foot(&format!("{square} {which} --beta -27.8,28")), none);
+    }
+    let strong = "no bound is proved for couplings as strong as at beta 28, 30\n";
+    assert_eq!(foot(&format!("{square} --signs plus --beta 28,1,30,2")), format!("each correlation at beta 1, 2 {within}\n{strong}"));
+    assert_eq!(
+        foot(&format!("{square} --enumerate --beta 28,1,30")),
+        format!("each mean at beta 1 is within 1.5e-14 of the exact value for these factors, proved; of the errors no bound is proved\n{strong}")
+    );
+    // drawn configurations of all betas are one call
+    assert_eq!(foot(&format!("{square} --sample 3 --beta 28,1")), none);
+    assert_eq!(
+        foot(&format!("{square} --sample 1 --beta 1")),
+        "each mean is within 1.5e-14 of the exact value for these factors, proved\n"
+    );
+}
+
+#[test]
+fn no_digit_is_printed_past_the_bound() {
+    for (which, bound, decimals) in [("--seed 7", "2.0e-12", 11), ("--sample 5", "3.9e-12", 11), ("--sample 1 --chunks 50000", "", 10)] {
+        let (width, length) = if bound.is_empty() { (2, 2) } else { (13, 6) };
+        let line = format!("--kind square --width {width} --length {length} --beta 0.4 {which}");
+        let (text, csv) = (printed(&line), printed(&format!("{line} --format csv")));
+        assert!(text.contains(&format!(" is within {bound}")), "{text}");
+        for (shown, all) in text.lines().skip(4).zip(csv.lines().skip(1)) {
+            let (shown, all) = (shown.split_whitespace().nth(4).unwrap(), all.split(',').nth(9).unwrap());
+            let (digits, exponent) = shown.split_once("e-").unwrap_or((shown, "0"));
+            let after = digits.split_once('.').map_or(0, |parts| parts.1.len());
+            assert_eq!(after + exponent.parse::<usize>().unwrap(), decimals, "{text}");
+            assert!((shown.parse::<f64>().unwrap() - all.parse::<f64>().unwrap()).abs() <= 0.5001 * 0.1f64.powi(decimals as i32));
+        }
+    }
+}
+
+#[test]
+fn data_carries_the_bound() {
+    let line = "--kind square --width 2 --length 2 --pairs 0-1 --signs plus --beta 1,28";
+    let bound = 62.0 / (1u64 << 53) as f64;
+    let csv = printed(&format!("{line} --format csv"));
+    let last: Vec<&str> = csv.lines().map(|line| line.rsplit_once(',').unwrap().1).collect();
+    assert_eq!(last, ["correlation bound", &format!("{bound:?}"), ""]);
+    let json = printed(&format!("{line} --format json"));
+    assert!(json.contains(&format!("\n  \"correlation bound\": [{bound:?}, null],\n")), "{json}");
+    assert!(printed(&format!("{SQUARE} --format json")).contains("\n  \"mean bound\": ["));
 }
 
 #[test]

@@ -1,9 +1,7 @@
 -- Each `return` is a law of Cases.
 use mathlib.Core.Path.{_≡_, sym, _∙_}
 use mathlib.Core.Bool.{true, false}
-use Prim.Native.Nat.{_^_}
-use lib.Dec.{le→leb}
-use lib.Ieee.{inFloat}
+use Rattle.rounding.specs.Scaled.{castable}
 use borrow.Author.Needs.{needs}
 use borrow.Author.Tests.{not-true, not-false}
 use Rattle.estimate.specs.Estimates.{number, badCount, inOrder}
@@ -28,8 +26,7 @@ returns c =
     refused-count (s .count) (s .squares) (s .fourths) (sym (c .before .bad-count .ensures) ∙ c .if1 .taken)
 
 int-to-float-n : tie.Need-int-to-float-n
-unfolding inFloat
-int-to-float-n c = let count = c .before .before .before .args .count in le→leb count (2 ^ 53) (few-enough count (counted (c .before)))
+int-to-float-n c = castable (few-enough (c .before .before .before .args .count) (counted (c .before)))
 
 in-order-requires : tie.Need-in-order-requires
 in-order-requires c κs = search needs

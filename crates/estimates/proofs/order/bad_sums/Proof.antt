@@ -1,12 +1,11 @@
 -- A search for a place out of order, once the count is known to be a double.
 use mathlib.Core.Path.{_≡_, sym, ap, _∙_}
 use mathlib.Core.Bool.{Bool, false, not}
-use Prim.Native.Nat.{_-_, _^_, _≤_}
+use Prim.Native.Nat.{_-_, _≤_}
 use native.Mathlib.Omega.{arith}
-use lib.Dec.{le→leb}
-use lib.Ieee.{inFloat}
 use lib.ListN.{length}
 use borrow.Author.Needs.{needs}
+use Rattle.rounding.specs.Scaled.{castable}
 use Rattle.vector.specs.Search.{some, start, hit, miss, none}
 use Rattle.estimate.specs.Estimates.{badCount}
 use Rattle.estimate.specs.Counted.{few-enough}
@@ -30,8 +29,7 @@ returns : tie.Need-returns Inv-loop μ-loop
 returns c = let a = c .before .before .before .before .args in of-count (a .count) (a .squares .now) (a .fourths .now) (sym (c .before .bad-count .ensures) ∙ c .if1 .taken)
 
 int-to-float-n : tie.Need-int-to-float-n Inv-loop μ-loop
-unfolding inFloat
-int-to-float-n c = let count = c .before .before .before .before .before .args .count in le→leb count (2 ^ 53) (few-enough count (counted (c .before)))
+int-to-float-n c = castable (few-enough (c .before .before .before .before .before .args .count) (counted (c .before)))
 
 loop-holds : tie.Need-loop-holds Inv-loop μ-loop
 loop-holds c = (omega arith, start _)

@@ -2,7 +2,7 @@
 use native.Mathlib.Omega.{arith}
 use Prim.Native.Nat.{_/_, _^_}
 use mathlib.Core.Path.{ap}
-use Rattle.rng.proofs.Scaled.{times-ulp, castable}
+use Rattle.rounding.specs.Scaled.{times-ulp, castable}
 use Rattle.rng.specs.Uniform.{unit, unit-exact, top-lt}
 use borrow.Author.Needs.{needs}
 use Rattle.rng.proofs.Rng.uniform.Statement.{statement}

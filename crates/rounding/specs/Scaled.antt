@@ -1,7 +1,7 @@
 -- A whole number below 2 ^ 53 as a double, times 1.0 / 2 ^ 53 as the code has it: one rounding of the quotient, and that is exact.
 use mathlib.Core.Path.{_≡_, refl, _∙_, ap}
 use mathlib.Core.Bool.{false, true, true≢false}
-use Prim.Native.Nat.{ℕ, _*_, _^_, _<_}
+use Prim.Native.Nat.{ℕ, _*_, _^_, _≤_, _<_}
 use native.Mathlib.Nat.{mul-assoc, mul-pos, le-of-lt}
 use native.Mathlib.Omega.{arith}
 use lib.IntN.{pos, negsuc}
@@ -36,6 +36,7 @@ unfolding ofInt
 times-ulp n h =
     ap (mul binary64 (round binary64 false n 1)) ulp-is ∙ scaled (round binary64 false n 1) n (round-whole binary64 false n (le-of-lt h))
 
-pub castable : {n : ℕ} → n < 2 ^ 53 → T (inFloat binary64 (pos n))
+-- and such a number can be cast
+pub castable : {n : ℕ} → n ≤ 2 ^ 53 → T (inFloat binary64 (pos n))
 unfolding inFloat
-castable {n} h = le→leb n (2 ^ 53) (le-of-lt h)
+castable {n} h = le→leb n (2 ^ 53) h
