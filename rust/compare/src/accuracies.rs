@@ -2,9 +2,10 @@
 
 use crate::draw::Draw;
 use crate::guarded::{equal, Guarded};
-use crate::law::{factor_refusal, first, job_refusal, Edges, Pairs};
 use crate::shapes::{long_edge, short_edges, spoil_graph, swept_graph, Reach};
 use copperhook::sys;
+use oracle::rules::lists::{Edges, Pairs};
+use oracle::rules::refusals::{factor_refusal, first, job_refusal};
 
 /// A call as it is lent. One with betas is for totals, whose factors are of either sign.
 struct Call {

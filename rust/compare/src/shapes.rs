@@ -1,8 +1,8 @@
 //! Drawn graphs and pairs, sound ones, and what spoils them.
 
 use crate::draw::Draw;
-use crate::law::{Edges, Pairs};
 use oracle::lattice::{Kind, Strip};
+use oracle::rules::lists::{Edges, Pairs};
 use std::collections::HashSet;
 
 pub const KINDS: [Kind; 3] = [Kind::Square, Kind::Tri, Kind::Honey];

@@ -29,7 +29,7 @@ fn links(j: &mut Job, v: u64, lengths: &[u64]) {
 /// A number of document 01's list, and something that earns it.
 type Spoil = (u64, fn(&mut Job));
 
-const SPOILS: [Spoil; 49] = [
+const SPOILS: &[Spoil] = &[
     (1, |j| j.n = 0),
     (1, |j| j.n = 1025),
     (1, |j| j.n = u64::MAX),

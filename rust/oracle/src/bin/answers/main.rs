@@ -23,7 +23,6 @@ mod estimates;
 mod generators;
 mod graphs;
 mod hash;
-mod model;
 mod strips;
 mod sweeps;
 mod total_calls;
@@ -32,7 +31,10 @@ mod totals;
 use std::io::Write;
 use std::process::ExitCode;
 
-const LISTS: [(&str, fn() -> Vec<u8>); 12] = [
+/// A list's name, and its bytes.
+type List = (&'static str, fn() -> Vec<u8>);
+
+const LISTS: &[List] = &[
     ("generators", || words(generators::generators())),
     ("graphs", || words(graphs::graphs())),
     ("strips", || words(strips::strips())),

@@ -5,8 +5,11 @@ use oracle::lattice::Graph;
 use oracle::rng::Rng;
 use std::collections::BTreeMap;
 
-/// Small graphs whose sweeps reach every rescale, as (vertices, floor, edges): five and more vertices forward, backward steps at multiples of 4.
-fn small_graphs() -> Vec<(usize, usize, Vec<(usize, usize)>)> {
+/// Vertices, floor and edges.
+type SmallGraph = (usize, usize, Vec<(usize, usize)>);
+
+/// Small graphs whose sweeps reach every rescale: five and more vertices forward, backward steps at multiples of 4.
+fn small_graphs() -> Vec<SmallGraph> {
     let reach = |n: usize, distances: &[usize]| -> Vec<(usize, usize)> {
         (1..n).flat_map(|b| distances.iter().filter(move |&&d| d <= b).map(move |&d| (b - d, b))).collect()
     };

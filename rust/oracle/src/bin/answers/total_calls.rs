@@ -2,8 +2,9 @@
 
 use crate::correlation_jobs::job;
 use crate::correlations::{Job, Work};
-use crate::totals::{call, Call, Drawn, Entry};
+use crate::totals::{call, Call};
 use oracle::lattice::{Kind, Strip};
+use oracle::rules::configurations::{Drawn, Entry};
 
 const ENTRIES: [Entry; 3] = [Entry::Enumerated, Entry::Stored, Entry::Sampled];
 /// Two chunks above zero.
@@ -69,7 +70,7 @@ fn samplings() -> Vec<Call> {
     let ranges = [(0, 1), (0, 3), (2, 3), (1 << 40, (1 << 40) + 2), (u64::MAX - 2, u64::MAX), (4, 4), (9, 3), (u64::MAX, 0), (0, u64::MAX)];
     let mut list = Vec::new();
     for (i, (from, to)) in ranges.into_iter().enumerate() {
-        let samples = if to == u64::MAX && from == 0 { 0 } else { 1 + 3 * (i as u64 % 3) };
+        let samples = if to == u64::MAX && from == 0 { 0 } else { 1 + 3 * (i % 3) };
         let job = strip_job(&strip(Kind::Square, 2, 6, true), 99, &PAIRS[..2], i % 2 == 1);
         list.push(call(Entry::Sampled, job, &BETAS[..2], Drawn { seed: i as u64, from, to, samples }));
     }
@@ -97,7 +98,7 @@ fn nothing_to_sweep() -> Vec<Call> {
     swept.job.work = Work::Lacking(1);
     list.push(swept);
     for (to, samples) in
-        [(1 << 32, 1), ((1 << 32) + 1, 1), (1, 1 << 32), (1 << 16, 1 << 16), (u64::MAX, 0), (u64::MAX, u64::MAX), (2, 1 << 63)]
+        [(1 << 32, 1), ((1 << 32) + 1, 1), (1, 1 << 32), (1 << 16, 1 << 16), (u64::MAX, 0), (u64::MAX, usize::MAX), (2, 1 << 63)]
     {
         let drawn = Drawn { seed: 3, from: 0, to, samples };
         list.push(call(Entry::Sampled, strip_job(&strip(Kind::Square, 2, 3, false), 2, &PAIRS[..1], true), &[], drawn));
@@ -143,7 +144,7 @@ fn many_free_edges(c: &mut Call) {
 /// A number of document 01's list, and something that earns it.
 type Spoil = (u64, fn(&mut Call));
 
-const SPOILS: [Spoil; 44] = [
+const SPOILS: &[Spoil] = &[
     (1, |c| c.job.n = 0),
     (1, |c| c.job.n = 1025),
     (2, |c| c.job.vs.truncate(1)),
@@ -182,7 +183,7 @@ const SPOILS: [Spoil; 44] = [
     (10, |c| c.job.factors[2] = -1.0),
     (10, |c| c.job.factors[3] = f64::INFINITY),
     (10, |c| c.job.factors[19] = f64::NAN),
-    (11, |c| (c.drawn.from, c.drawn.to, c.drawn.samples) = (0, u64::MAX, u64::MAX)),
+    (11, |c| (c.drawn.from, c.drawn.to, c.drawn.samples) = (0, u64::MAX, usize::MAX)),
     (11, |c| (c.drawn.from, c.drawn.to, c.drawn.samples) = (9, (1 << 32) + 10, 1)),
     (12, |c| c.lengths[0] += 1),
     (12, |c| c.lengths[0] -= 1),
@@ -193,7 +194,7 @@ const SPOILS: [Spoil; 44] = [
     (14, |c| {
         c.betas[1] = 700.0;
         c.lend_factors();
-        c.job.factors.iter_mut().for_each(|x| *x = x.min(1e300).max(1e-300))
+        c.job.factors.iter_mut().for_each(|x| *x = x.clamp(1e-300, 1e300))
     }),
 ];
 

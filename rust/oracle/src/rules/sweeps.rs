@@ -1,5 +1,4 @@
-//! The sweep rules of document 01, written down a second time and plainly: the Z that the original does not hand out, and answers to hold
-//! against its own.
+//! The sweeps: the Z that the original does not hand out, and answers to hold against its own.
 
 /// A job that passed its checks: kept edges with their factors, smaller end first; `each` rescales after every step.
 pub struct Model<'a> {
@@ -17,7 +16,7 @@ struct Step {
 
 impl Step {
     fn up(&self, k: usize, scale: f64) -> f64 {
-        let weigh = |f: f64, &(d, x): &(usize, f64)| if k >> (d - 1) & 1 == 0 { f * x } else { f / x };
+        let weigh = |f: f64, &(d, x): &(usize, f64)| if (k >> (d - 1)) & 1 == 0 { f * x } else { f / x };
         self.near.iter().fold(1.0, weigh) * scale
     }
 
@@ -29,7 +28,7 @@ impl Step {
         let (ep, em, half) = (self.ep, 1.0 / self.ep, v.len() / 2);
         let entry = |j: usize| {
             let (k, a, b) = (j / 2, v[j / 2], v[j / 2 + half]);
-            if j % 2 == 0 { (ep * a + em * b) * self.up(k, scale) } else { (em * a + ep * b) * self.down(k, scale) }
+            if j.is_multiple_of(2) { (ep * a + em * b) * self.up(k, scale) } else { (em * a + ep * b) * self.down(k, scale) }
         };
         (0..v.len()).map(entry).collect()
     }
@@ -54,45 +53,63 @@ impl Model<'_> {
         Step { ep: left.map_or(1.0, |e| e.1), near }
     }
 
-    /// The largest entry where it is taken, else 1.0; a NaN is passed over.
+    /// Returns the largest entry where it is taken, else 1.0; a NaN is passed over.
     fn stored(&self, v: &[f64], taken: bool) -> f64 {
         if self.each || taken { v.iter().fold(0.0, |m, &x| if m < x { x } else { m }) } else { 1.0 }
     }
 
-    /// Z, and N over Z, of each pair. Vertex 0 takes a step from the start, as in the original.
+    /// Returns Z, and N over Z, of each pair. Vertex 0 takes a step from the start, as in the original.
     pub fn answers(&self, pairs: &[(usize, usize)]) -> Vec<(f64, f64)> {
+        let swept = self.sweep();
+        pairs.iter().map(|&(a, b)| self.ratio(&swept, a.min(b), a.max(b))).collect()
+    }
+
+    fn sweep(&self) -> Swept {
         let steps: Vec<Step> = (0..self.n).map(|t| self.step(t)).collect();
         let start = vec![1.0; 1 << self.window];
         let (mut forward, mut scales, mut most) = (Vec::<Vec<f64>>::new(), Vec::new(), 1.0);
-        for t in 0..self.n {
+        for (t, step) in steps.iter().enumerate() {
             scales.push(1.0 / most);
-            forward.push(steps[t].forward(forward.last().unwrap_or(&start), scales[t]));
+            forward.push(step.forward(forward.last().unwrap_or(&start), scales[t]));
             most = self.stored(&forward[t], t % 4 == 3);
         }
         let (mut backward, mut most) = (vec![start; self.n], 1.0);
         for t in (1..self.n).rev() {
             backward[t - 1] = steps[t].backward(&backward[t], 1.0 / most);
-            most = self.stored(&backward[t - 1], t % 4 == 0);
+            most = self.stored(&backward[t - 1], t.is_multiple_of(4));
         }
-        let sums = |&(a, b): &(usize, usize)| {
-            let (u, v) = (a.min(b), a.max(b));
-            let direct = v - u < self.window;
-            let mut g = forward[if direct { v } else { u }].clone();
-            if !direct {
-                g.iter_mut().skip(1).step_by(2).for_each(|x| *x = -*x);
-                for t in u + 1..=v {
-                    g = steps[t].forward(&g, scales[t]);
-                }
-            }
-            let (mut z, mut n) = (0.0, 0.0);
-            for j in 0..g.len() {
-                z += forward[v][j] * backward[v][j];
-                let subtracted = if direct { (j ^ j >> (v - u)) & 1 == 1 } else { j % 2 == 1 };
-                let product = g[j] * backward[v][j];
-                n = if subtracted { n - product } else { n + product };
-            }
-            (z, n / z)
-        };
-        pairs.iter().map(sums).collect()
+        Swept { steps, scales, forward, backward }
+    }
+
+    /// Returns Z, and N over Z, of the pair of `u` and the later `v`.
+    fn ratio(&self, swept: &Swept, u: usize, v: usize) -> (f64, f64) {
+        let (forward, backward) = (&swept.forward[v], &swept.backward[v]);
+        let direct = v - u < self.window;
+        let propagated = if direct { forward.clone() } else { swept.propagated(u, v) };
+        let (mut z, mut n) = (0.0, 0.0);
+        for j in 0..forward.len() {
+            z += forward[j] * backward[j];
+            let subtracted = if direct { (j ^ (j >> (v - u))) & 1 == 1 } else { j % 2 == 1 };
+            let product = propagated[j] * backward[j];
+            n = if subtracted { n - product } else { n + product };
+        }
+        (z, n / z)
+    }
+}
+
+/// The vectors of both sweeps, with the steps and the forward scales.
+struct Swept {
+    steps: Vec<Step>,
+    scales: Vec<f64>,
+    forward: Vec<Vec<f64>>,
+    backward: Vec<Vec<f64>>,
+}
+
+impl Swept {
+    /// Returns the forward vector of `u`, its odd entries negated, taken on to `v` by the stored scales.
+    fn propagated(&self, u: usize, v: usize) -> Vec<f64> {
+        let mut vector = self.forward[u].clone();
+        vector.iter_mut().skip(1).step_by(2).for_each(|x| *x = -*x);
+        (u + 1..=v).fold(vector, |vector, t| self.steps[t].forward(&vector, self.scales[t]))
     }
 }
