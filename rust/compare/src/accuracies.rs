@@ -140,7 +140,7 @@ fn spoil(draw: &mut Draw, call: &mut Call) {
     }
 }
 
-/// The call, what it answers, and what it leaves in all that it is lent.
+/// Makes the call and compares what it returns, and what it leaves in all that it is lent.
 fn compare(draw: &mut Draw, call: &Call) -> Result<usize, String> {
     let [a, b] = [&call.edges.a, &call.edges.b].map(|list| Guarded::new(list));
     let [m, betas, factors] = [&call.edges.m[..], call.betas(), &call.factors].map(Guarded::new);

@@ -38,7 +38,7 @@ pub fn try_wide(draw: &mut Draw) -> Result<usize, String> {
     compare_room(&job).and_then(|()| compare(draw, &job)).map_err(|why| format!("{}: {why}", job.told()))
 }
 
-/// That `room` answers what document 01 says.
+/// Compares what `room` returns with document 01.
 fn compare_room(job: &Job) -> Result<(), String> {
     let mut answered = 99;
     let lent = Lent::new(job);
@@ -49,7 +49,7 @@ fn compare_room(job: &Job) -> Result<(), String> {
     lent.unchanged()
 }
 
-/// The call with two lists of ends, and where these are of one length that with records.
+/// Compares the call with two lists of ends, and where these are of one length that with records.
 fn compare(draw: &mut Draw, job: &Job) -> Result<usize, String> {
     let before = Before { results: draw.held(job.results), work: draw.held(work_length(job)) };
     let outcome = outcome(job, &before)?;
@@ -62,7 +62,7 @@ fn compare(draw: &mut Draw, job: &Job) -> Result<usize, String> {
 
 type Call<'a> = fn(&Lent<'a>, &mut Guarded<f64>, &mut Guarded<f64>) -> usize;
 
-/// A call, and what it answers and leaves.
+/// Makes a call, and compares what it returns and leaves.
 fn compare_call<'a>(lent: &Lent<'a>, outcome: &Outcome, before: &Before, call: Call<'a>) -> Result<usize, String> {
     let (mut results, mut work) = (Guarded::new(&before.results), Guarded::new(&before.work));
     let number = call(lent, &mut results, &mut work);

@@ -1,4 +1,4 @@
-//! Every entry of the library on drawn jobs, good and bad: what it answers and leaves against the original, bit for bit, and against
+//! Every entry of the library on drawn jobs, good and bad: what it returns and leaves against the original, bit for bit, and against
 //! document 01's refusals. A list that is lent has guard words around it, and doubles that
 //! are to be written hold NaNs of any payload before. The calls are those of the archive itself, `unsafe` for their
 //! pointers alone: each is a guarded list's or a variable's.
@@ -20,7 +20,7 @@ use draw::Draw;
 use std::collections::BTreeMap;
 use std::time::{Duration, Instant};
 
-/// One job of a group: how the call was answered, 0 for accepted, or what differs.
+/// One job of a group: the number that the call returned, 0 for accepted, or what differs.
 type Try = fn(&mut Draw) -> Result<usize, String>;
 
 /// The entries that are compared together, with the refusals that a long enough run meets and their share of its time, 0.0 for
@@ -56,7 +56,7 @@ pub enum Until {
 #[derive(Default)]
 pub struct Tally {
     pub jobs: u64,
-    /// Jobs by how they were answered, 0 for accepted.
+    /// Jobs by the number that was returned, 0 for accepted.
     pub answered: BTreeMap<usize, u64>,
     pub mismatches: u64,
 }
@@ -91,7 +91,7 @@ pub fn run(group: usize, seed: u64, from: u64, until: Until, tell: &mut dyn FnMu
     tally
 }
 
-/// One line: the jobs, how they were answered, the mismatches.
+/// Returns one line: the jobs, by what was returned, and the mismatches.
 pub fn line(name: &str, tally: &Tally) -> String {
     let by: Vec<String> = tally.answered.iter().map(|(number, jobs)| format!("{number}: {jobs}")).collect();
     format!("{name}: {} jobs, {} mismatches; by answer {}", tally.jobs, tally.mismatches, by.join(", "))

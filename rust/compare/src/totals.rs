@@ -26,7 +26,7 @@ pub fn try_one(draw: &mut Draw) -> Result<usize, String> {
     compare(draw, &call).map_err(|why| format!("{}: {why}", call.told()))
 }
 
-/// The call, and what it answers and leaves.
+/// Makes the call, and compares what it returns and leaves.
 fn compare(draw: &mut Draw, call: &Call) -> Result<usize, String> {
     let (lengths, work) = call.lent();
     let before = Before { lists: lengths.iter().map(|&length| draw.held(length)).collect(), work: draw.held(work) };

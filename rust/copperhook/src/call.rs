@@ -1,7 +1,7 @@
 //! Calls of the archive's entries.
 
 /// Calls an entry. Arguments come in the order that all entries share: numbers, lists that are read, numbers, lists that are written, and
-/// the variables that answers go out to. A list goes as its pointer and its length.
+/// the variables that other results go to. A list goes as its pointer and its length.
 macro_rules! call {
     ($entry:ident(
         $($first:expr),*
@@ -10,8 +10,8 @@ macro_rules! call {
         $(; write $($written:expr),+)?
         $(; tell $($told:expr),+)?
     )) => {
-        // SAFETY: the pointers and lengths are those of slices, of which those that are written are borrowed alone, and the answers go to
-        // variables of their own; the call is total.
+        // SAFETY: the pointers and lengths are those of slices, of which those that are written are borrowed alone, and the other results
+        // go to variables of their own; the call is total.
         unsafe {
             $crate::sys::$entry(
                 $($first,)*

@@ -1,5 +1,5 @@
 //! The C header: it compiles as C11 and as C++17 without a warning, it declares what the bindings declare, and a C program that uses it
-//! prints what the bindings answer.
+//! prints what the bindings return.
 
 use copperhook::{limits, Job, Kind, Manner, Refusal, Strip};
 use std::collections::BTreeMap;

@@ -1,4 +1,4 @@
-//! What a call for correlations is to answer and leave: by the checks, and where they pass by the sweep rules and the original.
+//! What a call for correlations should return and leave: by the checks, and where they pass by the sweep rules and the original.
 
 use super::jobs::{is_large, Job};
 use oracle::glass::{correlations as original, Plan};
@@ -13,7 +13,7 @@ pub struct Before {
     pub work: Vec<f64>,
 }
 
-/// What a call answers and leaves.
+/// What a call returns and leaves.
 pub struct Outcome {
     pub number: usize,
     pub results: Vec<f64>,
@@ -51,7 +51,7 @@ fn original_answers(job: &Job, couplings: &[f64]) -> Vec<f64> {
     answers
 }
 
-/// 14 where some Z is not finite and above zero; else the answers, which the original's are to equal.
+/// Returns 14 where some Z is not finite and above zero; else 0 and the answers, which the original's should equal.
 fn modelled(job: &Job, answers: Option<Vec<f64>>) -> Result<(usize, Vec<f64>), String> {
     let edges: Vec<(usize, usize, f64)> = job.edges.kept().iter().zip(&job.factors).map(|(e, &x)| (e.0, e.1, x)).collect();
     let model = Model { n: job.edges.n, window: job.edges.window(), edges: &edges, each: job.each };

@@ -64,7 +64,7 @@ impl Call {
         self.exponentials && self.betas.iter().all(|beta| kept.iter().all(|e| (beta * e.2).abs() <= 1.5))
     }
 
-    /// Whether it can be told here what the call is to answer.
+    /// Whether it is known here what the call should return.
     pub fn is_followed(&self) -> bool {
         self.entries() <= if self.is_gentle() { MOST_SWEPT } else { MOST_MODELLED }
     }

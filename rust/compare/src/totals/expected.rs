@@ -1,4 +1,4 @@
-//! What a call for totals is to answer and leave: by the checks, and where they pass by the original and the rules.
+//! What a call for totals should return and leave: by the checks, and where they pass by the original and the rules.
 
 use super::calls::{Call, MOST_MODELLED};
 use crate::guarded::{equal, Guarded};
@@ -14,7 +14,7 @@ pub struct Before {
     pub work: Vec<f64>,
 }
 
-/// What a call answers and leaves: `lists` are its one or two result lists.
+/// What a call returns and leaves: `lists` are its one or two result lists.
 pub struct Outcome {
     pub number: usize,
     pub count: usize,

@@ -28,7 +28,11 @@ impl Step {
         let (ep, em, half) = (self.ep, 1.0 / self.ep, v.len() / 2);
         let entry = |j: usize| {
             let (k, a, b) = (j / 2, v[j / 2], v[j / 2 + half]);
-            if j.is_multiple_of(2) { (ep * a + em * b) * self.up(k, scale) } else { (em * a + ep * b) * self.down(k, scale) }
+            if j.is_multiple_of(2) {
+                (ep * a + em * b) * self.up(k, scale)
+            } else {
+                (em * a + ep * b) * self.down(k, scale)
+            }
         };
         (0..v.len()).map(entry).collect()
     }
@@ -38,7 +42,11 @@ impl Step {
         let entry = |j: usize| {
             let k = j % half;
             let (x, y) = (v[2 * k] * self.up(k, scale), v[2 * k + 1] * self.down(k, scale));
-            if j < half { ep * x + em * y } else { em * x + ep * y }
+            if j < half {
+                ep * x + em * y
+            } else {
+                em * x + ep * y
+            }
         };
         (0..v.len()).map(entry).collect()
     }
@@ -55,7 +63,11 @@ impl Model<'_> {
 
     /// Returns the largest entry where it is taken, else 1.0; a NaN is passed over.
     fn stored(&self, v: &[f64], taken: bool) -> f64 {
-        if self.each || taken { v.iter().fold(0.0, |m, &x| if m < x { x } else { m }) } else { 1.0 }
+        if self.each || taken {
+            v.iter().fold(0.0, |m, &x| if m < x { x } else { m })
+        } else {
+            1.0
+        }
     }
 
     /// Returns Z, and N over Z, of each pair. Vertex 0 takes a step from the start, as in the original.

@@ -29,6 +29,7 @@ fn links(j: &mut Job, v: u64, lengths: &[u64]) {
 /// A number of document 01's list, and something that earns it.
 type Spoil = (u64, fn(&mut Job));
 
+#[rustfmt::skip]
 const SPOILS: &[Spoil] = &[
     (1, |j| j.n = 0),
     (1, |j| j.n = 1025),
@@ -81,7 +82,7 @@ const SPOILS: &[Spoil] = &[
     (14, |j| { j.couplings.fill(709.0); j.factors.fill(709f64.exp()) }),
 ];
 
-/// The sound job with all of that done to it; the first number in the list's order is the one that is answered.
+/// The sound job with all of that done to it; the first number in the list's order is the one that is returned.
 fn spoilt(each: bool, spoils: &[Spoil]) -> Job {
     let mut job = sound_job(each);
     spoils.iter().rev().for_each(|spoil| spoil.1(&mut job));
@@ -108,6 +109,7 @@ fn close_calls() -> Vec<Job> {
         change(&mut job);
         job
     };
+    #[rustfmt::skip]
     let mut list = vec![
         alter(|j| j.work = Work::Past(0)),
         alter(|j| links(j, 7, &[4, 2, 3, 1])),

@@ -1,6 +1,7 @@
-//! Jobs for `correlations`, accepted and refused, with what the call answers and leaves in the lent lists.
+//! Jobs for `correlations`, accepted and refused, with what the call returns and leaves in the lent lists.
 
 use crate::correlation_jobs::jobs;
+use crate::words::{bits, BEFORE};
 use oracle::glass::{correlations as original, Plan};
 use oracle::lattice::Graph;
 use oracle::rules::lists::{self, Edges, Pairs};
@@ -92,7 +93,11 @@ impl Job {
             return (self.refusal(), vec![before; self.results]);
         }
         let bits = |list: &[f64]| list.iter().map(|x| x.to_bits()).collect::<Vec<u64>>();
-        assert_eq!(bits(&self.factors), bits(&self.couplings.iter().map(|j| j.exp()).collect::<Vec<f64>>()), "factors are not the couplings'");
+        assert_eq!(
+            bits(&self.factors),
+            bits(&self.couplings.iter().map(|j| j.exp()).collect::<Vec<f64>>()),
+            "factors are not the couplings'"
+        );
         let edges = self.edges();
         let kept: Vec<(usize, usize, f64)> = edges.kept().iter().zip(&self.factors).map(|(e, &x)| (e.0, e.1, x)).collect();
         let model = Model { n: edges.n, window: edges.window(), edges: &kept, each: self.each };
@@ -101,19 +106,16 @@ impl Job {
         for (&(z, modelled), answer) in modelled.iter().zip(&answers) {
             assert!(!is_sound(z) || modelled.to_bits() == answer.to_bits(), "the original answers {answer}, the model {modelled}");
         }
-        if modelled.iter().all(|&(z, _)| is_sound(z)) { (0, answers) } else { (14, vec![0.0; self.results]) }
+        if modelled.iter().all(|&(z, _)| is_sound(z)) {
+            (0, answers)
+        } else {
+            (14, vec![0.0; self.results])
+        }
     }
 }
 
 /// A refusal's number, told from a room.
 const REFUSED: u64 = 1 << 32;
-/// What results and work memory hold before a call, by turns.
-const BEFORE: [f64; 5] = [0.25, f64::NAN, f64::NEG_INFINITY, -0.0, 1e300];
-
-/// One pattern for every NaN.
-fn bits(x: f64) -> u64 {
-    if x.is_nan() { 0x7ff8_0000_0000_0000 } else { x.to_bits() }
-}
 
 /// The number of jobs, and a record for each. It begins with 15 words: n, floor, the lengths of the three edge lists, the two pair lists and
 /// the factors, 1 for per element, the length of the results, what results and work memory hold before the call, how much work memory is

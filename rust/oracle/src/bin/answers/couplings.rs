@@ -1,4 +1,4 @@
-//! Calls of `couplings`, accepted and refused, with what the call answers and leaves in its results.
+//! Calls of `couplings`, accepted and refused, with what the call returns and leaves in its results.
 
 use oracle::lattice::Graph;
 use oracle::rng::Rng;
@@ -132,7 +132,7 @@ const SPOILS: &[Spoil] = &[
     (12, |c| c.m[1] = 0.0),
 ];
 
-/// A call that nothing refuses, with all of that done to it; the first number in the list's order is the one that is answered.
+/// A call that nothing refuses, with all of that done to it; the first number in the list's order is the one that is returned.
 fn spoilt(spoils: &[Spoil]) -> Call {
     let mut call = Call::new(6, &[(0, 1, 1.0), (2, 1, -2.0), (1, 0, 0.0), (4, 5, 1024.0)], &[0.25, -1024.0, 1024.0]);
     spoils.iter().rev().for_each(|spoil| spoil.1(&mut call));

@@ -1,4 +1,4 @@
-//! Graphs, accepted and refused, with the hash of what every graph entry answers and leaves.
+//! Graphs, accepted and refused, with the hash of what every graph entry returns and leaves.
 
 use crate::hash::{mix, OFFSET};
 use oracle::lattice::Graph;
@@ -163,8 +163,7 @@ fn star() -> Vec<(u64, u64, f64)> {
 /// A strip, a ring, a path and a star of 1,024 vertices.
 fn large_graphs() -> Vec<GraphJob> {
     let inside = |&(v, u): &(u64, u64)| u < 1024 && (u != v + 1 || u % 32 != 0);
-    let strip: Vec<(u64, u64, f64)> =
-        (0..1024).flat_map(|v| [(v, v + 1), (v, v + 32)]).filter(inside).map(|(v, u)| (v, u, 1.0)).collect();
+    let strip: Vec<(u64, u64, f64)> = (0..1024).flat_map(|v| [(v, v + 1), (v, v + 32)]).filter(inside).map(|(v, u)| (v, u, 1.0)).collect();
     let ring: Vec<(u64, u64, f64)> = (0..1024).map(|v| (v, (v + 1) % 1024, 2.0)).collect();
     vec![
         graph_job(1024, &strip, vec![(0, 1023), (5, 700), (1023, 1023)]),

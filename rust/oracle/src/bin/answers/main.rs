@@ -27,6 +27,7 @@ mod strips;
 mod sweeps;
 mod total_calls;
 mod totals;
+mod words;
 
 use std::io::Write;
 use std::process::ExitCode;

@@ -73,6 +73,7 @@ pub fn strip_edges() -> Vec<u64> {
 
 /// A record for each dilution: the strip, the seed, keep and the bounds; then the number of the kept edges, their checksum and the window.
 pub fn dilutions() -> Vec<u64> {
+    #[rustfmt::skip]
     let numbers = [
         (0.5, 0.5, 1.5), (0.0, 0.5, 1.5), (1.0, 0.5, 1.5), (2.0, 0.0, 1.0), (-1.0, 0.0, 1.0), (0.9, 1.5, 0.5), (0.7, 1.0, 1.0), (0.3, -1024.0, 1024.0),
         (0.6, 0.0, 0.0), (1.0, -0.0, -0.0), (f64::MAX, 1e-300, 3e-300), (0.1, 0.1, 0.3),
@@ -94,11 +95,13 @@ pub fn dilutions() -> Vec<u64> {
 
 /// A record for each refusal or near miss: the call (0 edge list, 1 dilution, 2 pair set, 3 window), the kind, 1 for a cylinder, the sides, keep, the bounds, and the refusal's number.
 pub fn strip_refusals() -> Vec<u64> {
+    #[rustfmt::skip]
     let sides = [
         (0, 0), (0, 5), (5, 0), (u64::MAX, 0), (1, 1024), (1, 1025), (1024, 1), (1025, 1), (32, 32), (33, 31), (33, 32), (3, 341), (3, 342),
         (1 << 32, 1 << 32), (1 << 63, 2), (u64::MAX, u64::MAX), (u64::MAX, 1), (2, 1 << 63), (1, 1), (2, 3), (3, 3), (4, 2), (5, 4),
     ];
     let above = f64::from_bits(1024f64.to_bits() + 1);
+    #[rustfmt::skip]
     let numbers = [
         [0.5, 0.5, 1.5], [f64::NAN, 0.5, 1.5], [f64::INFINITY, 0.5, 1.5], [f64::NEG_INFINITY, 0.5, 1.5], [f64::MAX, 0.5, 1.5], [0.5, f64::NAN, 1.5],
         [0.5, f64::NEG_INFINITY, 1.5], [0.5, -above, 1.5], [0.5, -1024.0, 1024.0], [0.5, 0.5, above], [0.5, 0.5, f64::NAN], [0.5, 0.5, f64::INFINITY],

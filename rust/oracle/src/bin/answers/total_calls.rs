@@ -203,7 +203,7 @@ fn concerns(entry: Entry, number: u64) -> bool {
     number != if entry == Entry::Sampled { 9 } else { 11 }
 }
 
-/// The sound call with all of that done to it; the first number in the list's order is the one that is answered.
+/// The sound call with all of that done to it; the first number in the list's order is the one that is returned.
 fn spoilt(entry: Entry, each: bool, spoils: &[Spoil]) -> Option<Call> {
     let mut call = sound_call(entry, each);
     spoils.iter().rev().for_each(|spoil| spoil.1(&mut call));

@@ -1,7 +1,8 @@
-//! Calls for totals, accepted and refused, with what the call answers and leaves in the lent lists.
+//! Calls for totals, accepted and refused, with what the call returns and leaves in the lent lists.
 
 use crate::correlations::{Job, Work};
 use crate::total_calls::calls;
+use crate::words::{bits, BEFORE};
 use oracle::glass::{exhaustive, exhaustive_c, sample, Plan};
 use oracle::rules::configurations::{Drawn, Entry};
 use oracle::rules::refusals::{first, unless};
@@ -19,7 +20,7 @@ pub struct Call {
     pub lengths: [usize; 2],
 }
 
-/// What a call answers, the refusal's number where it is one, and its result lists after it.
+/// What a call returns, the refusal's number where it is one, and its result lists after it.
 pub struct Outcome {
     pub refusal: u64,
     pub count: u64,
@@ -98,17 +99,6 @@ impl Call {
 
 /// A refusal's number, told from a count.
 const REFUSED: u64 = 1 << 40;
-/// What results and work memory hold before a call, by turns.
-const BEFORE: [f64; 5] = [0.25, f64::NAN, f64::NEG_INFINITY, -0.0, 1e300];
-
-/// One pattern for every NaN.
-fn bits(x: f64) -> u64 {
-    if x.is_nan() {
-        0x7ff8_0000_0000_0000
-    } else {
-        x.to_bits()
-    }
-}
 
 /// The number of calls, and a record for each. It begins with 21 words: n, floor, 1 for per element, the entry, the seed, the start and the end
 /// of the chunks, the samples, what results and work memory hold before the call, the count or the refusal, how much of the memory is +0.0
