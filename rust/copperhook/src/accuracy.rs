@@ -30,7 +30,7 @@ const UNIT: f64 = 1.0 / (1u64 << 53) as f64;
 /// From so many roundings on, twice as many units are taken, and not one more.
 const MANY: u64 = 94_906_264;
 
-/// Returns how far the mean of [`estimate`](crate::estimate) can be from the exact mean square, where each correlation is within `bound`, as
+/// Returns how far the mean of [`estimate`](crate::estimate()) can be from the exact mean square, where each correlation is within `bound`, as
 /// [`Graph::totals_error_bound`] returns it, and the total has so many chunks of `size` configurations each. All configurations make chunks of
 /// 1,024, fewer one. Of the standard error no bound is known.
 pub fn mean_error_bound(bound: f64, chunks: u64, size: u64) -> f64 {

@@ -99,15 +99,10 @@ pub fn vast(draw: &mut Draw) -> Call {
     };
     let mut edges = Edges { n: 2 * (free + 1), ..Edges::default() };
     for x in 0..=free {
-        let mut link = |u: usize, v: usize| {
-            edges.a.push(u);
-            edges.b.push(v);
-            edges.m.push(0.5);
-        };
-        link(2 * x, 2 * x + 1);
+        edges.push(2 * x, 2 * x + 1, 0.5);
         if x < free {
-            link(2 * x, 2 * x + 2);
-            link(2 * x + 1, 2 * x + 3);
+            edges.push(2 * x, 2 * x + 2, 0.5);
+            edges.push(2 * x + 1, 2 * x + 3, 0.5);
         }
     }
     let (count, most) = draw.of(&[(0, 0), (0, 3), (2, 0), (2, 0), (0, 1), (2, 1)]);

@@ -25,6 +25,20 @@ pub fn numbers(words: &[u64]) -> Vec<usize> {
 }
 
 impl Edges {
+    /// Returns the lists of the edges that are given one by one, without a floor.
+    pub fn new(n: usize, raw: &[(usize, usize, f64)]) -> Edges {
+        let mut edges = Edges { n, ..Edges::default() };
+        raw.iter().for_each(|&(a, b, m)| edges.push(a, b, m));
+        edges
+    }
+
+    /// Adds an edge.
+    pub fn push(&mut self, a: usize, b: usize, m: f64) {
+        self.a.push(a);
+        self.b.push(b);
+        self.m.push(m);
+    }
+
     /// Returns the edges of a graph whose numbers are 64-bit words.
     pub fn of_words(n: u64, floor: u64, [a, b]: [&[u64]; 2], m: &[f64]) -> Edges {
         Edges { n: n as usize, floor: floor as usize, a: numbers(a), b: numbers(b), m: m.to_vec() }
@@ -61,6 +75,12 @@ impl Edges {
 }
 
 impl Pairs {
+    /// Returns the lists of the pairs that are given one by one.
+    pub fn new(raw: &[(usize, usize)]) -> Pairs {
+        let (us, vs) = raw.iter().copied().unzip();
+        Pairs { us, vs }
+    }
+
     /// Returns the pairs one by one, as the original takes them.
     pub fn raw(&self) -> Vec<(usize, usize)> {
         self.us.iter().copied().zip(self.vs.iter().copied()).collect()

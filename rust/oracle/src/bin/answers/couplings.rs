@@ -1,5 +1,6 @@
 //! Calls of `couplings`, accepted and refused, with what the call returns and leaves in its results.
 
+use crate::spoils::{one_each, Spoil};
 use oracle::lattice::Graph;
 use oracle::rng::Rng;
 use oracle::rules::lists::{Edges, Pairs};
@@ -97,13 +98,10 @@ fn accepted() -> Vec<Call> {
     calls
 }
 
-/// A number of document 01's list, and something that earns it.
-type Spoil = (u64, fn(&mut Call));
-
 /// Of the edges of the call to spoil, the one that is dropped, which joins what edge 0 joins.
 const DROPPED: usize = 2;
 
-const SPOILS: &[Spoil] = &[
+const SPOILS: &[Spoil<Call>] = &[
     (1, |c| c.n = 0),
     (1, |c| c.n = 1025),
     (1, |c| c.n = u64::MAX),
@@ -133,7 +131,7 @@ const SPOILS: &[Spoil] = &[
 ];
 
 /// A call that nothing refuses, with all of that done to it; the first number in the list's order is the one that is returned.
-fn spoilt(spoils: &[Spoil]) -> Call {
+fn spoilt(spoils: &[Spoil<Call>]) -> Call {
     let mut call = Call::new(6, &[(0, 1, 1.0), (2, 1, -2.0), (1, 0, 0.0), (4, 5, 1024.0)], &[0.25, -1024.0, 1024.0]);
     spoils.iter().rev().for_each(|spoil| spoil.1(&mut call));
     assert_eq!(call.refusal(), spoils[0].0);
@@ -144,7 +142,7 @@ fn spoilt(spoils: &[Spoil]) -> Call {
 fn refused() -> Vec<Call> {
     let mut list = vec![Call::new(6, &[(0, 1, 1.0)], &[0.25])];
     list.extend(SPOILS.iter().map(|&spoil| spoilt(&[spoil])));
-    let one_each: Vec<Spoil> = (0..SPOILS.len()).filter(|&i| i == 0 || SPOILS[i - 1].0 != SPOILS[i].0).map(|i| SPOILS[i]).collect();
+    let one_each = one_each(SPOILS);
     for (i, &first) in one_each.iter().enumerate() {
         list.extend(one_each[i + 1..].iter().map(|&second| spoilt(&[first, second])));
         list.push(spoilt(&one_each[i..]));

@@ -2,6 +2,7 @@
 
 use crate::correlation_jobs::job;
 use crate::correlations::{Job, Work};
+use crate::spoils::{one_each, Spoil};
 use crate::totals::{call, Call};
 use oracle::lattice::{Kind, Strip};
 use oracle::rules::configurations::{Drawn, Entry};
@@ -141,10 +142,7 @@ fn many_free_edges(c: &mut Call) {
     c.lend_factors();
 }
 
-/// A number of document 01's list, and something that earns it.
-type Spoil = (u64, fn(&mut Call));
-
-const SPOILS: &[Spoil] = &[
+const SPOILS: &[Spoil<Call>] = &[
     (1, |c| c.job.n = 0),
     (1, |c| c.job.n = 1025),
     (2, |c| c.job.vs.truncate(1)),
@@ -204,7 +202,7 @@ fn concerns(entry: Entry, number: u64) -> bool {
 }
 
 /// The sound call with all of that done to it; the first number in the list's order is the one that is returned.
-fn spoilt(entry: Entry, each: bool, spoils: &[Spoil]) -> Option<Call> {
+fn spoilt(entry: Entry, each: bool, spoils: &[Spoil<Call>]) -> Option<Call> {
     let mut call = sound_call(entry, each);
     spoils.iter().rev().for_each(|spoil| spoil.1(&mut call));
     let all_concern = spoils.iter().all(|spoil| concerns(entry, spoil.0));
@@ -219,7 +217,7 @@ fn refused() -> Vec<Call> {
         let entries = if [9, 11, 14].contains(&spoil.0) { &ENTRIES[..] } else { &ENTRIES[i % 3..][..1] };
         list.extend(entries.iter().filter_map(|&entry| spoilt(entry, i % 2 == 1, &[spoil])));
     }
-    let one_each: Vec<Spoil> = (0..SPOILS.len()).filter(|&i| i == 0 || SPOILS[i - 1].0 != SPOILS[i].0).map(|i| SPOILS[i]).collect();
+    let one_each = one_each(SPOILS);
     for (i, &first) in one_each.iter().enumerate() {
         for (j, &second) in one_each.iter().enumerate().skip(i + 1) {
             list.extend(ENTRIES.iter().cycle().skip(i + j).take(3).find_map(|&entry| spoilt(entry, i % 2 == 1, &[first, second])));
