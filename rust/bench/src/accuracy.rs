@@ -3,9 +3,9 @@
 //! That sweep goes from the first vertex to the last, and sums the settings in which both ends of a pair are up: it has no backward vector, no
 //! scale, and nothing below zero. Weights are the squares of the factors of edges whose ends agree, as in the tests against exact fractions.
 use crate::clock::{least_times, Rounds};
+use crate::manner::MANNERS;
 use crate::ours::Lists;
 use crate::wide::{Wide, ZERO};
-use crate::MANNERS;
 use oracle::lattice::{Kind, Strip};
 use oracle::rng::Rng;
 use std::hint::black_box;

@@ -1,6 +1,8 @@
 //! What a call costs before its sweeps, on strips of about a thousand vertices.
 use crate::clock::{least_times, Rounds};
-use crate::{Job, BLOCK, KINDS};
+use crate::correlations::Job;
+use crate::manner::BLOCK;
+use crate::strips::KINDS;
 use copperhook::Sampling;
 use oracle::glass::{correlations, Plan};
 use oracle::lattice::{Graph, Strip};

@@ -2,7 +2,10 @@
 //!
 //! Each time also stands divided by what it should be proportional to: where it is, that column stays the same.
 use crate::clock::{stay_on_this_processor, Rounds};
-use crate::{measure, totals, Job, Manner, Times, MANNERS};
+use crate::correlations::{measure, Job};
+use crate::manner::{Manner, MANNERS};
+use crate::times::Times;
+use crate::totals;
 use copperhook::{limits, Sampling};
 use oracle::lattice::{Kind, Strip};
 use oracle::rng::Rng;

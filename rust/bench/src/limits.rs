@@ -1,7 +1,10 @@
 //! How far a call is from what the machine can do: the steps of its sweeps beside a copy of as much memory, and its sums, whose order is
 //! fixed, beside a chain of additions that wait for each other.
 use crate::clock::{least_times, Rounds};
-use crate::{measure, strip_of_entries, Job, Times, BLOCK};
+use crate::correlations::{measure, Job};
+use crate::manner::BLOCK;
+use crate::strips::strip_of_entries;
+use crate::times::Times;
 use copperhook::limits;
 use oracle::lattice::{Kind, Strip};
 use std::hint::black_box;

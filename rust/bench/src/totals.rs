@@ -4,9 +4,11 @@
 //! Both sides take the graph and, the original, its plan as made; it makes its work memory in each call, and takes the exponentials of each
 //! configuration's couplings anew. Ours is lent factors, two for each beta and edge: the last column adds the time of those exponentials.
 use crate::clock::{least_times, stay_on_this_processor, Rounds};
+use crate::manner::{Manner, MANNERS};
 use crate::ours::Lists;
 use crate::ratios::Ratios;
-use crate::{strip_of_entries, Manner, Times, KINDS, MANNERS};
+use crate::strips::{cells, strip_of_entries, KINDS};
+use crate::times::Times;
 use copperhook::{Refusal, Sampling};
 use oracle::glass::{exhaustive, sample, Acc, Plan};
 use oracle::lattice::{Graph, Strip};
@@ -183,26 +185,9 @@ pub fn measure(job: &Job, manner: Manner) -> Times {
 }
 
 fn print_job(job: &Job, manner: Manner, times: &Times) {
-    let s = &job.strip;
-    println!(
-        "| {} | {} | {} | {} | {} | {} | {} | {} | {} | {} | {} | {} | {:.3} | {:.3} | {:.3} | {:.3} |",
-        ENTRIES_NAMED[job.entry as usize].1,
-        s.kind.name(),
-        s.bc(),
-        s.w,
-        s.l,
-        job.graph.win,
-        s.n(),
-        job.graph.cyclomatic(),
-        job.pairs.len(),
-        job.betas.len(),
-        job.configurations(),
-        manner.name,
-        1e3 * times.original,
-        1e3 * times.ours,
-        times.ours / times.original,
-        (times.ours + times.exponentials) / times.original,
-    );
+    let (name, strip) = (ENTRIES_NAMED[job.entry as usize].1, cells(&job.strip, job.graph.win));
+    let (free, pairs, betas) = (job.graph.cyclomatic(), job.pairs.len(), job.betas.len());
+    println!("| {name} | {strip} | {free} | {pairs} | {betas} | {} | {} | {} |", job.configurations(), manner.name, times.cells());
 }
 
 pub fn print_totals(widths: RangeInclusive<usize>) {
@@ -222,7 +207,7 @@ pub fn print_totals(widths: RangeInclusive<usize>) {
                 for (m, manner) in MANNERS.into_iter().enumerate() {
                     let times = measure(&job, manner);
                     print_job(&job, manner, &times);
-                    ratios[e][m].add(times.ours / times.original, &job.strip);
+                    ratios[e][m].add(times.ratio(), &job.strip);
                 }
             }
         }

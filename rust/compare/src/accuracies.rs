@@ -2,9 +2,10 @@
 
 use crate::draw::Draw;
 use crate::guarded::{equal, Guarded};
-use crate::law::{factor_refusal, first, job_refusal, Edges, Pairs};
 use crate::shapes::{long_edge, short_edges, spoil_graph, swept_graph, Reach};
 use copperhook::sys;
+use oracle::rules::lists::{Edges, Pairs};
+use oracle::rules::refusals::{factor_refusal, first, job_refusal};
 
 /// A call as it is lent. One with betas is for totals, whose factors are of either sign.
 struct Call {
@@ -139,7 +140,7 @@ fn spoil(draw: &mut Draw, call: &mut Call) {
     }
 }
 
-/// The call, what it answers, and what it leaves in all that it is lent.
+/// Makes the call and compares what it returns, and what it leaves in all that it is lent.
 fn compare(draw: &mut Draw, call: &Call) -> Result<usize, String> {
     let [a, b] = [&call.edges.a, &call.edges.b].map(|list| Guarded::new(list));
     let [m, betas, factors] = [&call.edges.m[..], call.betas(), &call.factors].map(Guarded::new);

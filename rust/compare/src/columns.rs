@@ -3,9 +3,9 @@
 use crate::draw::Draw;
 use crate::estimates::{count, sums};
 use crate::guarded::{equal, Guarded};
-use crate::law::column_refusal;
 use copperhook::sys;
 use oracle::glass::Acc;
+use oracle::rules::refusals::column_refusal;
 
 /// A call as it is lent: the sums, and how long the columns are.
 struct Call {

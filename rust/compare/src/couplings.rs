@@ -2,9 +2,10 @@
 
 use crate::draw::Draw;
 use crate::guarded::{equal, Guarded};
-use crate::law::{first, unless, Pairs};
 use crate::shapes::{any_graph, spoil_graph};
 use copperhook::sys;
+use oracle::rules::lists::Pairs;
+use oracle::rules::refusals::{first, graph_refusal, unless};
 
 /// Betas of any size, up to 64; now and then too many, or a bad one.
 fn betas(draw: &mut Draw) -> Vec<f64> {
@@ -49,7 +50,7 @@ pub fn try_one(draw: &mut Draw) -> Result<usize, String> {
             length,
         )
     };
-    let expected = first(edges.refusal(&Pairs::default(), &betas), || unless(length == wanted, 12));
+    let expected = first(graph_refusal(&edges, &Pairs::default(), &betas), || unless(length == wanted, 12));
     equal("answer", number, expected)?;
     let all: Vec<f64> = betas.iter().flat_map(|beta| kept.iter().map(move |e| beta * e.2)).collect();
     results.holds("results", if expected == 0 { &all } else { &before })?;

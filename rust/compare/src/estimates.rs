@@ -2,9 +2,9 @@
 
 use crate::draw::Draw;
 use crate::guarded::equal;
-use crate::law::estimate_refusal;
 use copperhook::sys;
 use oracle::glass::Acc;
+use oracle::rules::refusals::estimate_refusal;
 
 /// A count of any size, with the ends of what is allowed among them.
 pub fn count(draw: &mut Draw) -> usize {

@@ -2,10 +2,11 @@
 
 use crate::draw::Draw;
 use crate::guarded::{equal, same, Guarded};
-use crate::law::{first, unless, Edges, Pairs};
 use crate::shapes::{any_graph, spoil_graph};
 use copperhook::sys;
 use oracle::lattice::Graph;
+use oracle::rules::lists::{Edges, Pairs};
+use oracle::rules::refusals::{first, graph_refusal, unless};
 
 /// A graph's three lists, lent.
 struct Lent {
@@ -56,7 +57,7 @@ pub fn try_one(draw: &mut Draw) -> Result<usize, String> {
     for _ in 0..draw.of(&[0, 0, 1, 1, 2]) {
         spoil_graph(draw, &mut edges);
     }
-    let refusal = edges.refusal(&Pairs::default(), &[]);
+    let refusal = graph_refusal(&edges, &Pairs::default(), &[]);
     let original = (refusal == 0).then(|| Graph::new(edges.n, &edges.raw()));
     let lent = Lent::new(edges);
     numbers(&lent, refusal, original.as_ref())?;

@@ -50,7 +50,7 @@ impl Word for bool {
         self.into()
     }
     fn guard(place: usize) -> bool {
-        place % 2 == 0
+        place.is_multiple_of(2)
     }
 }
 

@@ -1,4 +1,4 @@
-//! Every entry of the library on drawn jobs, good and bad: what it answers and leaves against the original, bit for bit, and against
+//! Every entry of the library on drawn jobs, good and bad: what it returns and leaves against the original, bit for bit, and against
 //! document 01's refusals. A list that is lent has guard words around it, and doubles that
 //! are to be written hold NaNs of any payload before. The calls are those of the archive itself, `unsafe` for their
 //! pointers alone: each is a guarded list's or a variable's.
@@ -12,11 +12,6 @@ mod estimates;
 mod generators;
 mod graphs;
 mod guarded;
-mod law;
-// The rules of document 01 as the oracle's own program has them, laid out there.
-#[rustfmt::skip]
-#[path = "../../oracle/src/bin/answers/model.rs"]
-mod model;
 mod shapes;
 mod strips;
 mod totals;
@@ -25,7 +20,7 @@ use draw::Draw;
 use std::collections::BTreeMap;
 use std::time::{Duration, Instant};
 
-/// One job of a group: how the call was answered, 0 for accepted, or what differs.
+/// One job of a group: the number that the call returned, 0 for accepted, or what differs.
 type Try = fn(&mut Draw) -> Result<usize, String>;
 
 /// The entries that are compared together, with the refusals that a long enough run meets and their share of its time, 0.0 for
@@ -37,7 +32,7 @@ pub struct Group {
     try_one: Try,
 }
 
-pub const GROUPS: [Group; 10] = [
+pub const GROUPS: &[Group] = &[
     Group { name: "generators", share: 1.0, refusals: &[], try_one: generators::try_one },
     Group { name: "graphs", share: 1.0, refusals: &[1, 2, 3, 4, 5, 8, 12], try_one: graphs::try_one },
     Group { name: "strips", share: 1.0, refusals: &[12, 15, 16, 17], try_one: strips::try_one },
@@ -61,7 +56,7 @@ pub enum Until {
 #[derive(Default)]
 pub struct Tally {
     pub jobs: u64,
-    /// Jobs by how they were answered, 0 for accepted.
+    /// Jobs by the number that was returned, 0 for accepted.
     pub answered: BTreeMap<usize, u64>,
     pub mismatches: u64,
 }
@@ -96,7 +91,7 @@ pub fn run(group: usize, seed: u64, from: u64, until: Until, tell: &mut dyn FnMu
     tally
 }
 
-/// One line: the jobs, how they were answered, the mismatches.
+/// Returns one line: the jobs, by what was returned, and the mismatches.
 pub fn line(name: &str, tally: &Tally) -> String {
     let by: Vec<String> = tally.answered.iter().map(|(number, jobs)| format!("{number}: {jobs}")).collect();
     format!("{name}: {} jobs, {} mismatches; by answer {}", tally.jobs, tally.mismatches, by.join(", "))

@@ -1,4 +1,4 @@
-//! Compares the library with the original and document 01 on drawn jobs. `compare --help` tells the options.
+//! Compares the library with the original and document 01 on drawn jobs. `compare --help` lists the options.
 
 use compare::{line, run, Until, GROUPS};
 use std::io::Write;
@@ -58,7 +58,7 @@ fn parse(words: &[String]) -> Result<Options, String> {
     Ok(options)
 }
 
-/// A line of the report. A reader that has closed the pipe misses the rest, and the exit status still tells.
+/// A line of the report. A reader that has closed the pipe misses the rest, and the exit status still says how it went.
 fn say(line: &str) {
     let _ = writeln!(std::io::stdout(), "{line}");
 }

@@ -1,8 +1,8 @@
 //! Drawn graphs and pairs, sound ones, and what spoils them.
 
 use crate::draw::Draw;
-use crate::law::{Edges, Pairs};
 use oracle::lattice::{Kind, Strip};
+use oracle::rules::lists::{Edges, Pairs};
 use std::collections::HashSet;
 
 pub const KINDS: [Kind; 3] = [Kind::Square, Kind::Tri, Kind::Honey];
@@ -23,16 +23,10 @@ pub fn any_graph(draw: &mut Draw) -> Edges {
     for _ in 0..if n > 1 { most } else { 0 } {
         let (u, v, m) = (draw.below(n), draw.below(n), magnitude(draw));
         if u != v && (m == 0.0 || joined.insert((u.min(v), u.max(v)))) {
-            push(&mut edges, u, v, m);
+            edges.push(u, v, m);
         }
     }
     edges
-}
-
-fn push(edges: &mut Edges, u: usize, v: usize, m: f64) {
-    edges.a.push(u);
-    edges.b.push(v);
-    edges.m.push(m);
 }
 
 /// One thing that checks 1 to 5 may refuse.
@@ -55,7 +49,7 @@ pub fn spoil_graph(draw: &mut Draw, edges: &mut Edges) {
         (7, Some(i)) if i < edges.a.len() && i < edges.b.len() => {
             let (u, v) = (edges.a[i], edges.b[i]);
             let (u, v) = if draw.once_in(2) { (u, v) } else { (v, u) };
-            push(edges, u, v, 0.25);
+            edges.push(u, v, 0.25);
         }
         _ => edges.m.push(1.0),
     }
@@ -79,7 +73,7 @@ pub fn long_edge(draw: &mut Draw, edges: &mut Edges) {
     if edges.n > 26 && edges.n <= 1024 {
         let v = draw.within(25, edges.n - 1);
         let length = draw.within(24, 25);
-        push(edges, v, v - length, 1.0);
+        edges.push(v, v - length, 1.0);
     }
 }
 
@@ -91,7 +85,7 @@ pub fn short_edges(draw: &mut Draw, edges: &mut Edges) {
         for d in 1..=draw.within(4, 6) {
             let joined = edges.kept().iter().any(|e| (e.0, e.1) == (v - d, v));
             if !joined || draw.once_in(10) {
-                push(edges, v, v - d, 1.0);
+                edges.push(v, v - d, 1.0);
             }
         }
     }
@@ -138,7 +132,7 @@ fn strip(draw: &mut Draw, reach: Reach, diluted: bool) -> Edges {
     let mut edges = Edges { n: strip.n(), ..Edges::default() };
     for (a, b, m) in strip.raw_edges() {
         let m = if diluted { draw.of(&[0.0, -0.0, 0.5, 1.5, m]) } else { m };
-        push(&mut edges, a, b, m);
+        edges.push(a, b, m);
     }
     if diluted && draw.once_in(2) && strip.graph().win <= reach.window {
         edges.floor = strip.graph().win;
@@ -154,7 +148,7 @@ fn path(draw: &mut Draw, reach: Reach) -> Edges {
     let pieces = draw.of(&[1, 5, 50]);
     for v in ends {
         let m = if draw.once_in(pieces) { 1.0 } else { magnitude(draw) };
-        push(&mut edges, v, v - 1, m);
+        edges.push(v, v - 1, m);
     }
     edges
 }
@@ -183,7 +177,7 @@ fn sparse(draw: &mut Draw, reach: Reach) -> Edges {
     draw.shuffle(&mut list);
     for (u, v, m) in list {
         let (u, v) = if draw.once_in(2) { (u, v) } else { (v, u) };
-        push(&mut edges, u, v, m);
+        edges.push(u, v, m);
     }
     edges
 }

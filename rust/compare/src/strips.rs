@@ -2,11 +2,11 @@
 
 use crate::draw::Draw;
 use crate::guarded::{equal, same, Guarded};
-use crate::law::{first, strip_refusal, unless};
 use crate::shapes::KINDS;
 use copperhook::sys;
 use oracle::lattice::{Kind, Strip};
 use oracle::rng::Rng;
+use oracle::rules::refusals::{first, unless, StripCall};
 
 /// A strip as numbers; a kind above 2 is honeycomb too.
 struct Numbers {
@@ -33,7 +33,8 @@ impl Numbers {
     }
 
     fn refusal(&self, with_edges: bool, dilution: Option<[f64; 3]>) -> usize {
-        strip_refusal(self.kind, self.w, self.l, self.periodic, with_edges, dilution)
+        let &Numbers { kind, w, l, periodic } = self;
+        StripCall { kind, w, l, periodic, with_edges, dilution }.refusal()
     }
 }
 

@@ -35,7 +35,7 @@ impl Sheet {
 
 /// Zeros, the ends of the subnormals and of the finite numbers, infinities, NaNs that are quiet, signal, or have the most payload.
 fn specials(sheet: &mut Sheet) {
-    for bits in [0, 1, HIDDEN - 1, HIDDEN, INFINITY - 1, INFINITY, INFINITY + 1, INFINITY | HIDDEN / 2, SIGN - 1] {
+    for bits in [0, 1, HIDDEN - 1, HIDDEN, INFINITY - 1, INFINITY, INFINITY + 1, INFINITY | (HIDDEN / 2), SIGN - 1] {
         sheet.compare_around(bits);
     }
 }
@@ -53,7 +53,7 @@ fn powers_of_two(sheet: &mut Sheet) {
 fn double_of(n: u128, power: i64) -> u64 {
     let length = 128 - n.leading_zeros() as i64;
     let digits = if length > 53 { n >> (length - 53) } else { n << (53 - length) } as u64;
-    ((length - 1 + power + 1023) as u64) << 52 | digits - HIDDEN
+    (((length - 1 + power + 1023) as u64) << 52) | (digits - HIDDEN)
 }
 
 /// Squares of whole numbers, of which those below 2^53 are exact, and of numbers half way between two doubles.

@@ -4,6 +4,8 @@
 //! a [`Refusal`]. A refused call leaves every list as it was, but for [`Refusal::PartitionSum`]. Lists that are read are `&[T]` and lists
 //! that are written are `&mut [T]`, so none that overlap can be lent. A call takes less than 1 MB of stack.
 //!
+//! One correlation, from the factors of the edges:
+//!
 //! ```
 //! use copperhook::{Job, Kind, Manner, Strip};
 //!
@@ -16,34 +18,61 @@
 //! assert_eq!(results, [255.0 / 353.0]);
 //! # Ok::<(), copperhook::Refusal>(())
 //! ```
+//!
+//! The mean square over all configurations of a strip's standard pairs at one beta, with how far it can be from the exact one; and a job that
+//! is refused:
+//!
+//! ```
+//! use copperhook::{estimates, mean_error_bound, Job, Kind, Manner, Refusal, Strip};
+//!
+//! let strip = Strip { kind: Kind::Triangular, width: 3, length: 3, periodic: false };
+//! let (edges, pairs) = (strip.edge_list()?, strip.labelled_pairs()?);
+//! let (us, vs): (Vec<usize>, Vec<usize>) = pairs.iter().map(|pair| (pair.u, pair.v)).unzip();
+//! let job = Job { graph: edges.graph(strip.n()?), us: &us, vs: &vs };
+//!
+//! let betas = [0.25];
+//! let factors = job.graph.factors(&betas)?;
+//! let (mut squares, mut fourths) = (vec![0.0; us.len()], vec![0.0; us.len()]);
+//! let mut work = vec![0.0; job.room()?];
+//! let count = job.exhaustive(&betas, &factors.all, Manner::Block, &mut squares, &mut fourths, &mut work)?;
+//! assert_eq!(count, 1 << job.graph.cyclomatic()?);
+//!
+//! let (mut means, mut errors) = (vec![0.0; us.len()], vec![0.0; us.len()]);
+//! estimates(count, &squares, &fourths, &mut means, &mut errors)?;
+//! assert!(means.iter().all(|mean| (0.0..=1.0).contains(mean)));
+//! let bound = job.graph.totals_error_bound(&betas, &factors.all)?.expect("couplings this weak have a bound");
+//! assert!(mean_error_bound(bound, 1, count as u64) < 1e-12);
+//!
+//! let refused = Strip { length: 1000, ..strip }.n().unwrap_err();
+//! assert_eq!((refused, refused.number()), (Refusal::StripSides, 15));
+//! assert_eq!(refused.to_string(), "a strip side is 0, or the sides multiply above 1,024 (refusal 15)");
+//! # Ok::<(), copperhook::Refusal>(())
+//! ```
+#![warn(missing_docs)]
 
 mod accuracy;
+mod call;
+mod estimate;
 mod graph;
 mod job;
+mod kind;
+pub mod limits;
 mod lists;
+mod numbered;
 mod refusal;
 mod rng;
 mod strip;
 pub mod sys;
 
 pub use accuracy::mean_error_bound;
+pub use estimate::{estimate, estimates, sqrt, Estimate};
 pub use graph::{Graph, Kept};
-pub use job::{estimate, estimates, sqrt, Estimate, Job, Manner, Pair, Sampling};
+pub use job::{Job, Manner, Pair, Sampling};
+pub use kind::Kind;
 pub use lists::{EdgeList, Factors, LabelledPair};
 pub use refusal::Refusal;
 pub use rng::Rng;
-pub use strip::{Dilution, Kind, Strip};
+pub use strip::{Dilution, Strip};
 
-/// The most of each that a job may have, and how much a standard pair set takes at most.
-pub mod limits {
-    pub const VERTICES: usize = 1024;
-    pub const EDGES: usize = 4096;
-    pub const PAIRS: usize = 256;
-    pub const BETAS: usize = 64;
-    pub const WINDOW: usize = 24;
-    pub const STANDARD_PAIRS: usize = 18;
-    pub const LABEL_BYTES: usize = 306;
-}
-
-/// The archive that these bindings are linked with.
+/// The path of the archive that these bindings are linked with.
 pub const ARCHIVE: &str = env!("COPPERHOOK_ARCHIVE");

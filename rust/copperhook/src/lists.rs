@@ -8,16 +8,22 @@ use crate::strip::{Dilution, Strip};
 /// The edges of a graph, in lists of its own.
 #[derive(Clone, Debug, PartialEq)]
 pub struct EdgeList {
+    /// One end of each edge.
     pub a: Vec<usize>,
+    /// The other end of each edge.
     pub b: Vec<usize>,
+    /// The magnitude of each edge.
     pub m: Vec<f64>,
 }
 
 /// Two vertices, and what a strip calls them.
 #[derive(Clone, Debug, PartialEq, Eq)]
 pub struct LabelledPair {
+    /// The strip's name for the pair.
     pub label: String,
+    /// One vertex.
     pub u: usize,
+    /// The other.
     pub v: usize,
 }
 
@@ -25,12 +31,14 @@ pub struct LabelledPair {
 /// kept edges, beta i and edge e.
 #[derive(Clone, Debug, PartialEq)]
 pub struct Factors {
+    /// The number of kept edges.
     pub kept: usize,
+    /// The factors of all betas, kept edges and signs.
     pub all: Vec<f64>,
 }
 
 impl EdgeList {
-    /// As many as `fill` says that it wrote, of lists with room for all.
+    /// Returns as many edges as `fill` says that it wrote, of lists with room for all.
     fn filled(fill: impl FnOnce(&mut [usize], &mut [usize], &mut [f64]) -> Result<usize, Refusal>) -> Result<EdgeList, Refusal> {
         let most = limits::EDGES;
         let mut list = EdgeList { a: vec![0; most], b: vec![0; most], m: vec![0.0; most] };
@@ -41,23 +49,24 @@ impl EdgeList {
         Ok(list)
     }
 
+    /// Returns the graph of `n` vertices and these edges, without a floor.
     pub fn graph(&self, n: usize) -> Graph<'_> {
         Graph::new(n, &self.a, &self.b, &self.m)
     }
 }
 
 impl Strip {
-    /// The edges, of magnitude 1.0, in lists of their own.
+    /// Returns the edges, of magnitude 1.0, in lists of their own.
     pub fn edge_list(&self) -> Result<EdgeList, Refusal> {
         EdgeList::filled(|early, late, mag| self.raw_edges(early, late, mag))
     }
 
-    /// The diluted edges, dropped ones with magnitude +0.0, in lists of their own.
+    /// Returns the diluted edges, dropped ones with magnitude +0.0, in lists of their own.
     pub fn diluted_list(&self, by: &Dilution) -> Result<EdgeList, Refusal> {
         EdgeList::filled(|early, late, mag| self.diluted(by, early, late, mag))
     }
 
-    /// The standard pairs with their labels.
+    /// Returns the standard pairs with their labels.
     pub fn labelled_pairs(&self) -> Result<Vec<LabelledPair>, Refusal> {
         let (mut us, mut vs) = ([0; limits::STANDARD_PAIRS], [0; limits::STANDARD_PAIRS]);
         let mut bytes = [0; limits::LABEL_BYTES];
@@ -69,12 +78,12 @@ impl Strip {
 }
 
 impl Graph<'_> {
-    /// The kept edges in lists of their own, smaller end first.
+    /// Returns the kept edges in lists of their own, smaller end first.
     pub fn kept_list(&self) -> Result<EdgeList, Refusal> {
         EdgeList::filled(|early, late, mag| self.kept(early, late, mag).map(|kept| kept.edges))
     }
 
-    /// The exponentials of the couplings at these betas, of either sign.
+    /// Returns the exponentials of the couplings at these betas, of either sign.
     pub fn factors(&self, betas: &[f64]) -> Result<Factors, Refusal> {
         let kept = self.kept_list()?.m.len();
         let mut couplings = vec![0.0; kept * betas.len()];
@@ -85,7 +94,7 @@ impl Graph<'_> {
 }
 
 impl Factors {
-    /// One factor for each kept edge, at beta i, for the signs of a configuration: true is minus.
+    /// Returns one factor for each kept edge, at beta i, for the signs of a configuration: true is minus.
     pub fn of_signs(&self, i: usize, minus: &[bool]) -> Vec<f64> {
         (0..self.kept).map(|e| self.all[2 * (i * self.kept + e) + minus[e] as usize]).collect()
     }

@@ -1,87 +1,44 @@
 //! Why a call is refused.
 
+use crate::numbered::numbered;
 use std::fmt;
 
-/// The reasons, numbered in the order in which they are checked: of several that fit, the first is answered.
-#[derive(Clone, Copy, Debug, PartialEq, Eq, PartialOrd, Ord, Hash)]
-pub enum Refusal {
-    VertexCount = 1,
-    ListLengths = 2,
-    EdgeEnds = 3,
-    Magnitude = 4,
-    ParallelEdges = 5,
-    Window = 6,
-    BackEdges = 7,
-    PairEnds = 8,
-    FreeEdges = 9,
-    Factors = 10,
-    Samples = 11,
-    Buffer = 12,
-    WorkMemory = 13,
+numbered! {
+    /// Why a call is refused. The numbers follow the order of the checks, but that strips check 15 to 17 before 12: of several reasons that
+    /// fit, the first is returned.
+    pub enum Refusal;
+
+    /// Returns what is wrong, as a sentence without its full stop.
+    pub fn sentence;
+
+    VertexCount = 1, "the vertex count is 0 or above 1,024";
+    ListLengths = 2, "lists of one kind differ in length, or there are over 4,096 edges, 256 pairs or 64 betas";
+    EdgeEnds = 3, "an edge has equal ends or an end outside the graph";
+    Magnitude = 4, "a magnitude or beta isn't finite, or its size is above 1,024";
+    ParallelEdges = 5, "two kept edges join the same vertices";
+    Window = 6, "the window is above 24";
+    BackEdges = 7, "a vertex has over four back edges shorter than the window";
+    PairEnds = 8, "a pair has equal ends or an end outside the graph";
+    FreeEdges = 9, "free edges exceed 34 for enumerated totals, or 24 for stored correlations";
+    Factors = 10, "the factor list has another length, or an entry isn't finite and above zero";
+    Samples = 11, "chunks times samples per chunk exceed 2^32";
+    Buffer = 12, "a result list isn't of its exact length, or is too short";
+    WorkMemory = 13, "the work memory is shorter than the room";
     /// The only one that alters lent lists: results and the work memory's room are +0.0 after it.
-    PartitionSum = 14,
-    StripSides = 15,
-    OddCylinder = 16,
-    Dilution = 17,
-    Sums = 18,
+    PartitionSum = 14, "some pair's partition sum Z isn't finite and above zero";
+    StripSides = 15, "a strip side is 0, or the sides multiply above 1,024";
+    OddCylinder = 16, "a honeycomb cylinder has odd width";
+    Dilution = 17, "keep isn't finite, or a magnitude bound isn't finite or its size is above 1,024";
+    Sums = 18, "the count is 0 or above 2^53, or 0 <= fourth powers <= squares <= count fails";
 }
 
 impl Refusal {
-    pub const ALL: [Refusal; 18] = [
-        Refusal::VertexCount,
-        Refusal::ListLengths,
-        Refusal::EdgeEnds,
-        Refusal::Magnitude,
-        Refusal::ParallelEdges,
-        Refusal::Window,
-        Refusal::BackEdges,
-        Refusal::PairEnds,
-        Refusal::FreeEdges,
-        Refusal::Factors,
-        Refusal::Samples,
-        Refusal::Buffer,
-        Refusal::WorkMemory,
-        Refusal::PartitionSum,
-        Refusal::StripSides,
-        Refusal::OddCylinder,
-        Refusal::Dilution,
-        Refusal::Sums,
-    ];
-
-    pub fn number(self) -> usize {
-        self as usize
-    }
-
-    /// What is wrong, as a sentence without its full stop.
-    pub fn sentence(self) -> &'static str {
-        match self {
-            Refusal::VertexCount => "the vertex count is 0 or above 1,024",
-            Refusal::ListLengths => "lists of one kind differ in length, or there are over 4,096 edges, 256 pairs or 64 betas",
-            Refusal::EdgeEnds => "an edge has equal ends or an end outside the graph",
-            Refusal::Magnitude => "a magnitude or beta isn't finite, or its size is above 1,024",
-            Refusal::ParallelEdges => "two kept edges join the same vertices",
-            Refusal::Window => "the window is above 24",
-            Refusal::BackEdges => "a vertex has over four back edges shorter than the window",
-            Refusal::PairEnds => "a pair has equal ends or an end outside the graph",
-            Refusal::FreeEdges => "free edges exceed 34 for enumerated totals, or 24 for stored correlations",
-            Refusal::Factors => "the factor list has another length, or an entry isn't finite and above zero",
-            Refusal::Samples => "chunks times samples per chunk exceed 2^32",
-            Refusal::Buffer => "a result list isn't of its exact length, or is too short",
-            Refusal::WorkMemory => "the work memory is shorter than the room",
-            Refusal::PartitionSum => "some pair's partition sum Z isn't finite and above zero",
-            Refusal::StripSides => "a strip side is 0, or the sides multiply above 1,024",
-            Refusal::OddCylinder => "a honeycomb cylinder has odd width",
-            Refusal::Dilution => "keep isn't finite, or a magnitude bound isn't finite or its size is above 1,024",
-            Refusal::Sums => "the count is 0 or above 2^53, or 0 <= fourth powers <= squares <= count fails",
-        }
-    }
-
-    /// A call's answer: 0 for accepted.
+    /// Reads the number that a call returns: 0 for accepted.
     pub(crate) fn told(number: usize) -> Result<(), Refusal> {
-        match number {
-            0 => Ok(()),
-            1..=18 => Err(Refusal::ALL[number - 1]),
-            _ => unreachable!("the library answered {number}, which is no refusal"),
+        match (number, Refusal::from_number(number)) {
+            (0, _) => Ok(()),
+            (_, Some(refusal)) => Err(refusal),
+            (_, None) => unreachable!("the library returned {number}, which is no refusal"),
         }
     }
 }
@@ -99,8 +56,7 @@ mod tests {
     use super::Refusal;
 
     #[test]
-    fn numbers_are_in_order() {
-        assert!(Refusal::ALL.iter().enumerate().all(|(i, r)| r.number() == i + 1));
+    fn a_call_returns_zero_or_a_refusal() {
         assert_eq!(Refusal::told(0), Ok(()));
         assert!(Refusal::ALL.iter().all(|&r| Refusal::told(r.number()) == Err(r)));
     }

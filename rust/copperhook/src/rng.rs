@@ -5,10 +5,12 @@ use crate::sys;
 /// xoshiro256++ seeded by splitmix64.
 #[derive(Clone, Debug, PartialEq, Eq)]
 pub struct Rng {
+    /// Its four words.
     pub state: [u64; 4],
 }
 
 impl Rng {
+    /// Returns the generator of a seed.
     pub fn new(seed: u64) -> Rng {
         let mut state = [0; 4];
         // SAFETY: four words, as the call writes.
@@ -16,7 +18,7 @@ impl Rng {
         Rng { state }
     }
 
-    /// Stream `index` of a seed.
+    /// Returns the generator of stream `index` of a seed.
     pub fn stream(seed: u64, index: u64) -> Rng {
         let mut state = [0; 4];
         // SAFETY: four words, as the call writes.
@@ -24,12 +26,13 @@ impl Rng {
         Rng { state }
     }
 
+    /// Returns the next word.
     pub fn next_u64(&mut self) -> u64 {
         // SAFETY: four words, as the call reads and writes.
         unsafe { sys::copperhook_rng_next_u64(self.state.as_mut_ptr()) }
     }
 
-    /// The top 53 bits of the next word times 2^-53: from 0 up to, and without, 1.
+    /// Returns the top 53 bits of the next word times 2^-53: from 0 up to, and without, 1.
     pub fn uniform(&mut self) -> f64 {
         // SAFETY: four words, as the call reads and writes.
         unsafe { sys::copperhook_rng_uniform(self.state.as_mut_ptr()) }

@@ -6,6 +6,7 @@
 use crate::job::Pair;
 
 extern "C" {
+    /// The doubles of work memory that a job needs.
     pub fn copperhook_room(
         n: usize,
         floor: usize,
@@ -22,6 +23,7 @@ extern "C" {
         room: *mut usize,
     ) -> usize;
 
+    /// The correlations of the pairs.
     pub fn copperhook_correlations(
         n: usize,
         floor: usize,
@@ -44,6 +46,7 @@ extern "C" {
         work_len: usize,
     ) -> usize;
 
+    /// The correlations of pairs that are in one list.
     pub fn copperhook_correlations_of(
         n: usize,
         floor: usize,
@@ -64,6 +67,7 @@ extern "C" {
         work_len: usize,
     ) -> usize;
 
+    /// The couplings of the kept edges at each beta.
     pub fn copperhook_couplings(
         n: usize,
         a: *const usize,
@@ -78,6 +82,7 @@ extern "C" {
         results_len: usize,
     ) -> usize;
 
+    /// The sums of squares and of fourth powers over all configurations.
     pub fn copperhook_exhaustive(
         n: usize,
         floor: usize,
@@ -105,6 +110,7 @@ extern "C" {
         count: *mut usize,
     ) -> usize;
 
+    /// The correlations of all configurations.
     pub fn copperhook_exhaustive_c(
         n: usize,
         floor: usize,
@@ -130,6 +136,7 @@ extern "C" {
         count: *mut usize,
     ) -> usize;
 
+    /// The sums of squares and of fourth powers over drawn configurations.
     pub fn copperhook_sample(
         n: usize,
         floor: usize,
@@ -161,8 +168,10 @@ extern "C" {
         count: *mut usize,
     ) -> usize;
 
+    /// The mean square and its standard error, from a count and two sums.
     pub fn copperhook_estimate(count: usize, squares: f64, fourths: f64, enough: *mut bool, mean: *mut f64, error: *mut f64) -> usize;
 
+    /// The mean squares and their standard errors, from a count and two lists of sums.
     pub fn copperhook_estimates(
         count: usize,
         squares: *const f64,
@@ -175,8 +184,10 @@ extern "C" {
         errors_len: usize,
     ) -> usize;
 
+    /// The square root of IEEE 754.
     pub fn copperhook_sqrt(x: f64) -> f64;
 
+    /// How far each correlation can be from the exact one.
     pub fn copperhook_error_bound(
         n: usize,
         floor: usize,
@@ -192,6 +203,7 @@ extern "C" {
         bound: *mut f64,
     ) -> usize;
 
+    /// How far each correlation of a total can be from the exact one.
     pub fn copperhook_totals_error_bound(
         n: usize,
         floor: usize,
@@ -209,6 +221,7 @@ extern "C" {
         bound: *mut f64,
     ) -> usize;
 
+    /// The kept edges and the window.
     pub fn copperhook_graph(
         n: usize,
         floor: usize,
@@ -228,6 +241,7 @@ extern "C" {
         edges: *mut usize,
     ) -> usize;
 
+    /// The kept edges and the window of the graph turned by 180 degrees.
     pub fn copperhook_rotated(
         n: usize,
         floor: usize,
@@ -247,6 +261,7 @@ extern "C" {
         edges: *mut usize,
     ) -> usize;
 
+    /// The window.
     pub fn copperhook_window(
         n: usize,
         floor: usize,
@@ -259,6 +274,7 @@ extern "C" {
         window: *mut usize,
     ) -> usize;
 
+    /// The number of components.
     pub fn copperhook_n_components(
         n: usize,
         a: *const usize,
@@ -270,6 +286,7 @@ extern "C" {
         count: *mut usize,
     ) -> usize;
 
+    /// The number of free edges.
     pub fn copperhook_cyclomatic(
         n: usize,
         a: *const usize,
@@ -281,6 +298,7 @@ extern "C" {
         free_edges: *mut usize,
     ) -> usize;
 
+    /// Which kept edges are tree edges.
     pub fn copperhook_spanning_forest(
         n: usize,
         a: *const usize,
@@ -293,6 +311,7 @@ extern "C" {
         tree_len: usize,
     ) -> usize;
 
+    /// The name of each vertex's component.
     pub fn copperhook_components(
         n: usize,
         a: *const usize,
@@ -305,6 +324,7 @@ extern "C" {
         names_len: usize,
     ) -> usize;
 
+    /// The length of the shortest walk between two vertices.
     pub fn copperhook_distance(
         n: usize,
         a: *const usize,
@@ -319,8 +339,10 @@ extern "C" {
         edges: *mut usize,
     ) -> usize;
 
+    /// The number of vertices of a strip.
     pub fn copperhook_strip_n(kind: usize, w: usize, l: usize, periodic: bool, n: *mut usize) -> usize;
 
+    /// The vertex at a site of a strip.
     pub fn copperhook_strip_vid(
         kind: usize,
         w: usize,
@@ -332,8 +354,10 @@ extern "C" {
         vertex: *mut usize,
     ) -> usize;
 
+    /// The window of a whole strip.
     pub fn copperhook_strip_window(kind: usize, w: usize, l: usize, periodic: bool, window: *mut usize) -> usize;
 
+    /// The edges of a strip, of magnitude 1.0.
     pub fn copperhook_raw_edges(
         kind: usize,
         w: usize,
@@ -348,6 +372,7 @@ extern "C" {
         edges: *mut usize,
     ) -> usize;
 
+    /// The edges of a strip with drawn magnitudes.
     pub fn copperhook_diluted(
         kind: usize,
         w: usize,
@@ -366,6 +391,7 @@ extern "C" {
         edges: *mut usize,
     ) -> usize;
 
+    /// The standard pairs of a strip, with their labels.
     pub fn copperhook_pairs(
         kind: usize,
         w: usize,
@@ -380,17 +406,24 @@ extern "C" {
         pairs: *mut usize,
     ) -> usize;
 
+    /// The kind that a name means.
     pub fn copperhook_kind_parse(name: *const u8, name_len: usize, kind: *mut usize) -> bool;
 
+    /// The name of a kind.
     pub fn copperhook_kind_name(kind: usize, name: *mut u8) -> usize;
 
+    /// The name of a boundary.
     pub fn copperhook_boundary_name(periodic: bool, name: *mut u8) -> usize;
 
+    /// The state of a seed.
     pub fn copperhook_rng_new(seed: u64, state: *mut u64);
 
+    /// The state of a stream of a seed.
     pub fn copperhook_rng_stream(seed: u64, index: u64, state: *mut u64);
 
+    /// The next word of the generator.
     pub fn copperhook_rng_next_u64(state: *mut u64) -> u64;
 
+    /// The next double of the generator, from 0 up to, and without, 1.
     pub fn copperhook_rng_uniform(state: *mut u64) -> f64;
 }

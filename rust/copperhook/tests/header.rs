@@ -1,7 +1,7 @@
 //! The C header: it compiles as C11 and as C++17 without a warning, it declares what the bindings declare, and a C program that uses it
-//! prints what the bindings answer.
+//! prints what the bindings return.
 
-use copperhook::{Job, Kind, Manner, Refusal, Strip};
+use copperhook::{limits, Job, Kind, Manner, Refusal, Strip};
 use std::collections::BTreeMap;
 use std::path::{Path, PathBuf};
 use std::process::{Command, Output};
@@ -98,12 +98,44 @@ fn header_declares_what_the_library_exports() {
     assert_eq!(header.len(), exported().len());
 }
 
-#[test]
-fn header_numbers_the_refusals() {
+/// Returns what an enum of the header has, in its order, as NAME = number.
+fn enumerated(name: &str) -> Vec<String> {
     let header = read("include/copperhook.h");
-    for r in Refusal::ALL {
-        assert_eq!(header.matches(&format!(" = {},  ", r.number())).count() + header.matches(&format!(" = {}  ", r.number())).count(), 1);
+    let (_, rest) = header.split_once(&format!("enum copperhook_{name} {{")).unwrap_or_else(|| panic!("no enum of the name {name}"));
+    let body = rest.split_once("};").unwrap().0;
+    let without_comments: String = body.split("/*").map(|part| part.split_once("*/").map_or(part, |(_, code)| code)).collect();
+    without_comments.split(',').map(|row| row.trim().to_string()).collect()
+}
+
+/// Returns a case as the header names it: VertexCount is COPPERHOOK_VERTEX_COUNT.
+fn constant(case: impl std::fmt::Debug) -> String {
+    let mut name = "COPPERHOOK".to_string();
+    for c in format!("{case:?}").chars() {
+        name.extend(c.is_uppercase().then_some('_').into_iter().chain(c.to_uppercase()));
     }
+    name
+}
+
+#[test]
+fn header_and_bindings_number_the_same() {
+    let refusals = Refusal::ALL.iter().map(|r| format!("{} = {}", constant(r), r.number()));
+    assert_eq!(enumerated("refusal"), ["COPPERHOOK_ACCEPTED = 0".to_string()].into_iter().chain(refusals).collect::<Vec<_>>());
+    assert_eq!(enumerated("kind"), Kind::ALL.iter().map(|k| format!("{} = {}", constant(k), k.number())).collect::<Vec<_>>());
+    assert_eq!(enumerated("manner"), [Manner::PerElement, Manner::Block].map(|m| format!("{} = {}", constant(m), m as usize)));
+}
+
+#[test]
+fn header_and_bindings_have_the_same_limits() {
+    let limits = [
+        ("MOST_VERTICES", limits::VERTICES),
+        ("MOST_EDGES", limits::EDGES),
+        ("MOST_PAIRS", limits::PAIRS),
+        ("MOST_BETAS", limits::BETAS),
+        ("MOST_WINDOW", limits::WINDOW),
+        ("STANDARD_PAIRS", limits::STANDARD_PAIRS),
+        ("LABEL_BYTES", limits::LABEL_BYTES),
+    ];
+    assert_eq!(enumerated("limit"), limits.map(|(name, most)| format!("COPPERHOOK_{name} = {most}")));
 }
 
 /// What tests/square.c prints, from the bindings.

@@ -1,6 +1,15 @@
-//! Version three of the module, byte for byte as published (NOTICE names its repository and commit). Nothing here is ours.
-#![allow(warnings)]
+//! Version three of the module, byte for byte as published (NOTICE names its repository and commit): `glass`, `lattice` and `rng`. `rules` is
+//! ours: what document 01 says of a call, for comparisons.
 
+// The published files are not altered: their warnings and their layout stay.
+#[allow(warnings)]
+#[rustfmt::skip]
 pub mod glass;
+#[allow(warnings)]
+#[rustfmt::skip]
 pub mod lattice;
+#[allow(warnings)]
+#[rustfmt::skip]
 pub mod rng;
+
+pub mod rules;

@@ -1,4 +1,4 @@
-//! The stored lists are what the original answers today.
+//! The stored lists are what the original returns today.
 
 use std::path::Path;
 use std::process::Command;

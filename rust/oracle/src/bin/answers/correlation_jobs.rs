@@ -185,7 +185,9 @@ fn extremes(draw: &mut Draw) -> Vec<Job> {
     let mut list = Vec::new();
     for each in [false, true] {
         let ln2 = 2f64.ln();
-        for (n, floor, j, pair) in [(2, 0, ln2, (0, 1)), (2, 2, ln2, (0, 1)), (2, 1, -ln2, (0, 1)), (2, 1, 0.0, (0, 1)), (3, 1, ln2, (0, 2))] {
+        for (n, floor, j, pair) in
+            [(2, 0, ln2, (0, 1)), (2, 2, ln2, (0, 1)), (2, 1, -ln2, (0, 1)), (2, 1, 0.0, (0, 1)), (3, 1, ln2, (0, 2))]
+        {
             list.push(job(n, floor, &[(0, 1, 1.0)], &[pair], each, |_| j));
         }
         for floor in [0, 2, 14] {

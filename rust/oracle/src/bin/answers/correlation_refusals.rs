@@ -2,6 +2,7 @@
 
 use crate::correlation_jobs::{job, most_edges};
 use crate::correlations::{Job, Work};
+use crate::spoils::{one_each, Spoil};
 
 /// Of the edges of the job to spoil, the one that is dropped, which joins what edge 0 joins, and the last.
 const DROPPED: usize = 3;
@@ -26,10 +27,8 @@ fn links(j: &mut Job, v: u64, lengths: &[u64]) {
     lengths.iter().for_each(|d| link(j, v, v - d));
 }
 
-/// A number of document 01's list, and something that earns it.
-type Spoil = (u64, fn(&mut Job));
-
-const SPOILS: [Spoil; 49] = [
+#[rustfmt::skip]
+const SPOILS: &[Spoil<Job>] = &[
     (1, |j| j.n = 0),
     (1, |j| j.n = 1025),
     (1, |j| j.n = u64::MAX),
@@ -81,8 +80,8 @@ const SPOILS: [Spoil; 49] = [
     (14, |j| { j.couplings.fill(709.0); j.factors.fill(709f64.exp()) }),
 ];
 
-/// The sound job with all of that done to it; the first number in the list's order is the one that is answered.
-fn spoilt(each: bool, spoils: &[Spoil]) -> Job {
+/// The sound job with all of that done to it; the first number in the list's order is the one that is returned.
+fn spoilt(each: bool, spoils: &[Spoil<Job>]) -> Job {
     let mut job = sound_job(each);
     spoils.iter().rev().for_each(|spoil| spoil.1(&mut job));
     assert_eq!(job.outcome(0.25).0, spoils[0].0);
@@ -92,7 +91,7 @@ fn spoilt(each: bool, spoils: &[Spoil]) -> Job {
 /// Every way to be refused alone, two numbers at once, all from one on; and close calls.
 pub fn refused() -> Vec<Job> {
     let mut list: Vec<Job> = SPOILS.iter().enumerate().map(|(i, &spoil)| spoilt(i % 2 == 1, &[spoil])).collect();
-    let one_each: Vec<Spoil> = (0..SPOILS.len()).filter(|&i| i == 0 || SPOILS[i - 1].0 != SPOILS[i].0).map(|i| SPOILS[i]).collect();
+    let one_each = one_each(SPOILS);
     for (i, &first) in one_each.iter().enumerate() {
         list.extend(one_each[i + 1..].iter().map(|&second| spoilt(i % 2 == 1, &[first, second])));
         list.push(spoilt(i % 2 == 0, &one_each[i..]));
@@ -108,6 +107,7 @@ fn close_calls() -> Vec<Job> {
         change(&mut job);
         job
     };
+    #[rustfmt::skip]
     let mut list = vec![
         alter(|j| j.work = Work::Past(0)),
         alter(|j| links(j, 7, &[4, 2, 3, 1])),

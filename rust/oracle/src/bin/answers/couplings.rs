@@ -1,8 +1,10 @@
-//! Calls of `couplings`, accepted and refused, with what the call answers and leaves in its results.
+//! Calls of `couplings`, accepted and refused, with what the call returns and leaves in its results.
 
-use crate::graphs::first_graph_refusal;
+use crate::spoils::{one_each, Spoil};
 use oracle::lattice::Graph;
 use oracle::rng::Rng;
+use oracle::rules::lists::{Edges, Pairs};
+use oracle::rules::refusals::{first, graph_refusal, unless};
 
 /// What the results hold before a call.
 const BEFORE: f64 = 9.0;
@@ -31,17 +33,15 @@ impl Call {
         }
     }
 
-    /// The first of the checks 1 to 5 and 12 that fits, from document 01; 0 where none does.
+    fn edges(&self) -> Edges {
+        Edges::of_words(self.n, 0, [&self.a, &self.b], &self.m)
+    }
+
+    /// Checks 1 to 5 and 12.
     fn refusal(&self) -> u64 {
         let kept = self.m.iter().filter(|&&m| m != 0.0).count();
-        match first_graph_refusal(self.n, &self.a, &self.b, &self.m) {
-            1 => 1,
-            _ if self.betas.len() > 64 => 2,
-            k @ (2 | 3) => k,
-            _ if self.betas.iter().any(|beta| !beta.is_finite() || beta.abs() > 1024.0) => 4,
-            0 if self.results != self.betas.len() * kept => 12,
-            k => k,
-        }
+        let fits = || unless(self.results == self.betas.len() * kept, 12);
+        first(graph_refusal(&self.edges(), &Pairs::default(), &self.betas), fits) as u64
     }
 
     /// The refusal's number, and the results after the call: beta times each magnitude of the original's graph, or what they held.
@@ -49,8 +49,7 @@ impl Call {
         if self.refusal() != 0 {
             return (self.refusal(), vec![BEFORE; self.results]);
         }
-        let raw: Vec<(usize, usize, f64)> = (0..self.a.len()).map(|i| (self.a[i] as usize, self.b[i] as usize, self.m[i])).collect();
-        let graph = Graph::new(self.n as usize, &raw);
+        let graph = Graph::new(self.n as usize, &self.edges().raw());
         (0, self.betas.iter().flat_map(|beta| graph.mag.iter().map(move |m| beta * m)).collect())
     }
 }
@@ -99,13 +98,10 @@ fn accepted() -> Vec<Call> {
     calls
 }
 
-/// A number of document 01's list, and something that earns it.
-type Spoil = (u64, fn(&mut Call));
-
 /// Of the edges of the call to spoil, the one that is dropped, which joins what edge 0 joins.
 const DROPPED: usize = 2;
 
-const SPOILS: [Spoil; 26] = [
+const SPOILS: &[Spoil<Call>] = &[
     (1, |c| c.n = 0),
     (1, |c| c.n = 1025),
     (1, |c| c.n = u64::MAX),
@@ -134,8 +130,8 @@ const SPOILS: [Spoil; 26] = [
     (12, |c| c.m[1] = 0.0),
 ];
 
-/// A call that nothing refuses, with all of that done to it; the first number in the list's order is the one that is answered.
-fn spoilt(spoils: &[Spoil]) -> Call {
+/// A call that nothing refuses, with all of that done to it; the first number in the list's order is the one that is returned.
+fn spoilt(spoils: &[Spoil<Call>]) -> Call {
     let mut call = Call::new(6, &[(0, 1, 1.0), (2, 1, -2.0), (1, 0, 0.0), (4, 5, 1024.0)], &[0.25, -1024.0, 1024.0]);
     spoils.iter().rev().for_each(|spoil| spoil.1(&mut call));
     assert_eq!(call.refusal(), spoils[0].0);
@@ -145,8 +141,8 @@ fn spoilt(spoils: &[Spoil]) -> Call {
 /// Nothing spoilt; every way to be refused alone, two numbers at once, and all from one on.
 fn refused() -> Vec<Call> {
     let mut list = vec![Call::new(6, &[(0, 1, 1.0)], &[0.25])];
-    list.extend(SPOILS.map(|spoil| spoilt(&[spoil])));
-    let one_each: Vec<Spoil> = (0..SPOILS.len()).filter(|&i| i == 0 || SPOILS[i - 1].0 != SPOILS[i].0).map(|i| SPOILS[i]).collect();
+    list.extend(SPOILS.iter().map(|&spoil| spoilt(&[spoil])));
+    let one_each = one_each(SPOILS);
     for (i, &first) in one_each.iter().enumerate() {
         list.extend(one_each[i + 1..].iter().map(|&second| spoilt(&[first, second])));
         list.push(spoilt(&one_each[i..]));

@@ -41,7 +41,8 @@ pub fn estimates() -> Vec<u64> {
     let mut list = Vec::new();
     for count in [0, 1, 2, 3, 1024, (1 << 34) - 1, 1 << 34, 1 << 53, (1 << 53) + 1, u64::MAX] {
         let n = count as f64;
-        let sums = [0.0, -0.0, f64::from_bits(1), 0.5, 1.0, n, f64::from_bits(n.to_bits() + 1), -1.0, f64::INFINITY, f64::NEG_INFINITY, f64::NAN];
+        let sums =
+            [0.0, -0.0, f64::from_bits(1), 0.5, 1.0, n, f64::from_bits(n.to_bits() + 1), -1.0, f64::INFINITY, f64::NEG_INFINITY, f64::NAN];
         for squares in sums {
             for fourths in sums {
                 list.extend(record(count, squares, fourths));

@@ -2,18 +2,9 @@
 //! the lists. A list for a program is a row of 64-bit words, little-endian, a double as its bits; a list for the prover is a file of
 //! definitions.
 //!
-//!     cargo run --release --offline --bin answers -- generators > ../crates/replay_rng/data/generators.bin
-//!     cargo run --release --offline --bin answers -- graphs > ../crates/replay_lattice/data/graphs.bin
-//!     cargo run --release --offline --bin answers -- strips > ../crates/replay_strip/data/strips.bin
-//!     cargo run --release --offline --bin answers -- strip_edges > ../crates/replay_strip/data/edges.bin
-//!     cargo run --release --offline --bin answers -- dilutions > ../crates/replay_strip/data/dilutions.bin
-//!     cargo run --release --offline --bin answers -- strip_refusals > ../crates/replay_strip/data/refusals.bin
-//!     cargo run --release --offline --bin answers -- correlations > ../crates/replay_glass/data/correlations.bin
-//!     cargo run --release --offline --bin answers -- couplings > ../crates/replay_couplings/data/couplings.bin
-//!     cargo run --release --offline --bin answers -- estimates > ../crates/replay_estimate/data/estimates.bin
-//!     cargo run --release --offline --bin answers -- roots > ../crates/replay_estimate/data/roots.bin
-//!     cargo run --release --offline --bin answers -- totals > ../crates/replay_totals/data/totals.bin
-//!     cargo run --release --offline --bin answers -- sweeps > ../crates/transfer/specs/Original.antt
+//!     cargo run --release --offline --bin answers -- NAME > FILE
+//!
+//! makes a list's file anew; `tests/answers.rs` has the file of each and holds it against what is written today.
 
 mod correlation_jobs;
 mod correlation_refusals;
@@ -23,16 +14,20 @@ mod estimates;
 mod generators;
 mod graphs;
 mod hash;
-mod model;
+mod spoils;
 mod strips;
 mod sweeps;
 mod total_calls;
 mod totals;
+mod words;
 
 use std::io::Write;
 use std::process::ExitCode;
 
-const LISTS: [(&str, fn() -> Vec<u8>); 12] = [
+/// A list's name, and its bytes.
+type List = (&'static str, fn() -> Vec<u8>);
+
+const LISTS: &[List] = &[
     ("generators", || words(generators::generators())),
     ("graphs", || words(graphs::graphs())),
     ("strips", || words(strips::strips())),

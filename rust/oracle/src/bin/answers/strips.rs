@@ -2,6 +2,7 @@
 
 use crate::hash::{mix, OFFSET};
 use oracle::lattice::{Kind, Strip};
+use oracle::rules::refusals::StripCall;
 
 const KINDS: [Kind; 3] = [Kind::Square, Kind::Tri, Kind::Honey];
 
@@ -72,6 +73,7 @@ pub fn strip_edges() -> Vec<u64> {
 
 /// A record for each dilution: the strip, the seed, keep and the bounds; then the number of the kept edges, their checksum and the window.
 pub fn dilutions() -> Vec<u64> {
+    #[rustfmt::skip]
     let numbers = [
         (0.5, 0.5, 1.5), (0.0, 0.5, 1.5), (1.0, 0.5, 1.5), (2.0, 0.0, 1.0), (-1.0, 0.0, 1.0), (0.9, 1.5, 0.5), (0.7, 1.0, 1.0), (0.3, -1024.0, 1024.0),
         (0.6, 0.0, 0.0), (1.0, -0.0, -0.0), (f64::MAX, 1e-300, 3e-300), (0.1, 0.1, 0.3),
@@ -91,28 +93,15 @@ pub fn dilutions() -> Vec<u64> {
     list
 }
 
-/// What document 01 refuses, read anew: 15, 16, 17 in order as they concern the call (0 edge list, 1 dilution, 2 pair set, 3 window), 0 for none.
-fn refusal(call: u64, kind: u64, periodic: bool, w: u64, l: u64, numbers: [f64; 3]) -> u64 {
-    if w == 0 || l == 0 || u128::from(w) * u128::from(l) > 1024 {
-        return 15;
-    }
-    if call != 2 && kind == 2 && periodic && w % 2 == 1 {
-        return 16;
-    }
-    let [keep, low, high] = numbers;
-    if call == 1 && !(keep.is_finite() && low.abs() <= 1024.0 && high.abs() <= 1024.0) {
-        return 17;
-    }
-    0
-}
-
-/// A record for each refusal or near miss: the call, the kind, 1 for a cylinder, the sides, keep, the bounds, and the refusal's number.
+/// A record for each refusal or near miss: the call (0 edge list, 1 dilution, 2 pair set, 3 window), the kind, 1 for a cylinder, the sides, keep, the bounds, and the refusal's number.
 pub fn strip_refusals() -> Vec<u64> {
+    #[rustfmt::skip]
     let sides = [
         (0, 0), (0, 5), (5, 0), (u64::MAX, 0), (1, 1024), (1, 1025), (1024, 1), (1025, 1), (32, 32), (33, 31), (33, 32), (3, 341), (3, 342),
         (1 << 32, 1 << 32), (1 << 63, 2), (u64::MAX, u64::MAX), (u64::MAX, 1), (2, 1 << 63), (1, 1), (2, 3), (3, 3), (4, 2), (5, 4),
     ];
     let above = f64::from_bits(1024f64.to_bits() + 1);
+    #[rustfmt::skip]
     let numbers = [
         [0.5, 0.5, 1.5], [f64::NAN, 0.5, 1.5], [f64::INFINITY, 0.5, 1.5], [f64::NEG_INFINITY, 0.5, 1.5], [f64::MAX, 0.5, 1.5], [0.5, f64::NAN, 1.5],
         [0.5, f64::NEG_INFINITY, 1.5], [0.5, -above, 1.5], [0.5, -1024.0, 1024.0], [0.5, 0.5, above], [0.5, 0.5, f64::NAN], [0.5, 0.5, f64::INFINITY],
@@ -125,7 +114,9 @@ pub fn strip_refusals() -> Vec<u64> {
                     let tried = if call == 1 && w <= 3 && l <= 3 { &numbers[..] } else { &numbers[..1] };
                     for &[keep, low, high] in tried {
                         list.extend([call, kind, periodic as u64, w, l, keep.to_bits(), low.to_bits(), high.to_bits()]);
-                        list.push(refusal(call, kind, periodic, w, l, [keep, low, high]));
+                        let (with_edges, dilution) = (call != 2, (call == 1).then_some([keep, low, high]));
+                        let lent = StripCall { kind: kind as usize, w: w as usize, l: l as usize, periodic, with_edges, dilution };
+                        list.push(lent.refusal() as u64);
                     }
                 }
             }

@@ -5,8 +5,11 @@ use oracle::lattice::Graph;
 use oracle::rng::Rng;
 use std::collections::BTreeMap;
 
-/// Small graphs whose sweeps reach every rescale, as (vertices, floor, edges): five and more vertices forward, backward steps at multiples of 4.
-fn small_graphs() -> Vec<(usize, usize, Vec<(usize, usize)>)> {
+/// Vertices, floor and edges.
+type SmallGraph = (usize, usize, Vec<(usize, usize)>);
+
+/// Small graphs whose sweeps reach every rescale: five and more vertices forward, backward steps at multiples of 4.
+fn small_graphs() -> Vec<SmallGraph> {
     let reach = |n: usize, distances: &[usize]| -> Vec<(usize, usize)> {
         (1..n).flat_map(|b| distances.iter().filter(move |&&d| d <= b).map(move |&d| (b - d, b))).collect()
     };
@@ -35,7 +38,8 @@ pub fn sweeps() -> String {
         let mut graph = Graph::new(n, &raw);
         graph.win = graph.win.max(floor);
         let couplings: Vec<f64> = edges.iter().map(|_| 3.0 * source.uniform() - 1.5).collect();
-        let bonds = edges.iter().zip(&couplings).map(|(&(a, b), j)| format!("bond {a} {b} {:#018x} ∷ ", j.exp().to_bits())).collect::<String>();
+        let bonds =
+            edges.iter().zip(&couplings).map(|(&(a, b), j)| format!("bond {a} {b} {:#018x} ∷ ", j.exp().to_bits())).collect::<String>();
         let (far, near) = ((0, n - 1), (n - 1 - n / 3, n - 2 - n / 3));
         for (manner, slow, is_far) in [("block", "0", i % 2 == 0), ("perElement", "1", i % 2 == 1)] {
             std::env::set_var("FDK_SLOW", slow);

@@ -2,8 +2,10 @@
 
 use crate::correlation_jobs::job;
 use crate::correlations::{Job, Work};
-use crate::totals::{call, Call, Drawn, Entry};
+use crate::spoils::{one_each, Spoil};
+use crate::totals::{call, Call};
 use oracle::lattice::{Kind, Strip};
+use oracle::rules::configurations::{Drawn, Entry};
 
 const ENTRIES: [Entry; 3] = [Entry::Enumerated, Entry::Stored, Entry::Sampled];
 /// Two chunks above zero.
@@ -69,7 +71,7 @@ fn samplings() -> Vec<Call> {
     let ranges = [(0, 1), (0, 3), (2, 3), (1 << 40, (1 << 40) + 2), (u64::MAX - 2, u64::MAX), (4, 4), (9, 3), (u64::MAX, 0), (0, u64::MAX)];
     let mut list = Vec::new();
     for (i, (from, to)) in ranges.into_iter().enumerate() {
-        let samples = if to == u64::MAX && from == 0 { 0 } else { 1 + 3 * (i as u64 % 3) };
+        let samples = if to == u64::MAX && from == 0 { 0 } else { 1 + 3 * (i % 3) };
         let job = strip_job(&strip(Kind::Square, 2, 6, true), 99, &PAIRS[..2], i % 2 == 1);
         list.push(call(Entry::Sampled, job, &BETAS[..2], Drawn { seed: i as u64, from, to, samples }));
     }
@@ -97,7 +99,7 @@ fn nothing_to_sweep() -> Vec<Call> {
     swept.job.work = Work::Lacking(1);
     list.push(swept);
     for (to, samples) in
-        [(1 << 32, 1), ((1 << 32) + 1, 1), (1, 1 << 32), (1 << 16, 1 << 16), (u64::MAX, 0), (u64::MAX, u64::MAX), (2, 1 << 63)]
+        [(1 << 32, 1), ((1 << 32) + 1, 1), (1, 1 << 32), (1 << 16, 1 << 16), (u64::MAX, 0), (u64::MAX, usize::MAX), (2, 1 << 63)]
     {
         let drawn = Drawn { seed: 3, from: 0, to, samples };
         list.push(call(Entry::Sampled, strip_job(&strip(Kind::Square, 2, 3, false), 2, &PAIRS[..1], true), &[], drawn));
@@ -140,10 +142,7 @@ fn many_free_edges(c: &mut Call) {
     c.lend_factors();
 }
 
-/// A number of document 01's list, and something that earns it.
-type Spoil = (u64, fn(&mut Call));
-
-const SPOILS: [Spoil; 44] = [
+const SPOILS: &[Spoil<Call>] = &[
     (1, |c| c.job.n = 0),
     (1, |c| c.job.n = 1025),
     (2, |c| c.job.vs.truncate(1)),
@@ -182,7 +181,7 @@ const SPOILS: [Spoil; 44] = [
     (10, |c| c.job.factors[2] = -1.0),
     (10, |c| c.job.factors[3] = f64::INFINITY),
     (10, |c| c.job.factors[19] = f64::NAN),
-    (11, |c| (c.drawn.from, c.drawn.to, c.drawn.samples) = (0, u64::MAX, u64::MAX)),
+    (11, |c| (c.drawn.from, c.drawn.to, c.drawn.samples) = (0, u64::MAX, usize::MAX)),
     (11, |c| (c.drawn.from, c.drawn.to, c.drawn.samples) = (9, (1 << 32) + 10, 1)),
     (12, |c| c.lengths[0] += 1),
     (12, |c| c.lengths[0] -= 1),
@@ -193,7 +192,7 @@ const SPOILS: [Spoil; 44] = [
     (14, |c| {
         c.betas[1] = 700.0;
         c.lend_factors();
-        c.job.factors.iter_mut().for_each(|x| *x = x.min(1e300).max(1e-300))
+        c.job.factors.iter_mut().for_each(|x| *x = x.clamp(1e-300, 1e300))
     }),
 ];
 
@@ -202,8 +201,8 @@ fn concerns(entry: Entry, number: u64) -> bool {
     number != if entry == Entry::Sampled { 9 } else { 11 }
 }
 
-/// The sound call with all of that done to it; the first number in the list's order is the one that is answered.
-fn spoilt(entry: Entry, each: bool, spoils: &[Spoil]) -> Option<Call> {
+/// The sound call with all of that done to it; the first number in the list's order is the one that is returned.
+fn spoilt(entry: Entry, each: bool, spoils: &[Spoil<Call>]) -> Option<Call> {
     let mut call = sound_call(entry, each);
     spoils.iter().rev().for_each(|spoil| spoil.1(&mut call));
     let all_concern = spoils.iter().all(|spoil| concerns(entry, spoil.0));
@@ -218,7 +217,7 @@ fn refused() -> Vec<Call> {
         let entries = if [9, 11, 14].contains(&spoil.0) { &ENTRIES[..] } else { &ENTRIES[i % 3..][..1] };
         list.extend(entries.iter().filter_map(|&entry| spoilt(entry, i % 2 == 1, &[spoil])));
     }
-    let one_each: Vec<Spoil> = (0..SPOILS.len()).filter(|&i| i == 0 || SPOILS[i - 1].0 != SPOILS[i].0).map(|i| SPOILS[i]).collect();
+    let one_each = one_each(SPOILS);
     for (i, &first) in one_each.iter().enumerate() {
         for (j, &second) in one_each.iter().enumerate().skip(i + 1) {
             list.extend(ENTRIES.iter().cycle().skip(i + j).take(3).find_map(|&entry| spoilt(entry, i % 2 == 1, &[first, second])));

@@ -1,0 +1,51 @@
+//! Jobs for correlations, and what follows from what they lend.
+
+use oracle::rules::lists::{room, Edges, Pairs};
+use oracle::rules::refusals::job_refusal;
+
+/// The most doubles that are lent as work memory, but to wide jobs; a job whose room is larger is lent too few.
+const MOST_LENT: usize = 1 << 23;
+/// The most entries of all vectors of a job for which the sweep rules are followed one by one, vector after vector.
+const MOST_MODELLED: usize = 1 << 20;
+
+/// A job as it is lent. The original takes the couplings, whose exponentials the factors are; where there are none it is not asked.
+pub struct Job {
+    pub edges: Edges,
+    pub pairs: Pairs,
+    pub couplings: Option<Vec<f64>>,
+    pub factors: Vec<f64>,
+    pub each: bool,
+    pub results: usize,
+    /// Work memory past the room, or short of it.
+    pub spare: isize,
+    /// Whether the couplings are small ones, so that no Z can fail.
+    pub gentle: bool,
+    /// Whether the room is lent, however large.
+    pub wide: bool,
+}
+
+impl Job {
+    pub fn told(&self) -> String {
+        let manner = if self.each { "per element" } else { "block" };
+        let (n, floor, edges) = (self.edges.n, self.edges.floor, self.edges.a.len());
+        format!("{n} vertices, floor {floor}, {edges} edges, {} pairs, {manner}", self.pairs.us.len())
+    }
+}
+
+/// Whether there are too many entries to follow the sweep rules one by one.
+pub fn is_large(edges: &Edges) -> bool {
+    edges.n << edges.window() > MOST_MODELLED
+}
+
+/// How much work memory is lent.
+pub fn work_length(job: &Job) -> usize {
+    if job_refusal(&job.edges, &job.pairs, &[]) != 0 {
+        return job.spare.unsigned_abs();
+    }
+    let room = room(&job.edges, &job.pairs);
+    // what can be neither lent nor followed is lent too few
+    if room > MOST_LENT && !job.wide || is_large(&job.edges) && (!job.gentle || job.couplings.is_none()) {
+        return 1000;
+    }
+    room.saturating_add_signed(job.spare)
+}

@@ -1,0 +1,16 @@
+//! The most of each that a job may have, and how much a standard pair set takes at most.
+
+/// The most vertices of a graph.
+pub const VERTICES: usize = 1024;
+/// The most edges that a graph is given, dropped ones too.
+pub const EDGES: usize = 4096;
+/// The most pairs of a job.
+pub const PAIRS: usize = 256;
+/// The most betas of a call.
+pub const BETAS: usize = 64;
+/// The widest window that is swept.
+pub const WINDOW: usize = 24;
+/// The most pairs of a standard pair set.
+pub const STANDARD_PAIRS: usize = 18;
+/// The most bytes that the labels of a standard pair set take, each with the zero byte behind it.
+pub const LABEL_BYTES: usize = 306;
