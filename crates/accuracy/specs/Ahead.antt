@@ -41,6 +41,7 @@ module _ (J : Job Float) (ok : Checked (λ x. T (positive x)) J) (β : ℚ) (β-
   fair : EdgesNotMinus (J .edges)
   fair = checked-notMinus J ok
 
+  -- Z is finite, so each vector up to v is finite; none has an entry with a minus sign; and each scale is finite.
   ahead-finite : (t : ℕ) → t ≤ suc v → Finite w ((beforeStep ieee J t) .0)
   unfolding beforeStep forward
   ahead-finite zero l j b = subst (λ (x : Float). T (finite x)) (sym (E.start-at ieee w j b)) tt
@@ -69,6 +70,7 @@ module _ (J : Job Float) (ok : Checked (λ x. T (positive x)) J) (β : ℚ) (β-
   lengths-ahead zero = tabulate-length _ (2 ^ w)
   lengths-ahead (suc t) = tabulate-length _ (2 ^ w)
 
+  -- The forward sweep up to v.
   course-ahead : Course w (ok .window) β β-nn β-one p (p + 5) (suc v)
   unfolding before beforeStep ahead scale
   course-ahead = record {
@@ -84,8 +86,8 @@ module _ (J : Job Float) (ok : Checked (λ x. T (positive x)) J) (β : ℚ) (β-
     start-M = λ j l. E.start-at rational w j l;
     start-L = refl;
     step =
-        λ t s level. ahead-level w (ok .window) (θ β p) (θ-nn β β-nn β-one p) (θ-one β β-nn β-one p) (ahead J t) (nn-pos _ (ahead-pos J t)) (at rational (before J t))
-        (at rational (before J (suc t)))
+        λ t s level. ahead-level w (ok .window) (θ β p) (θ-nn β β-nn β-one p) (θ-one β β-nn β-one p) (ahead J t) (nn-pos _ (ahead-pos J t))
+        (at rational (before J t)) (at rational (before J (suc t)))
         (S.before-nn J (ok .window) β β-nn β-one moderate p few t) s level (S.before-mix J (ok .window) β β-nn β-one moderate p few t);
     next = λ t. phase-next (J .manner) 3 t (t % 4) (suc t % 4) _ (λ h. omega (arith, h));
     lengths = lengths-ahead;
@@ -95,7 +97,7 @@ module _ (J : Job Float) (ok : Checked (λ x. T (positive x)) J) (β : ℚ) (β-
         (ahead-finite t l);
   }
 
-  module _ (room : Room β p w) (β-pos : Posℚ β) (short : (suc v) * (p + 5) ≤ 2 ^ 26) where
+  module _ (room : Room β p w) (β-pos : Posℚ β) (short : suc v * (p + 5) ≤ 2 ^ 26) where
     reached : Reached w (ok .window) β β-nn β-one p room β-pos (p + 5) (suc v) short course-ahead (suc v)
     reached = reach w (ok .window) β β-nn β-one p room β-pos (p + 5) (suc v) short course-ahead (suc v) (omega arith)
 

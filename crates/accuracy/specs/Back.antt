@@ -44,9 +44,11 @@ module _ (J : Job Float) (ok : Checked (λ x. T (positive x)) J) (β : ℚ) (β-
   fair : EdgesNotMinus (J .edges)
   fair = checked-notMinus J ok
 
+  -- One step further back the phase is one more, but after a rescaling.
   turn : (t t′ : ℕ) → t′ ≡ t - 1 → (t % 4 ≡ 0 → ⊥) → 3 - t′ % 4 ≡ suc (3 - t % 4)
   turn t t′ e z = omega (arith, z)
 
+  -- A finite vector has finite ones before it in the sweep.
   after-finite : (d i : ℕ) → Finite w ((afterSteps ieee J (d + i)) .0) → Finite w ((afterSteps ieee J i) .0)
   unfolding afterSteps
   after-finite zero i h = let e : 0 + i ≡ i = omega arith in rw e at h
@@ -55,6 +57,7 @@ module _ (J : Job Float) (ok : Checked (λ x. T (positive x)) J) (β : ℚ) (β-
       after-finite d i (backwardStep-finite w (stepOf J (J .last - (d + i))) (div binary64 unit ((afterSteps ieee J (d + i)) .1))
       ((afterSteps ieee J (d + i)) .0) (ok .window) (rw e at h))
 
+  -- Z is finite, so each vector down to v is finite; none has an entry with a minus sign; and each scale is finite.
   back-finite : (i : ℕ) → i ≤ J .last - v → Finite w ((afterSteps ieee J i) .0)
   unfolding backward
   back-finite i l =
@@ -88,6 +91,7 @@ module _ (J : Job Float) (ok : Checked (λ x. T (positive x)) J) (β : ℚ) (β-
   lengths-back zero = tabulate-length _ (2 ^ w)
   lengths-back (suc i) = tabulate-length _ (2 ^ w)
 
+  -- The backward sweep from the last vertex to v.
   course-back : Course w (ok .window) β β-nn β-one p (p + 5) (J .last - v)
   unfolding after afterSteps back
   course-back = record {
@@ -103,14 +107,15 @@ module _ (J : Job Float) (ok : Checked (λ x. T (positive x)) J) (β : ℚ) (β-
     start-M = λ j l. E.start-at rational w j l;
     start-L = refl;
     step =
-        λ t s level. back-level w (ok .window) (θ β p) (θ-nn β β-nn β-one p) (θ-one β β-nn β-one p) (back J t) (nn-pos _ (back-pos J t)) (at rational (after J t))
-        (at rational (after J (suc t)))
+        λ t s level. back-level w (ok .window) (θ β p) (θ-nn β β-nn β-one p) (θ-one β β-nn β-one p) (back J t) (nn-pos _ (back-pos J t))
+        (at rational (after J t)) (at rational (after J (suc t)))
         (S.after-nn J (ok .window) β β-nn β-one moderate p few t) s level (S.after-mix J (ok .window) β β-nn β-one moderate p few t);
     next = λ i. phase-next (J .manner) 0 (J .last - i) _ _ _ (turn (J .last - i) (J .last - suc i) (omega arith));
     lengths = lengths-back;
     entries = λ t l j b. record { isFinite = back-finite t l j b; sign = back-signs t j l };
     finite-scale = back-scale;
-    near = λ t l scales steps. after-near J β β-nn β-one (ok .window) moderate (p + 5) (step-roundings J p few) t (record { scales = scales; steps = steps }) (back-finite t l);
+    near = λ t l scales steps. after-near J β β-nn β-one (ok .window) moderate (p + 5) (step-roundings J p few) t (record { scales = scales; steps = steps })
+        (back-finite t l);
   }
 
   module _ (room : Room β p w) (β-pos : Posℚ β) (short : (J .last - v) * (p + 5) ≤ 2 ^ 26) where

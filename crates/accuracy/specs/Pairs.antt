@@ -93,6 +93,7 @@ module _ (J : Job Float) (ok : Checked (λ x. T (positive x)) J) (β : ℚ) (c v
   low : (j : ℕ) → j < n → smallest ≼ mass j
   low j l = record { rest = F j ⋆ B j; is = +-comm _ _; nonneg = nn-mul (F j) (B j) (F-nn j l) (B-nn j l) }
 
+  -- The terms of Z, and what underflows in each: Z and N as sums of such.
   Z-near : Close (k + n) (Z ieee J v) (exactZ J v) (sum rational n mass)
   unfolding Z ZOf
   Z-near =
