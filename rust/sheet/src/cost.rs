@@ -38,7 +38,7 @@ impl Cost {
 
 /// The sweeps of one configuration at one beta: by a trial of some milliseconds with samples of the strip itself, or where one of them would
 /// take longer, by its entries.
-fn seconds_of_a_call(board: &Board) -> f64 {
+pub fn seconds_of_a_call(board: &Board) -> f64 {
     let trial = |samples: usize| -> Result<f64, copperhook::Refusal> {
         let factors = board.graph().factors(&[0.5])?.all;
         let (mut squares, mut fourths) = (vec![0.0; board.pairs.len()], vec![0.0; board.pairs.len()]);
@@ -105,7 +105,9 @@ pub fn time(seconds: f64) -> String {
         s if s < 1.0 => "a second at most".to_string(),
         s if s < 120.0 => format!("{s:.0} seconds"),
         s if s < 7200.0 => format!("{:.0} minutes", s / 60.0),
-        s => format!("{:.1} hours", s / 3600.0),
+        s if s < 172800.0 => format!("{:.1} hours", s / 3600.0),
+        s if s < 6.3e7 => format!("{:.0} days", s / 86400.0),
+        s => format!("{:.0} years", s / 31557600.0),
     }
 }
 
@@ -124,6 +126,7 @@ mod tests {
     #[test]
     fn sizes_and_times_are_short() {
         assert_eq!([size(104.0), size(2.5e6), size(1.34e9)], ["0.1 kB", "2.5 MB", "1.3 GB"]);
-        assert_eq!([time(0.2), time(59.6), time(600.0), time(9000.0)], ["a second at most", "60 seconds", "10 minutes", "2.5 hours"]);
+        assert_eq!([0.2, 59.6, 600.0, 9000.0].map(time), ["a second at most", "60 seconds", "10 minutes", "2.5 hours"]);
+        assert_eq!([2e5, 1e8].map(time), ["2 days", "3 years"]);
     }
 }

@@ -1,5 +1,6 @@
 //! The sheet as a plot, in SVG: the first value of each pair against its distance, for each beta.
 
+use crate::record::lines;
 use crate::sheet::{bits, Row, Sheet};
 
 const WIDTH: f64 = 760.0;
@@ -38,8 +39,10 @@ impl Axes {
 
 pub fn svg(sheet: &Sheet) -> String {
     let axes = Axes::of(sheet);
+    let footer = lines(&sheet.record, 110);
+    let height = HEIGHT + 20.0 + 12.0 * footer.len() as f64;
     let mut svg = format!(
-        "<svg xmlns=\"http://www.w3.org/2000/svg\" viewBox=\"0 0 {WIDTH} {HEIGHT}\" width=\"{WIDTH}\" height=\"{HEIGHT}\" \
+        "<svg xmlns=\"http://www.w3.org/2000/svg\" viewBox=\"0 0 {WIDTH} {height}\" width=\"{WIDTH}\" height=\"{height}\" \
          font-family=\"sans-serif\" font-size=\"12\">\n<title>{}</title>\n<rect width=\"100%\" height=\"100%\" fill=\"white\"/>\n",
         escaped(&sheet.title)
     );
@@ -49,7 +52,11 @@ pub fn svg(sheet: &Sheet) -> String {
     for i in 0..sheet.betas.len() {
         svg += &series(sheet, &axes, i);
     }
-    svg + "</svg>\n"
+    svg += "<g class=\"record\" font-size=\"9\" xml:space=\"preserve\">\n";
+    for (i, line) in footer.iter().enumerate() {
+        svg += &label(LEFT, HEIGHT + 12.0 * (i + 1) as f64, "start", line);
+    }
+    svg + "</g>\n</svg>\n"
 }
 
 fn escaped(text: &str) -> String {

@@ -2,8 +2,10 @@
 
 use crate::board::Board;
 use crate::configuration::Configuration;
+use crate::cost::{seconds_of_a_call, time};
 use crate::options::{Options, Wanted};
-use crate::totals::{Enumerated, Sampled};
+use crate::record::Entry;
+use crate::totals::{Enumerated, Sampled, MOST_FREE};
 use crate::trouble::Trouble;
 
 /// The values of each pair, beta after beta.
@@ -18,6 +20,9 @@ pub type Done<'a> = &'a (dyn Fn(u64, u64, &str) + Sync);
 pub trait Source {
     /// What it is, for the sheet's head.
     fn title(&self) -> String;
+
+    /// Which configurations they are, for the sheet's record.
+    fn record(&self) -> [Entry; 6];
 
     /// The names of a pair's values.
     fn columns(&self) -> &'static [&'static str];
@@ -45,10 +50,28 @@ pub fn chosen(options: &Options, board: &Board) -> Result<Box<dyn Source>, Troub
     Ok(match &options.wanted {
         Wanted::Enumerated => Box::new(Enumerated::new(board)?),
         Wanted::Unsaid if board.free <= FEW => Box::new(Enumerated::new(board)?),
-        Wanted::Sampled { by, threads } => Box::new(Sampled::new(*by, *threads)?),
-        Wanted::Unsaid => Box::new(Configuration::plus(board.kept)),
+        Wanted::Unsaid => return Err(undecided(board)),
+        Wanted::Sampled(by) => Box::new(Sampled::new(by)?),
         Wanted::Plus => Box::new(Configuration::plus(board.kept)),
         Wanted::Signs(minus) => Box::new(Configuration::given(minus, board.kept)?),
         Wanted::Drawn(seed) => Box::new(Configuration::drawn(*seed, board.kept)),
     })
+}
+
+/// What each choice would take, where there are too many configurations to take all of them unasked.
+fn undecided(board: &Board) -> Trouble {
+    let one = seconds_of_a_call(board) * board.betas.len() as f64;
+    let all = match board.free {
+        free if free > MOST_FREE => format!("takes at most {MOST_FREE} free edges"),
+        free => format!("takes all 2^{free} configurations, about {}", time(one * f64::powi(2.0, free as i32))),
+    };
+    Trouble::asked(format!(
+        "{} free edges; say which configurations are meant\n    \
+         --enumerate {all}: mean squares\n    \
+         --sample N draws N of them, about {} for 1000: mean squares\n    \
+         --signs plus, --signs S or --seed N takes one, about {}: correlations",
+        board.free,
+        time(1000.0 * one),
+        time(one)
+    ))
 }
