@@ -80,15 +80,23 @@ impl Source for Configuration {
         (0..board.betas.len()).map(bound).collect()
     }
 
+    /// The run itself begins with the beta that is most likely to overflow.
+    fn tried(&self, _: &Board, _: &mut [f64]) -> Result<(), Trouble> {
+        Ok(())
+    }
+
+    /// Strongest beta first.
     fn values(&self, board: &Board, work: &mut [f64], done: Done) -> Result<Values, Trouble> {
-        let mut values = Vec::new();
-        for i in 0..board.betas.len() {
+        let mut order: Vec<usize> = (0..board.betas.len()).collect();
+        order.sort_by(|&i, &j| board.betas[j].abs().total_cmp(&board.betas[i].abs()));
+        let mut values = vec![Vec::new(); board.betas.len()];
+        for (so_far, &i) in order.iter().enumerate() {
             let mut results = vec![0.0; board.pairs.len()];
             let signed = board.factors.of_signs(i, &self.minus);
             let call = board.job().correlations(&signed, board.manner, &mut results, work);
             call.map_err(|refusal| board.refused_signs(i, &self.minus, refusal))?;
-            values.push(results.into_iter().map(|x| vec![x]).collect());
-            done(i as u64 + 1, board.betas.len() as u64, "betas");
+            values[i] = results.into_iter().map(|x| vec![x]).collect();
+            done(so_far as u64 + 1, board.betas.len() as u64, "betas");
         }
         Ok(values)
     }

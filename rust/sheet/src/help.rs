@@ -32,7 +32,7 @@ of which configurations: one of these; without any, all, where at most 20 edges 
 how it is told
     --format F               text (the default), csv, json, or svg: a plot against distance
     --bits                   the bits of every value too
-    --output FILE            to this file, which is there whole or not at all
+    --output FILE            to this file, which is there whole or not at all; one that is there keeps its mode
     --help, --version        this text; which Copperhook it is
 
 the standard pairs

@@ -25,6 +25,7 @@ mod verify;
 use board::Board;
 use cost::{work_memory, Cost};
 use options::{Asked, Format, Options};
+use output::Target;
 use progress::tell;
 use sheet::Sheet;
 use std::process::ExitCode;
@@ -39,8 +40,11 @@ fn make(options: &Options) -> Result<String, Trouble> {
     let source = source::chosen(options, &board)?;
     let bounds = source.bounds(&board)?;
     let cost = Cost::of(&board, source.as_ref());
-    cost.say();
     let mut work = work_memory(&board, source.threads())?;
+    if cost.is_long() {
+        source.tried(&board, &mut work)?;
+    }
+    cost.say();
     let values = progress::shown(&cost, |done| source.values(&board, &mut work, done))?;
     let sheet = Sheet::new(options, &board, source.as_ref(), bounds, values);
     Ok(match options.format {
@@ -66,11 +70,8 @@ fn run(words: &[String]) -> Result<u8, Trouble> {
             return Ok(u8::from(!verdict.agrees));
         }
         Asked::Sheet(options) => {
-            let text = make(&options)?;
-            match &options.output {
-                None => output::to_stdout(&text)?,
-                Some(path) => output::to_file(path, &text)?,
-            }
+            let target = Target::ready(options.output.as_deref())?;
+            target.take(&make(&options)?)?;
         }
     }
     Ok(0)

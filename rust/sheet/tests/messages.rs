@@ -92,9 +92,9 @@ fn the_quantity_never_changes_by_itself() {
     let (message, status) = told("--kind sq --width 2 --length 22 --beta 0.4");
     let expected = [
         "sheet: 21 free edges; say which configurations are meant",
-        "    --enumerate takes all 2^21 configurations, about ",
-        "    --sample N draws N of them, about ",
-        "    --signs plus, --signs S or --seed N takes one, about ",
+        "    --enumerate takes all 2^21 configurations, ",
+        "    --sample N draws N of them, ",
+        "    --signs plus, --signs S or --seed N takes one, ",
     ];
     assert_eq!((message.lines().count(), status), (4, Some(2)), "{message}");
     assert!(message.lines().zip(expected).all(|(line, start)| line.starts_with(start)), "{message}");

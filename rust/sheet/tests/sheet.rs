@@ -1,12 +1,10 @@
 //! The program as it is run: what it prints, writes and refuses.
 
 mod common;
-use common::{body, folder, printed, sheet, table, SQUARE};
+use common::{body, printed, table, SQUARE};
 use oracle::glass::{correlations, exhaustive, sample, Acc, Plan};
 use oracle::lattice::{Graph, Kind, Strip};
 use oracle::rng::Rng;
-use std::io::Read;
-use std::process::{Command, Stdio};
 
 #[test]
 fn the_settled_square() {
@@ -258,36 +256,4 @@ fn other_formats() {
     let apart = printed("--kind square --width 1 --length 3 --beta 1 --dilute 0,1,1,5 --pairs 0-2,1-0");
     assert!(apart.contains("\n0-2   0  2         -  0.000000000000\n"), "{apart}");
     assert_eq!(printed("--help"), printed("-h --kind"));
-}
-
-#[test]
-fn a_file_is_there_whole_or_not_at_all() {
-    let folder = folder("output");
-    let file = folder.join("square.txt");
-    for _ in 0..2 {
-        assert_eq!(printed(&format!("{SQUARE} --output {}", file.display())), "");
-        assert_eq!(std::fs::read_to_string(&file).unwrap(), printed(SQUARE));
-    }
-    let refused = sheet(&format!("{SQUARE} --signs + --output {}", folder.join("none").display()));
-    assert_eq!(refused.status.code(), Some(2));
-    assert_eq!(std::fs::read_dir(&folder).unwrap().count(), 1);
-    let nowhere = sheet(&format!("{SQUARE} --output {}", folder.join("none/none").display()));
-    assert_eq!(nowhere.status.code(), Some(1));
-    assert!(String::from_utf8_lossy(&nowhere.stderr).starts_with("sheet: --output "));
-    assert_eq!(printed(&format!("{SQUARE} --output /dev/null")), "");
-    assert!(!std::fs::metadata("/dev/null").unwrap().is_file());
-}
-
-#[test]
-fn a_closed_pipe_ends_it_quietly() {
-    let mut child = Command::new(env!("CARGO_BIN_EXE_sheet"))
-        .args(SQUARE.split_whitespace())
-        .stdout(Stdio::piped())
-        .stderr(Stdio::piped())
-        .spawn()
-        .unwrap();
-    drop(child.stdout.take());
-    let mut told = String::new();
-    child.stderr.take().unwrap().read_to_string(&mut told).unwrap();
-    assert!(child.wait().unwrap().success() && told.is_empty(), "{told}");
 }
