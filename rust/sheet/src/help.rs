@@ -31,6 +31,7 @@ of which configurations: one of these; without any, all, where at most 20 edges 
         --threads N          chunks at a time; the bits do not depend on it
 how it is told
     --format F               text (the default), csv, json, or svg: a plot against distance
+        --linear             its values on a linear axis; without it on a logarithmic one where they span decades
     --bits                   the bits of every value too
     --output FILE            to this file, which is there whole or not at all; one that is there keeps its mode
     --help, --version        this text; which Copperhook it is

@@ -1,6 +1,7 @@
 //! The program that makes a sheet: `sheet --help` tells its options.
 
 mod accuracy;
+mod axes;
 mod board;
 mod configuration;
 mod cost;
@@ -8,6 +9,7 @@ mod data;
 mod explained;
 mod help;
 mod json;
+mod marks;
 mod options;
 mod output;
 mod plot;
@@ -51,7 +53,7 @@ fn make(options: &Options) -> Result<String, Trouble> {
         Format::Text => text::text(&sheet),
         Format::Csv => data::csv(&sheet),
         Format::Json => data::json(&sheet),
-        Format::Svg => plot::svg(&sheet),
+        Format::Svg => plot::svg(&sheet, options.linear),
     })
 }
 

@@ -57,6 +57,7 @@ pub struct Options {
     pub per_element: bool,
     pub format: Format,
     pub bits: bool,
+    pub linear: bool,
     pub output: Option<PathBuf>,
 }
 
@@ -88,6 +89,7 @@ struct Written {
     per_element: Option<bool>,
     format: Option<Format>,
     bits: bool,
+    linear: bool,
     output: Option<PathBuf>,
 }
 
@@ -163,6 +165,7 @@ impl Written {
         let slot = match name {
             "--cylinder" => &mut self.cylinder,
             "--bits" => &mut self.bits,
+            "--linear" => &mut self.linear,
             "--enumerate" => &mut self.enumerate,
             _ => return Ok(false),
         };
@@ -232,6 +235,9 @@ impl Written {
         fn needed<T>(slot: Option<T>, name: &str, what: &str) -> Result<T, Trouble> {
             slot.ok_or_else(|| Trouble::asked(format!("{name} is required ({what})")))
         }
+        if self.linear && self.format != Some(Format::Svg) {
+            return Err(Trouble::asked("--linear is for a plot; give --format svg too"));
+        }
         Ok(Options {
             wanted: self.wanted()?,
             kind: needed(self.kind, "--kind", "square, tri or honey")?,
@@ -244,6 +250,7 @@ impl Written {
             per_element: self.per_element.unwrap_or(false),
             format: self.format.unwrap_or(Format::Text),
             bits: self.bits,
+            linear: self.linear,
             output: self.output,
         })
     }
@@ -303,6 +310,7 @@ mod tests {
             ("--signs +x", "--signs +x: 'x' is no sign; write + or -"),
             ("--format pdf", "--format pdf: there is no such format; use text, csv, json or svg"),
             ("--manner slow", "--manner slow: there is no such manner; use block or element"),
+            ("--linear", "--linear is for a plot; give --format svg too"),
             ("--bits=1", "--bits takes no value"),
             ("--manner", "--manner needs a value; sheet --help tells which"),
             ("--colour red", "there is no option --colour; sheet --help tells them"),

@@ -130,21 +130,30 @@ pub fn lines(record: &Record, most: usize) -> Vec<String> {
     lines
 }
 
-/// In lines of so many characters, broken at spaces; a word that is longer, anywhere.
+/// In lines of so many characters, broken at spaces; a word that is longer, behind a comma, or where it has none anywhere.
 pub fn wrapped(text: &str, most: usize) -> Vec<String> {
     let mut lines: Vec<String> = vec![String::new()];
-    for word in text.split(' ') {
-        let letters: Vec<char> = word.chars().collect();
-        let pieces: Vec<String> = letters.chunks(most).map(|piece| piece.iter().collect()).collect();
-        for piece in pieces {
-            match lines.last_mut() {
-                Some(last) if last.is_empty() => *last = piece,
-                Some(last) if last.chars().count() + 1 + piece.chars().count() <= most => *last += &format!(" {piece}"),
-                _ => lines.push(piece),
-            }
+    for piece in text.split(' ').flat_map(|word| pieces(word, most)) {
+        match lines.last_mut() {
+            Some(last) if last.is_empty() => *last = piece,
+            Some(last) if last.chars().count() + 1 + piece.chars().count() <= most => *last += &format!(" {piece}"),
+            _ => lines.push(piece),
         }
     }
     lines
+}
+
+fn pieces(word: &str, most: usize) -> Vec<String> {
+    let mut letters: Vec<char> = word.chars().collect();
+    let mut pieces = Vec::new();
+    while letters.len() > most {
+        let end = letters[..most].iter().rposition(|&c| c == ',').map_or(most, |comma| comma + 1);
+        let rest = letters.split_off(end);
+        pieces.push(letters.iter().collect());
+        letters = rest;
+    }
+    pieces.push(letters.iter().collect());
+    pieces
 }
 
 #[cfg(test)]
@@ -155,6 +164,7 @@ mod tests {
     fn lines_are_no_longer_than_they_may_be() {
         assert_eq!(wrapped("one two three", 7), ["one two", "three"]);
         assert_eq!(wrapped("a abcdefghij", 4), ["a", "abcd", "efgh", "ij"]);
+        assert_eq!(wrapped("1,23,456,7", 5), ["1,23,", "456,7"]);
         let record = Record(vec![("key", Field::text("a b")), ("signs", Field::text("+-+-+-+-+-"))]);
         assert_eq!(lines(&record, 10), ["key: a b", "signs:", "    +-+-+-", "    +-+-"]);
     }

@@ -1,7 +1,7 @@
 //! A sheet: a table of values with what they are of.
 
 use crate::board::Board;
-use crate::options::Options;
+use crate::options::{Options, Wanted};
 use crate::record::Record;
 use crate::source::{Bounds, Source, Values};
 use crate::values::spelled;
@@ -31,6 +31,7 @@ pub struct Sheet {
     pub bounds: Bounds,
     pub rows: Vec<Row>,
     pub bits: bool,
+    drawn: bool,
     /// Whether the pairs are the standard ones, by their labels.
     pub standard: bool,
 }
@@ -56,8 +57,14 @@ impl Sheet {
             bounds,
             rows: (0..board.pairs.len()).map(row).collect(),
             bits: options.bits,
+            drawn: matches!(options.wanted, Wanted::Sampled(_)),
             standard: options.pairs.is_none(),
         }
+    }
+
+    /// Whether the second column is how far a mean of drawn configurations may be off.
+    pub fn drawn(&self) -> bool {
+        self.drawn && self.columns.len() > 1
     }
 }
 

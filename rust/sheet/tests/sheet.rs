@@ -249,10 +249,6 @@ fn other_formats() {
         "{json}"
     );
     assert_eq!(json.matches('{').count(), json.matches('}').count());
-    let svg = printed("--kind tri --width 4 --length 8 --beta 0.2,0.5,1 --seed 3 --format svg");
-    assert!(svg.starts_with("<svg ") && svg.ends_with("</svg>\n"));
-    assert_eq!(svg.matches("<polyline").count(), 3);
-    assert_eq!(svg.matches("<g ").count(), svg.matches("</g>").count());
     let apart = printed("--kind square --width 1 --length 3 --beta 1 --dilute 0,1,1,5 --pairs 0-2,1-0");
     assert!(apart.contains("\n0-2   0  2         -  0.000000000000\n"), "{apart}");
     assert_eq!(printed("--help"), printed("-h --kind"));
