@@ -7,6 +7,9 @@ pub const LEFT: f64 = 85.0;
 pub const RIGHT: f64 = 650.0;
 pub const HEIGHT: f64 = 380.0;
 
+/// The room at either side of the frame.
+const SIDE: f64 = 35.0;
+
 /// From so many decades on the axis is logarithmic.
 const DECADES: f64 = 2.0;
 
@@ -51,9 +54,10 @@ impl Axes {
         self.top + HEIGHT
     }
 
-    /// Half a step is left free on either side, so that marks lie inside the frame.
+    /// Room is left on either side, so that marks lie inside the frame.
     pub fn x(&self, distance: f64) -> f64 {
-        LEFT + (distance - self.near + 0.5) / (self.far - self.near + 1.0) * (RIGHT - LEFT)
+        let share = if self.far > self.near { (distance - self.near) / (self.far - self.near) } else { 0.5 };
+        LEFT + SIDE + share * (RIGHT - LEFT - 2.0 * SIDE)
     }
 
     /// `None` where the axis does not reach.
@@ -114,7 +118,7 @@ mod tests {
     fn marks_lie_inside_the_frame() {
         for scale in [Scale::Linear(-1.0, 1.0), Scale::Log(-9.0, 0.0)] {
             let axes = Axes { top: 50.0, near: 1.0, far: 9.0, scale };
-            assert!(axes.x(1.0) > LEFT + 5.0 && axes.x(9.0) < RIGHT - 5.0);
+            assert!(axes.x(1.0) > LEFT + 20.0 && axes.x(9.0) < RIGHT - 20.0);
             let ys: Vec<f64> = axes.ticks().iter().map(|tick| axes.y(tick.0).unwrap()).collect();
             assert!(ys.iter().all(|y| *y >= 55.0 && *y <= 425.0) && ys.len() > 4);
             assert_eq!(axes.y(1.5), None);

@@ -5,14 +5,20 @@ use crate::marks::{families, family, mark, stroke};
 use crate::record::{lines, wrapped};
 use crate::sheet::{bits, Row, Sheet};
 
-const WIDTH: f64 = 860.0;
+const WIDTH: f64 = 920.0;
+
+/// So many letters a line of text takes, and one of the record.
+const LETTERS: usize = 125;
+const RECORD_LETTERS: usize = 145;
 
 /// So many betas are named beside the plot.
 const NAMED: usize = 12;
 
 pub fn svg(sheet: &Sheet, linear: bool) -> String {
-    let title: Vec<String> =
-        [sheet.title.clone(), format!("{}; manner {}", sheet.source, sheet.manner)].iter().flat_map(|line| wrapped(line, 110)).collect();
+    let title: Vec<String> = [sheet.title.clone(), format!("{}; manner {}", sheet.source, sheet.manner)]
+        .iter()
+        .flat_map(|line| wrapped(line, LETTERS))
+        .collect();
     let axes = Axes::of(sheet, 24.0 + 16.0 * title.len() as f64, linear);
     let mut svg = String::new();
     for (i, line) in title.iter().enumerate() {
@@ -24,12 +30,12 @@ pub fn svg(sheet: &Sheet, linear: bool) -> String {
     }
     svg += &legend(sheet, &axes);
     let mut y = axes.bottom() + 62.0;
-    for line in foot(sheet, &axes).iter().flat_map(|line| wrapped(line, 110)) {
+    for line in foot(sheet, &axes).iter().flat_map(|line| wrapped(line, LETTERS)) {
         svg += &label((LEFT, y), "start", &line);
         y += 15.0;
     }
     svg += "<g class=\"record\" font-size=\"9\" font-family=\"monospace\" xml:space=\"preserve\">\n";
-    for line in lines(&sheet.record, 130) {
+    for line in lines(&sheet.record, RECORD_LETTERS) {
         svg += &label((LEFT, y), "start", &line);
         y += 11.0;
     }
@@ -53,11 +59,16 @@ fn line(from: (f64, f64), to: (f64, f64), style: &str) -> String {
     format!("<line x1=\"{:.1}\" y1=\"{:.1}\" x2=\"{:.1}\" y2=\"{:.1}\" {style}/>\n", from.0, from.1, to.0, to.1)
 }
 
+/// Whether a value that has a place is negative.
+fn any_negative(sheet: &Sheet) -> bool {
+    sheet.rows.iter().any(|row| row.distance.is_some() && row.values.iter().any(|of_beta| of_beta[0] < 0.0))
+}
+
 /// What is plotted, as the axis names it.
 fn quantity(sheet: &Sheet, axes: &Axes) -> String {
     let name = sheet.columns[0].replace('_', " ");
     match axes.scale {
-        Scale::Log(..) if sheet.columns[0] == "correlation" => format!("size of the {name}"),
+        Scale::Log(..) if any_negative(sheet) => format!("size of the {name}"),
         _ => name,
     }
 }
@@ -193,7 +204,7 @@ fn foot(sheet: &Sheet, axes: &Axes) -> Vec<String> {
     if sheet.drawn() {
         foot.push("bars: one standard error to either side".to_string());
     }
-    if sheet.rows.iter().any(|row| row.distance.is_some() && row.values.iter().any(|v| v[0] < 0.0)) {
+    if any_negative(sheet) {
         foot.push("hollow marks: negative values".to_string());
     }
     let shown: usize = (0..sheet.betas.len()).map(|beta| points(sheet, axes, beta).len()).sum();

@@ -35,6 +35,7 @@ fn every_point_is_inside_the_frame_and_the_legend_is_not() {
         "--kind tri --width 3 --length 5 --beta 0.5 --format svg".to_string(),
         "--kind tri --width 6 --length 12 --cylinder --beta 0.3,0.5 --sample 20 --chunks 3 --format svg".to_string(),
         "--kind square --width 1 --length 2 --beta 1 --format svg".to_string(),
+        "--kind square --width 3 --length 300 --beta 0.6931471805599453,-1.2345678901234567e-5 --signs plus --format svg".to_string(),
     ] {
         let svg = printed(&line);
         let (drawn, legend) = parts(&svg);
@@ -42,12 +43,17 @@ fn every_point_is_inside_the_frame_and_the_legend_is_not() {
         let (left, top, right, bottom) = (frame[0], frame[1], frame[0] + frame[2], frame[1] + frame[3]);
         let marks = numbers(&drawn, "<path class=\"mark\" d=\"M", 2);
         assert!(!marks.is_empty(), "{line}");
-        assert!(marks.iter().all(|at| at[0] > left && at[0] < right && at[1] > top && at[1] < bottom), "{line}");
+        // a mark is not wider than ten units, nor higher
+        let (left_of, right_of) = (left + 10.0, right - 10.0);
+        assert!(marks.iter().all(|at| at[0] > left_of && at[0] < right_of && at[1] > top + 5.0 && at[1] < bottom - 5.0), "{line}");
         let bars: Vec<&str> = drawn.lines().filter(|line| line.contains("class=\"error\"")).collect();
         let inside = |bar: &&str| numbers(bar, " y", 2).iter().flatten().all(|y| *y >= top && *y <= bottom || *y == 1.0 || *y == 2.0);
         assert!(bars.iter().all(inside) && bars.is_empty() != line.contains("--sample"), "{line}");
         let named = numbers(&legend, " x=\"", 1).into_iter().chain(numbers(&legend, "<path class=\"mark\" d=\"M", 1));
         assert!(named.into_iter().all(|at| at[0] > right), "{legend}");
+        // no letter is wider than eight units
+        let page = numbers(&svg, "viewBox=\"0 0 ", 1)[0][0];
+        assert!(texts(&legend).iter().all(|text| 8.0 * text.chars().count() as f64 + right + 50.0 < page), "{legend}");
         assert_eq!(svg.matches("<g ").count(), svg.matches("</g>").count());
     }
 }
@@ -56,8 +62,10 @@ fn every_point_is_inside_the_frame_and_the_legend_is_not() {
 fn the_axis_is_logarithmic_where_values_span_decades() {
     let (log, linear) = (texts(&printed(PLUS)), texts(&printed(&format!("{PLUS} --linear"))));
     let has = |texts: &[String], text: &str| texts.iter().any(|t| t == text);
-    assert!(has(&log, "1e-7") && has(&log, "size of the correlation") && !has(&log, "0.25"), "{log:?}");
+    assert!(has(&log, "1e-7") && has(&log, "correlation") && !has(&log, "0.25"), "{log:?}");
     assert!(has(&linear, "0.25") && has(&linear, "correlation") && !has(&linear, "1e-7"), "{linear:?}");
+    let signed = texts(&printed("--kind tri --width 3 --length 9 --beta 0.3 --seed 5 --format svg"));
+    assert!(has(&signed, "size of the correlation") && has(&signed, "1e-1"), "{signed:?}");
     let near = texts(&printed("--kind square --width 3 --length 3 --beta 1.5 --format svg --pairs 0-1,4-5"));
     assert!(has(&near, "mean square") && has(&near, "0.25"), "{near:?}");
 }
@@ -119,6 +127,6 @@ fn no_line_leaves_the_page() {
         format!("--kind square --width 8 --length 12 --beta 0.4 --dilute 1,0.123456789,1.23456789,18446744073709551615 --signs {signs}");
     let svg = printed(&format!("{line} --format svg"));
     let (head, record) = svg.split_once("<g class=\"record\"").unwrap();
-    assert!(texts(head).iter().all(|text| text.chars().count() <= 110));
-    assert!(texts(record).iter().all(|text| text.chars().count() <= 130));
+    assert!(texts(head).iter().all(|text| text.chars().count() <= 125));
+    assert!(texts(record).iter().all(|text| text.chars().count() <= 145));
 }
