@@ -81,6 +81,13 @@ impl Board {
         Job { graph: self.graph(), us: &self.us, vs: &self.vs }
     }
 
+    /// The betas' places, the strongest first: what overflows is found early.
+    pub fn strongest_first(&self) -> Vec<usize> {
+        let mut order: Vec<usize> = (0..self.betas.len()).collect();
+        order.sort_by(|&i, &j| self.betas[j].abs().total_cmp(&self.betas[i].abs()));
+        order
+    }
+
     /// Of both signs, at beta i.
     pub fn factors_at(&self, i: usize) -> &[f64] {
         &self.factors.all[2 * i * self.kept..2 * (i + 1) * self.kept]

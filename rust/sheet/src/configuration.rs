@@ -80,17 +80,14 @@ impl Source for Configuration {
         (0..board.betas.len()).map(bound).collect()
     }
 
-    /// The run itself begins with the beta that is most likely to overflow.
+    /// The run itself begins with the strongest beta.
     fn tried(&self, _: &Board, _: &mut [f64]) -> Result<(), Trouble> {
         Ok(())
     }
 
-    /// Strongest beta first.
     fn values(&self, board: &Board, work: &mut [f64], done: Done) -> Result<Values, Trouble> {
-        let mut order: Vec<usize> = (0..board.betas.len()).collect();
-        order.sort_by(|&i, &j| board.betas[j].abs().total_cmp(&board.betas[i].abs()));
         let mut values = vec![Vec::new(); board.betas.len()];
-        for (so_far, &i) in order.iter().enumerate() {
+        for (so_far, i) in board.strongest_first().into_iter().enumerate() {
             let mut results = vec![0.0; board.pairs.len()];
             let signed = board.factors.of_signs(i, &self.minus);
             let call = board.job().correlations(&signed, board.manner, &mut results, work);

@@ -43,10 +43,10 @@ fn make(options: &Options) -> Result<String, Trouble> {
     let bounds = source.bounds(&board)?;
     let cost = Cost::of(&board, source.as_ref());
     let mut work = work_memory(&board, source.threads())?;
+    cost.say();
     if cost.is_long() {
         source.tried(&board, &mut work)?;
     }
-    cost.say();
     let values = progress::shown(&cost, |done| source.values(&board, &mut work, done))?;
     let sheet = Sheet::new(options, &board, source.as_ref(), bounds, values);
     Ok(match options.format {

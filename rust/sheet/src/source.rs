@@ -46,7 +46,7 @@ pub trait Source {
     /// Tries every beta on one configuration, all plus, so that one that overflows is named before a long run.
     fn tried(&self, board: &Board, work: &mut [f64]) -> Result<(), Trouble> {
         let (plus, mut results) = (vec![false; board.kept], vec![0.0; board.pairs.len()]);
-        for i in 0..board.betas.len() {
+        for i in board.strongest_first() {
             let call = board.job().correlations(&board.factors.of_signs(i, &plus), board.manner, &mut results, work);
             call.map_err(|refusal| board.refused_at(i, refusal))?;
         }

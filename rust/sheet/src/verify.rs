@@ -39,7 +39,8 @@ fn cells(text: &str, format: Format) -> Result<Cells, String> {
             let cells = json::cells(text)?;
             Ok(cells.into_iter().map(|(place, cell)| (place.strip_prefix("record.").map(String::from).unwrap_or(place), cell)).collect())
         }
-        _ => csv_cells(text),
+        _ if text.starts_with('#') => csv_cells(text),
+        _ => Err("it is no sheet in csv or json that begins with its record; make it again with --format csv or json".to_string()),
     }
 }
 

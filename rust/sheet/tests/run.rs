@@ -5,7 +5,8 @@ use common::folder;
 use std::fs;
 use std::os::unix::fs::{symlink, PermissionsExt};
 use std::path::{Path, PathBuf};
-use std::process::{Command, Output};
+use std::process::{Command, Output, Stdio};
+use std::time::Duration;
 
 const TOOLS: [&str; 30] = [
     "bash",
@@ -89,16 +90,15 @@ fn repository(name: &str) -> PathBuf {
     root
 }
 
+fn command(root: &Path, line: &str) -> Command {
+    let mut command = Command::new("bash");
+    command.arg(root.join("rust/sheet/run")).args(line.split_whitespace());
+    command.env("PATH", root.join("bin")).env("CARGO_HOME", root.join("none")).env("ROOT", root).env_remove("COPPERHOOK_LIB");
+    command
+}
+
 fn run(root: &Path, line: &str) -> (Option<i32>, String, String) {
-    let Output { status, stdout, stderr } = Command::new("bash")
-        .arg(root.join("rust/sheet/run"))
-        .args(line.split_whitespace())
-        .env("PATH", root.join("bin"))
-        .env("CARGO_HOME", root.join("none"))
-        .env("ROOT", root)
-        .env_remove("COPPERHOOK_LIB")
-        .output()
-        .unwrap();
+    let Output { status, stdout, stderr } = command(root, line).output().unwrap();
     (status.code(), String::from_utf8(stdout).unwrap(), String::from_utf8(stderr).unwrap())
 }
 
@@ -114,7 +114,7 @@ fn options_are_read_before_anything_is_proved() {
     let (status, help, _) = run(&root, "--help");
     assert!(status == Some(0) && help.contains("usage: sheet [make] --kind K"), "{help}");
     let (status, version, _) = run(&root, "--version");
-    assert!(status == Some(0) && version.contains("archive not built yet"), "{version}");
+    assert!(status == Some(0) && version.contains("archive not built from these sources yet"), "{version}");
     assert!(version.starts_with(&format!("copperhook {}\n", env!("CARGO_PKG_VERSION"))), "{version}");
     let typo = run(&root, &format!("{JOB} --colour red"));
     assert_eq!((typo.0, typo.2.as_str()), (Some(2), "sheet: there is no option --colour; sheet --help tells them\n"));
@@ -155,4 +155,26 @@ fn what_fails_or_is_missing_gets_a_sentence() {
         let (status, _, told) = run(&root, JOB);
         assert!(status == Some(1) && told.starts_with(start) && told.lines().count() == 1, "{told}");
     }
+}
+
+/// The prover and what it started end with it, and nothing is taken for proved.
+#[test]
+fn a_run_that_is_broken_off_ends_its_prover() {
+    let root = repository("run-broken");
+    script(&root.join("bin/rt"), "#!/usr/bin/env bash\nsleep 600 &\necho $! >started.new\nmv started.new started\nwait\n");
+    let mut child = command(&root, JOB).stderr(Stdio::null()).spawn().unwrap();
+    let started = (0..300).find_map(|_| {
+        std::thread::sleep(Duration::from_millis(100));
+        fs::read_to_string(root.join("started")).ok()
+    });
+    let sleeper = PathBuf::from("/proc").join(started.unwrap().trim());
+    assert!(sleeper.exists());
+    assert!(Command::new("kill").args(["-TERM", &child.id().to_string()]).status().unwrap().success());
+    assert_eq!(child.wait().unwrap().code(), Some(130));
+    let running = || fs::read_to_string(sleeper.join("stat")).is_ok_and(|stat| !stat.contains(") Z "));
+    assert!((0..50).any(|_| {
+        std::thread::sleep(Duration::from_millis(100));
+        !running()
+    }));
+    assert!(!root.join("target/staticlib/libcopperhook.a.sources").exists());
 }

@@ -1,10 +1,11 @@
 //! The program as it is run: what it prints, writes and refuses.
 
 mod common;
-use common::{body, printed, table, SQUARE};
+use common::{body, folder, printed, table, SQUARE};
 use oracle::glass::{correlations, exhaustive, sample, Acc, Plan};
 use oracle::lattice::{Graph, Kind, Strip};
 use oracle::rng::Rng;
+use std::process::Command;
 
 #[test]
 fn the_settled_square() {
@@ -191,7 +192,7 @@ fn no_digit_below_an_absolute_one_is_printed_without_a_bound() {
     let text = printed("--kind square --width 3 --length 5 --beta 0.02");
     let small = |cell: &&str| cell.contains("e-");
     let cells: Vec<&str> = text.lines().skip(4).take_while(|row| !row.is_empty()).filter_map(|row| row.split_whitespace().last()).collect();
-    assert!(cells.iter().any(|cell| small(&cell)), "{text}");
+    assert!(cells.iter().any(small), "{text}");
     for cell in cells.iter().filter(|cell| small(cell)) {
         let (digits, exponent) = cell.split_once("e-").unwrap();
         let after = digits.split_once('.').map_or(0, |parts| parts.1.len());
@@ -252,4 +253,20 @@ fn other_formats() {
     let apart = printed("--kind square --width 1 --length 3 --beta 1 --dilute 0,1,1,5 --pairs 0-2,1-0");
     assert!(apart.contains("\n0-2   0  2         -  0.000000000000\n"), "{apart}");
     assert_eq!(printed("--help"), printed("-h --kind"));
+}
+
+/// Those of `--help` make sheets.
+#[test]
+fn the_examples_work() {
+    let (help, folder) = (printed("--help"), folder("examples"));
+    let examples: Vec<&str> =
+        help.split_once("\nexamples\n").unwrap().1.lines().take_while(|line| line.starts_with("    sheet ")).collect();
+    assert!(examples.len() > 5);
+    std::fs::write(folder.join("board.csv"), printed(&format!("{SQUARE} --format csv"))).unwrap();
+    for line in examples {
+        let words = line.split_whitespace().skip(1);
+        let output = Command::new(env!("CARGO_BIN_EXE_sheet")).args(words).current_dir(&folder).output().unwrap();
+        assert!(output.status.success(), "{line}: {}", String::from_utf8_lossy(&output.stderr));
+    }
+    assert!(folder.join("plot.svg").is_file());
 }

@@ -100,10 +100,12 @@ fn what_is_no_sheet_has_another_status() {
     let file = folder.join("sheet");
     let csv = printed("--kind square --width 2 --length 3 --beta 0.7 --format csv");
     for (text, told) in [
-        ("", "it has no record of a command"),
+        ("", "it is no sheet in csv or json"),
+        ("# kind: square\nu\n", "it has no record of a command"),
+        (&printed("--kind square --width 2 --length 3 --beta 0.7"), "it is no sheet in csv or json"),
         ("{\"a\": ", "is no value"),
         ("{}", "it has no record of a command"),
-        ("u,v\n0,1,2\n", "row 1 has 3 cells; its head has 2"),
+        ("# kind: square\nu,v\n0,1,2\n", "row 1 has 3 cells; its head has 2"),
         ("# command: rm -r\nu\n", "its command is 'rm -r', which is none of a sheet"),
         ("# command: sheet --version\nu\n", "which makes no sheet"),
         ("# command: sheet make --kind cube\nu\n", "there is no such kind"),
