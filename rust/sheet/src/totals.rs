@@ -107,9 +107,9 @@ impl Source for Enumerated {
         self.count as f64
     }
 
-    /// The backward vectors past the edges that change are kept: by measurement up to a third of the time.
+    /// The backward vectors past the edges that change are kept: six strips of 16 to 21 free edges took 0.85 to 0.95 of the time of as many samples.
     fn least_share(&self) -> f64 {
-        0.7
+        0.85
     }
 
     fn bounds(&self, board: &Board) -> Result<Bounds, Trouble> {
