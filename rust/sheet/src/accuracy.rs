@@ -2,6 +2,9 @@
 
 use crate::sheet::Sheet;
 
+/// Where no bound is proved, no digit below 10^-15 is printed.
+const UNPROVED_DECIMALS: i32 = 15;
+
 /// What is proved of the first column, and what of none.
 pub fn foot(sheet: &Sheet) -> String {
     let named = |known: bool| -> Vec<&str> {
@@ -12,15 +15,18 @@ pub fn foot(sheet: &Sheet) -> String {
     let mut foot = "\n".to_string();
     if let Some(most) = sheet.bounds.iter().flatten().copied().reduce(f64::max) {
         let at = if unknown.is_empty() { String::new() } else { format!(" at beta {}", known.join(", ")) };
-        let errors = if sheet.columns.len() > 1 { "; of the errors no bound is proved" } else { "" };
-        foot += &format!("each {}{at} is within {} of the exact value for these factors, proved{errors}\n", sheet.columns[0], above(most));
+        let (what, within) = (sheet.columns[0].replace('_', " "), above(most));
+        foot +=
+            &format!("each {what}{at} is within {within} of the exact value for these factors, proved; no digit below that is printed\n");
     }
-    match (known.is_empty(), unknown.is_empty()) {
-        (_, true) => (),
-        (true, _) => foot += "no bound is proved for couplings this strong\n",
-        (false, _) => foot += &format!("no bound is proved for couplings as strong as at beta {}\n", unknown.join(", ")),
-    }
-    foot
+    let unproved = match (known.is_empty(), unknown.is_empty()) {
+        (_, true) if sheet.columns.len() == 1 => return foot,
+        (_, true) => "of the standard errors".to_string(),
+        (true, _) => "for couplings this strong".to_string(),
+        (false, _) if sheet.columns.len() == 1 => format!("for couplings as strong as at beta {}", unknown.join(", ")),
+        (false, _) => format!("for couplings as strong as at beta {}, and of the standard errors", unknown.join(", ")),
+    };
+    foot + &format!("no bound is proved {unproved}; no digit below 1e-15 is printed there\n")
 }
 
 /// Two digits, rounded up.
@@ -38,7 +44,7 @@ fn above(bound: f64) -> String {
 
 /// How many decimals may be printed: half a unit of the last is not below the bound, so that the last is off by one at most.
 fn true_decimals(bound: Option<f64>) -> i32 {
-    bound.map_or(i32::MAX, |bound| (0..=17).rev().find(|&d| 2.0 * bound * 10f64.powi(d) <= 1.0).unwrap_or(0))
+    bound.map_or(UNPROVED_DECIMALS, |bound| (0..=17).rev().find(|&d| 2.0 * bound * 10f64.powi(d) <= 1.0).unwrap_or(0))
 }
 
 /// Twelve decimals, or twelve digits of what is too small for them; fewer where the bound is wider.
@@ -70,9 +76,8 @@ mod tests {
     #[test]
     fn small_values_keep_their_digits() {
         assert_eq!(value(0.6, None), "0.600000000000");
-        assert_eq!(value(-1.5e-9, None), "-1.50000000000e-9");
+        assert_eq!(value(-1.5e-9, Some(1e-25)), "-1.50000000e-9");
         assert_eq!(value(0.0, None), "0.000000000000");
-        assert_eq!(value(5e-324, None), "4.94065645841e-324");
     }
 
     #[test]
@@ -87,6 +92,14 @@ mod tests {
             ("0.00000000".to_string(), "0.000000000000".to_string())
         );
         assert_eq!(value(1.0, Some(0.7)), "1");
+    }
+
+    #[test]
+    fn no_digit_below_an_absolute_one_without_a_bound() {
+        assert_eq!(
+            [-1.5e-9, 1.00561741367e-14, 1e-15, 4e-16].map(|x| value(x, None)),
+            ["-1.500000e-9", "1.0e-14", "1e-15", "0.000000000000"]
+        );
     }
 
     #[test]

@@ -1,12 +1,14 @@
-//! A strip made ready: its edges, the pairs that are asked for, and the options that a refusal of it comes from.
+//! A strip made ready: its edges, the pairs that are asked for, and its factors at each beta.
 
-use crate::options::{Beta, Options};
+use crate::explained;
+use crate::options::Options;
 use crate::trouble::Trouble;
-use copperhook::{EdgeList, Graph, Job, LabelledPair, Manner, Refusal, Strip};
+use crate::values::spelled;
+use copperhook::{limits, Dilution, EdgeList, Factors, Graph, Job, Kind, LabelledPair, Manner, Refusal, Strip};
 
 pub struct Board {
     pub strip: Strip,
-    pub betas: Vec<Beta>,
+    pub betas: Vec<f64>,
     pub manner: Manner,
     pub pairs: Vec<LabelledPair>,
     /// The least number of kept edges on a walk that joins a pair, `None` where there is none.
@@ -17,6 +19,8 @@ pub struct Board {
     pub window: usize,
     /// The work memory of one call, in doubles.
     pub room: usize,
+    /// Of both signs, at each beta and kept edge.
+    pub factors: Factors,
     diluted: Option<String>,
     edges: EdgeList,
     us: Vec<usize>,
@@ -28,59 +32,45 @@ pub fn counted(count: usize, one: &str, many: &str) -> String {
     format!("{count} {}", if count == 1 { one } else { many })
 }
 
-/// Options as they are written on a line.
-struct Names<'a>(&'a Options);
-
-impl Names<'_> {
-    fn sides(&self) -> String {
-        let s = &self.0.strip;
-        format!("--width {} --length {}", s.width, s.length)
+/// The strip, and its edges as they are lent.
+fn strip(options: &Options) -> Result<(Strip, EdgeList), Trouble> {
+    let named = |refusal| explained::of_strip(options, refusal);
+    let kind = Kind::parse(&options.kind).ok_or_else(|| Trouble::asked(format!("--kind {}: the library has none", options.kind)))?;
+    let strip = Strip { kind, width: options.width, length: options.length, periodic: options.cylinder };
+    strip.n().map_err(named)?;
+    let window = strip.window().map_err(named)?;
+    if window > limits::WINDOW {
+        return Err(explained::refused(explained::window(&strip, window), Refusal::Window));
     }
-
-    fn dilution(&self) -> String {
-        self.0.dilution.map_or(String::new(), |by| format!("--dilute {},{},{},{}", by.keep, by.low, by.high, by.seed))
-    }
-
-    fn pairs(&self) -> String {
-        let pairs: Vec<String> = self.0.pairs.iter().flatten().map(|(u, v)| format!("{u}-{v}")).collect();
-        format!("--pairs {}", pairs.join(","))
-    }
-
-    /// The options that a refusal comes from before there is a beta: of strips, the window, or the pairs.
-    fn of(&self, refusal: Refusal) -> String {
-        match refusal {
-            Refusal::StripSides | Refusal::Window => self.sides(),
-            Refusal::OddCylinder => format!("--cylinder --width {}", self.0.strip.width),
-            Refusal::Dilution => self.dilution(),
-            _ => self.pairs(),
-        }
-    }
+    let edges = match options.dilution {
+        None => strip.edge_list(),
+        Some(by) => strip.diluted_list(&Dilution { keep: by.keep, low: by.low, high: by.high, seed: by.seed }),
+    };
+    Ok((strip, edges.map_err(named)?))
 }
 
 impl Board {
+    /// Every limit of the strip, the pairs and the betas is asked here.
     pub fn new(options: &Options) -> Result<Board, Trouble> {
-        let named = |refusal| Trouble::Refused { option: Names(options).of(refusal), refusal };
-        let strip = options.strip;
-        let n = strip.n().map_err(named)?;
-        let floor = strip.window().map_err(named)?;
-        let edges = match &options.dilution {
-            None => strip.edge_list(),
-            Some(by) => strip.diluted_list(by),
-        }
-        .map_err(named)?;
+        let named = |refusal| explained::of_strip(options, refusal);
+        let (strip, edges) = strip(options)?;
+        let (n, window) = (strip.n().map_err(named)?, strip.window().map_err(named)?);
         let pairs = match &options.pairs {
             None => strip.labelled_pairs().map_err(named)?,
             Some(pairs) => pairs.iter().map(|&(u, v)| LabelledPair { label: format!("{u}-{v}"), u, v }).collect(),
         };
-        let graph = edges.graph(n).with_floor(floor);
+        let graph = edges.graph(n).with_floor(window);
         let (us, vs): (Vec<usize>, Vec<usize>) = pairs.iter().map(|p| (p.u, p.v)).unzip();
         let room = Job { graph, us: &us, vs: &vs }.room().map_err(named)?;
-        let kept = graph.kept_list().map_err(named)?.m.len();
+        let factors = graph.factors(&options.betas).map_err(|refusal| explained::of_betas(&options.betas, refusal))?;
         let free = graph.cyclomatic().map_err(named)?;
         let distances = pairs.iter().map(|p| graph.distance(p.u, p.v)).collect::<Result<_, _>>().map_err(named)?;
-        let diluted = options.dilution.map(|by| format!("keep {}, magnitudes {} to {}, seed {}", by.keep, by.low, by.high, by.seed));
-        let (betas, manner) = (options.betas.clone(), options.manner);
-        Ok(Board { strip, betas, manner, pairs, distances, n, kept, free, window: floor, room, diluted, edges, us, vs })
+        let diluted = options
+            .dilution
+            .map(|by| format!("keep {}, magnitudes {} to {}, seed {}", spelled(by.keep), spelled(by.low), spelled(by.high), by.seed));
+        let (betas, kept) = (options.betas.clone(), factors.kept);
+        let manner = if options.per_element { Manner::PerElement } else { Manner::Block };
+        Ok(Board { strip, betas, manner, pairs, distances, n, kept, free, window, room, factors, diluted, edges, us, vs })
     }
 
     pub fn graph(&self) -> Graph<'_> {
@@ -91,14 +81,36 @@ impl Board {
         Job { graph: self.graph(), us: &self.us, vs: &self.vs }
     }
 
-    pub fn beta_values(&self) -> Vec<f64> {
-        self.betas.iter().map(|b| b.value).collect()
+    /// The betas' places, the strongest first: what overflows is found early.
+    pub fn strongest_first(&self) -> Vec<usize> {
+        let mut order: Vec<usize> = (0..self.betas.len()).collect();
+        order.sort_by(|&i, &j| self.betas[j].abs().total_cmp(&self.betas[i].abs()));
+        order
     }
 
-    /// A refusal of a board that was made: it is the betas' then.
+    /// Of both signs, at beta i.
+    pub fn factors_at(&self, i: usize) -> &[f64] {
+        &self.factors.all[2 * i * self.kept..2 * (i + 1) * self.kept]
+    }
+
+    /// What the factors at beta i are exponentials of, of either sign or of a configuration's.
+    fn couplings(&self, i: usize) -> impl Iterator<Item = f64> + '_ {
+        self.edges.m.iter().filter(|m| **m != 0.0).map(move |m| self.betas[i] * m)
+    }
+
+    /// A refusal of a call at beta i with the factors of either sign.
+    pub fn refused_at(&self, i: usize, refusal: Refusal) -> Trouble {
+        explained::of_beta(self.betas[i], self.couplings(i).flat_map(|x| [x, -x]), refusal)
+    }
+
+    /// The same with those of a configuration.
+    pub fn refused_signs(&self, i: usize, minus: &[bool], refusal: Refusal) -> Trouble {
+        explained::of_beta(self.betas[i], self.couplings(i).zip(minus).map(|(x, &m)| if m { -x } else { x }), refusal)
+    }
+
+    /// A refusal that no beta is named for.
     pub fn refused(&self, refusal: Refusal) -> Trouble {
-        let texts: Vec<&str> = self.betas.iter().map(|b| b.text.as_str()).collect();
-        Trouble::Refused { option: format!("--beta {}", texts.join(",")), refusal }
+        explained::of_betas(&self.betas, refusal)
     }
 
     /// What it is, on one line.

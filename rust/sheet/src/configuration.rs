@@ -1,40 +1,41 @@
 //! The correlations of one configuration.
 
 use crate::board::{counted, Board};
+use crate::record::{Entry, Field};
 use crate::source::{Bounds, Done, Source, Values};
 use crate::trouble::Trouble;
+use crate::values::spelled_signs;
 use copperhook::Rng;
 
 /// One configuration: the sign of each kept edge, true for minus.
 pub struct Configuration {
     minus: Vec<bool>,
+    seed: Option<u64>,
     title: String,
 }
 
 impl Configuration {
     pub fn plus(kept: usize) -> Configuration {
-        Configuration { minus: vec![false; kept], title: "all signs plus".to_string() }
+        Configuration { minus: vec![false; kept], seed: None, title: "all signs plus".to_string() }
     }
 
     pub fn drawn(seed: u64, kept: usize) -> Configuration {
-        Configuration { minus: drawn(seed, kept), title: format!("signs drawn with seed {seed}") }
+        Configuration { minus: drawn(seed, kept), seed: Some(seed), title: format!("signs drawn with seed {seed}") }
     }
 
     pub fn given(minus: &[bool], kept: usize) -> Result<Configuration, Trouble> {
         if minus.len() != kept {
             let (signs, edges) = (counted(minus.len(), "sign", "signs"), counted(kept, "kept edge", "kept edges"));
-            let why = format!("it has {signs}, and the strip {edges}");
-            return Err(Trouble::option("--signs", why));
+            return Err(Trouble::asked(format!("--signs has {signs}; this strip has {edges}, and each needs one")));
         }
-        Ok(Configuration { minus: minus.to_vec(), title: spelled(minus) })
+        Ok(Configuration { minus: minus.to_vec(), seed: None, title: spelled(minus) })
     }
 }
 
 /// The signs themselves, where a line has room for them.
 fn spelled(minus: &[bool]) -> String {
-    let signs: String = minus.iter().map(|&m| if m { '-' } else { '+' }).collect();
     if minus.len() <= 64 {
-        format!("signs {signs}")
+        format!("signs {}", spelled_signs(minus))
     } else {
         format!("{} signs as given", minus.len())
     }
@@ -52,6 +53,17 @@ impl Source for Configuration {
         self.title.clone()
     }
 
+    fn record(&self) -> [Entry; 6] {
+        [
+            ("configurations", Field::text("one")),
+            ("signs", Field::text(spelled_signs(&self.minus))),
+            ("seed", self.seed.map_or(Field::Nothing, Field::number)),
+            ("chunks", Field::Nothing),
+            ("samples", Field::Nothing),
+            ("count", Field::number(1)),
+        ]
+    }
+
     fn columns(&self) -> &'static [&'static str] {
         &["correlation"]
     }
@@ -61,22 +73,27 @@ impl Source for Configuration {
     }
 
     fn bounds(&self, board: &Board) -> Result<Bounds, Trouble> {
-        let betas = board.beta_values();
-        let factors = board.graph().factors(&betas).map_err(|refusal| board.refused(refusal))?;
-        let bound = |i| board.graph().error_bound(&factors.of_signs(i, &self.minus)).map_err(|refusal| board.refused(refusal));
-        (0..betas.len()).map(bound).collect()
+        let bound = |i| {
+            let factors = board.factors.of_signs(i, &self.minus);
+            board.graph().error_bound(&factors).map_err(|refusal| board.refused_signs(i, &self.minus, refusal))
+        };
+        (0..board.betas.len()).map(bound).collect()
+    }
+
+    /// The run itself begins with the strongest beta.
+    fn tried(&self, _: &Board, _: &mut [f64]) -> Result<(), Trouble> {
+        Ok(())
     }
 
     fn values(&self, board: &Board, work: &mut [f64], done: Done) -> Result<Values, Trouble> {
-        let betas = board.beta_values();
-        let factors = board.graph().factors(&betas).map_err(|refusal| board.refused(refusal))?;
-        let mut values = Vec::new();
-        for i in 0..betas.len() {
+        let mut values = vec![Vec::new(); board.betas.len()];
+        for (so_far, i) in board.strongest_first().into_iter().enumerate() {
             let mut results = vec![0.0; board.pairs.len()];
-            let signed = factors.of_signs(i, &self.minus);
-            board.job().correlations(&signed, board.manner, &mut results, work).map_err(|refusal| board.refused(refusal))?;
-            values.push(results.into_iter().map(|x| vec![x]).collect());
-            done(i as u64 + 1, betas.len() as u64, "betas");
+            let signed = board.factors.of_signs(i, &self.minus);
+            let call = board.job().correlations(&signed, board.manner, &mut results, work);
+            call.map_err(|refusal| board.refused_signs(i, &self.minus, refusal))?;
+            values[i] = results.into_iter().map(|x| vec![x]).collect();
+            done(so_far as u64 + 1, board.betas.len() as u64, "betas");
         }
         Ok(values)
     }
@@ -98,6 +115,6 @@ mod tests {
     #[test]
     fn signs_that_do_not_fit_are_told() {
         let why = Configuration::given(&[true], 4).err().unwrap();
-        assert_eq!(why.to_string(), "--signs: it has 1 sign, and the strip 4 kept edges");
+        assert_eq!(why.to_string(), "--signs has 1 sign; this strip has 4 kept edges, and each needs one");
     }
 }

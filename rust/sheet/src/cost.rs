@@ -12,51 +12,64 @@ const LONG: f64 = 2.0;
 const LARGE: f64 = 1e9;
 
 pub struct Cost {
-    pub seconds: f64,
+    /// The least and the most seconds that the trials let expect.
+    pub seconds: (f64, f64),
     pub bytes: f64,
 }
 
 impl Cost {
     pub fn of(board: &Board, source: &dyn Source) -> Cost {
         let calls = source.sweeps() * board.betas.len() as f64;
+        let cores = std::thread::available_parallelism().map_or(1, usize::from).min(source.threads());
         // nothing need be measured for what is short at any rate
-        let seconds = if calls * board.entries() < 2e7 { 0.0 } else { calls * seconds_of_a_call(board) / source.threads() as f64 };
+        let (least, most) = if calls * board.entries() < 2e7 { (0.0, 0.0) } else { seconds_of_a_call(board) };
+        let seconds = (source.least_share() * calls * least / source.threads() as f64, calls * most / cores as f64);
         Cost { seconds, bytes: 8.0 * board.room as f64 * source.threads() as f64 }
     }
 
+    pub fn middle(&self) -> f64 {
+        (self.seconds.0 + self.seconds.1) / 2.0
+    }
+
     pub fn is_long(&self) -> bool {
-        self.seconds >= LONG
+        self.seconds.1 >= LONG
     }
 
     /// One line on standard error where the run is long or large.
     pub fn say(&self) {
         if self.is_long() || self.bytes >= LARGE {
-            tell(&format!("sheet: about {}, with {} of work memory\n", time(self.seconds), size(self.bytes)));
+            tell(&format!("sheet: {}, with {} of work memory\n", range(self.seconds), size(self.bytes)));
         }
     }
 }
 
-/// The sweeps of one configuration at one beta: by a trial of some milliseconds with samples of the strip itself, or where one of them would
-/// take longer, by its entries.
-fn seconds_of_a_call(board: &Board) -> f64 {
+/// So many trials are taken.
+const TRIALS: usize = 4;
+
+/// The sweeps of one configuration at one beta, the least and the most that trials of some milliseconds took: of samples of the strip itself,
+/// or where one of them would take longer, by its entries.
+pub fn seconds_of_a_call(board: &Board) -> (f64, f64) {
     let trial = |samples: usize| -> Result<f64, copperhook::Refusal> {
         let factors = board.graph().factors(&[0.5])?.all;
         let (mut squares, mut fourths) = (vec![0.0; board.pairs.len()], vec![0.0; board.pairs.len()]);
         let (by, mut work) = (Sampling { seed: 1, from: 0, to: 1, samples }, vec![0.0; board.room]);
         let start = Instant::now();
         board.job().sample(&[0.5], &factors, board.manner, &by, &mut squares, &mut fourths, &mut work)?;
-        Ok(start.elapsed().as_secs_f64())
+        Ok(start.elapsed().as_secs_f64() / samples as f64)
     };
     if board.entries() < 1e7 {
-        for samples in [1, 10, 100, 1000] {
-            match trial(samples) {
-                Ok(seconds) if seconds > 0.005 || samples == 1000 => return seconds / samples as f64,
-                Ok(_) => (),
-                Err(_) => break,
-            }
+        let enough = [1, 10, 100, 1000].into_iter().find(|&samples| trial(samples).is_ok_and(|s| s * samples as f64 > 0.005));
+        let trials: Result<Vec<f64>, _> = (0..TRIALS).map(|_| trial(enough.unwrap_or(1000))).collect();
+        if let Ok(trials) = trials {
+            return extremes(&trials);
         }
     }
-    board.entries() / entries_in_a_second()
+    let rates: Vec<f64> = (0..TRIALS).map(|_| board.entries() / entries_in_a_second()).collect();
+    extremes(&rates)
+}
+
+fn extremes(trials: &[f64]) -> (f64, f64) {
+    trials.iter().fold((f64::INFINITY, 0.0), |(least, most), &x| (least.min(x), most.max(x)))
 }
 
 /// Of a trial of some milliseconds.
@@ -102,10 +115,24 @@ fn free_memory() -> Option<f64> {
 
 pub fn time(seconds: f64) -> String {
     match seconds {
-        s if s < 1.0 => "a second at most".to_string(),
+        s if s < 1.5 => "a second".to_string(),
         s if s < 120.0 => format!("{s:.0} seconds"),
         s if s < 7200.0 => format!("{:.0} minutes", s / 60.0),
-        s => format!("{:.1} hours", s / 3600.0),
+        s if s < 172800.0 => format!("{:.1} hours", s / 3600.0),
+        s if s < 6.3e7 => format!("{:.0} days", s / 86400.0),
+        s => format!("{:.0} years", s / 31557600.0),
+    }
+}
+
+/// From the least to the most, in one unit where they share one.
+pub fn range((least, most): (f64, f64)) -> String {
+    let (low, high) = (time(least), time(most));
+    match (low.split_once(' '), high.split_once(' ')) {
+        _ if most < 1.5 => "at most a second".to_string(),
+        _ if least < 1.5 => format!("up to {high}"),
+        _ if low == high => format!("about {low}"),
+        (Some((number, unit)), Some((_, same))) if unit == same => format!("about {number} to {high}"),
+        _ => format!("about {low} to {high}"),
     }
 }
 
@@ -119,11 +146,18 @@ fn size(bytes: f64) -> String {
 
 #[cfg(test)]
 mod tests {
-    use super::{size, time};
+    use super::{extremes, range, size, time};
 
     #[test]
     fn sizes_and_times_are_short() {
         assert_eq!([size(104.0), size(2.5e6), size(1.34e9)], ["0.1 kB", "2.5 MB", "1.3 GB"]);
-        assert_eq!([time(0.2), time(59.6), time(600.0), time(9000.0)], ["a second at most", "60 seconds", "10 minutes", "2.5 hours"]);
+        assert_eq!([0.2, 59.6, 600.0, 9000.0].map(time), ["a second", "60 seconds", "10 minutes", "2.5 hours"]);
+        assert_eq!([2e5, 1e8].map(time), ["2 days", "3 years"]);
+        assert_eq!(
+            [(180.0, 300.0), (60.0, 60.2), (90.0, 121.0)].map(range),
+            ["about 3 to 5 minutes", "about 60 seconds", "about 90 seconds to 2 minutes"]
+        );
+        assert_eq!([(0.1, 3.0), (0.1, 0.2)].map(range), ["up to 3 seconds", "at most a second"]);
+        assert_eq!(extremes(&[3.0, 1.0, 2.0]), (1.0, 3.0));
     }
 }

@@ -1,16 +1,18 @@
 //! The sheet for other programs: comma-separated values, and JSON. Each double is written so that it reads back as the same bits.
 
+use crate::record::Field;
 use crate::sheet::{bits, Row, Sheet};
 
 pub fn csv(sheet: &Sheet) -> String {
-    let mut text = "kind,boundary,width,length,beta,pair,u,v,distance".to_string();
+    let mut text: String = sheet.record.0.iter().map(|(key, field)| format!("# {key}: {}\n", field.shown())).collect();
+    text += "kind,boundary,width,length,beta,pair,u,v,distance";
     for column in sheet.columns {
         text += &format!(",{column}");
         if sheet.bits {
-            text += &format!(",{column} bits");
+            text += &format!(",{column}_bits");
         }
     }
-    text += &format!(",{} bound\n", sheet.columns[0]);
+    text += &format!(",{}_bound\n", sheet.columns[0]);
     for (i, beta) in sheet.betas.iter().enumerate() {
         for row in &sheet.rows {
             let distance = row.distance.map_or(String::new(), |d| d.to_string());
@@ -29,24 +31,27 @@ pub fn csv(sheet: &Sheet) -> String {
 }
 
 pub fn json(sheet: &Sheet) -> String {
-    let betas: Vec<String> = sheet.betas.iter().map(|b| string(b)).collect();
+    let record: Vec<String> = sheet.record.0.iter().map(|(key, field)| format!("    {}: {}", string(key), json_field(field))).collect();
     let bounds: Vec<String> = sheet.bounds.iter().map(|b| b.map_or("null".to_string(), |bound| format!("{bound:?}"))).collect();
     let rows: Vec<String> = sheet.rows.iter().map(|row| format!("    {}", json_row(sheet, row))).collect();
     format!(
-        "{{\n  \"kind\": {},\n  \"boundary\": {},\n  \"width\": {},\n  \"length\": {},\n  \"title\": {},\n  \"source\": {},\n  \"manner\": {},\n  \
-         \"betas\": [{}],\n  {}: [{}],\n  \"pairs\": [\n{}\n  ]\n}}\n",
-        string(&sheet.kind),
-        string(&sheet.boundary),
-        sheet.width,
-        sheet.length,
+        "{{\n  \"record\": {{\n{}\n  }},\n  \"title\": {},\n  \"source\": {},\n  \"betas\": [{}],\n  {}: [{}],\n  \"pairs\": [\n{}\n  ]\n}}\n",
+        record.join(",\n"),
         string(&sheet.title),
         string(&sheet.source),
-        string(sheet.manner),
-        betas.join(", "),
-        string(&format!("{} bound", sheet.columns[0])),
+        sheet.betas.join(", "),
+        string(&format!("{}_bound", sheet.columns[0])),
         bounds.join(", "),
         rows.join(",\n")
     )
+}
+
+fn json_field(field: &Field) -> String {
+    match field {
+        Field::Text(text) => string(text),
+        Field::Number(number) => number.clone(),
+        Field::Nothing => "null".to_string(),
+    }
 }
 
 /// A pair with a list for each column, by beta.
@@ -57,7 +62,7 @@ fn json_row(sheet: &Sheet, row: &Row) -> String {
         let list = |cell: fn(f64) -> String| row.values.iter().map(|of_beta| cell(of_beta[c])).collect::<Vec<_>>().join(", ");
         text += &format!(", {}: [{}]", string(column), list(|x| format!("{x:?}")));
         if sheet.bits {
-            text += &format!(", {}: [{}]", string(&format!("{column} bits")), list(|x| string(&bits(x))));
+            text += &format!(", {}: [{}]", string(&format!("{column}_bits")), list(|x| string(&bits(x))));
         }
     }
     text + "}"

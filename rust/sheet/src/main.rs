@@ -1,23 +1,33 @@
 //! The program that makes a sheet: `sheet --help` tells its options.
 
 mod accuracy;
+mod axes;
 mod board;
 mod configuration;
 mod cost;
 mod data;
+mod explained;
+mod help;
+mod json;
+mod marks;
 mod options;
 mod output;
 mod plot;
 mod progress;
+mod record;
+mod sha256;
 mod sheet;
 mod source;
 mod text;
 mod totals;
 mod trouble;
+mod values;
+mod verify;
 
 use board::Board;
 use cost::{work_memory, Cost};
 use options::{Asked, Format, Options};
+use output::Target;
 use progress::tell;
 use sheet::Sheet;
 use std::process::ExitCode;
@@ -26,41 +36,58 @@ use trouble::Trouble;
 /// The sheet as its format spells it.
 fn make(options: &Options) -> Result<String, Trouble> {
     let board = Board::new(options)?;
+    for warning in explained::warnings(options) {
+        tell(&format!("sheet: warning: {warning}\n"));
+    }
     let source = source::chosen(options, &board)?;
     let bounds = source.bounds(&board)?;
     let cost = Cost::of(&board, source.as_ref());
-    cost.say();
     let mut work = work_memory(&board, source.threads())?;
+    cost.say();
+    if cost.is_long() {
+        source.tried(&board, &mut work)?;
+    }
     let values = progress::shown(&cost, |done| source.values(&board, &mut work, done))?;
-    let sheet = Sheet::new(&board, source.as_ref(), bounds, values, options.bits);
+    let sheet = Sheet::new(options, &board, source.as_ref(), bounds, values);
     Ok(match options.format {
         Format::Text => text::text(&sheet),
         Format::Csv => data::csv(&sheet),
         Format::Json => data::json(&sheet),
-        Format::Svg => plot::svg(&sheet),
+        Format::Svg => plot::svg(&sheet, options.linear),
     })
 }
 
-fn run(words: &[String]) -> Result<(), Trouble> {
+fn version() -> String {
+    format!("copperhook {}\ncommit {}\narchive sha256 {}\n", record::VERSION, record::COMMIT, record::ARCHIVE_SHA256)
+}
+
+/// The exit status: 1 where a sheet is not what its record says.
+fn run(words: &[String]) -> Result<u8, Trouble> {
     match options::parse(words)? {
-        Asked::Help => output::to_stdout(options::HELP),
+        Asked::Help => output::to_stdout(help::HELP)?,
+        Asked::Version => output::to_stdout(&version())?,
+        Asked::Verify { file, threads } => {
+            let verdict = verify::verify(&file, threads, make)?;
+            output::to_stdout(&verdict.told)?;
+            return Ok(u8::from(!verdict.agrees));
+        }
         Asked::Sheet(options) => {
-            let text = make(&options)?;
-            match &options.output {
-                None => output::to_stdout(&text),
-                Some(path) => output::to_file(path, &text),
-            }
+            let target = Target::ready(options.output.as_deref())?;
+            target.take(&make(&options)?)?;
         }
     }
+    Ok(0)
 }
 
 fn main() -> ExitCode {
     let words: Vec<String> = std::env::args_os().skip(1).map(|w| w.to_string_lossy().into_owned()).collect();
     match run(&words) {
-        Ok(()) => ExitCode::SUCCESS,
+        Ok(status) => ExitCode::from(status),
         Err(trouble) => {
             tell(&format!("sheet: {trouble}\n"));
-            ExitCode::from(trouble.status())
+            // a sheet that could not be checked is not one that differs
+            let verifies = words.first().is_some_and(|first| first == "verify");
+            ExitCode::from(if verifies { 2 } else { trouble.status() })
         }
     }
 }

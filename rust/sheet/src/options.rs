@@ -1,50 +1,8 @@
-//! The options of the program.
+//! The options of the program. Nothing here needs the library, so that they can be read before it is built.
 
 use crate::trouble::Trouble;
-use copperhook::{Dilution, Kind, Manner, Sampling, Strip};
+use crate::values;
 use std::path::PathBuf;
-
-pub const HELP: &str = "\
-The sheet of a strip: how strongly pairs of its spins hold together, as exact pair correlations of its Ising strip.
-
-usage: sheet --kind K --width N --length N --beta B,.. [options]
-
-the strip
-    --kind K                 square, tri or honey
-    --width N --length N     vertices across and along; up to 1,024 in all, and a window of up to 24
-    --cylinder               periodic across; without it free
-    --dilute KEEP,LO,HI,SEED each edge is kept with probability KEEP, its magnitude drawn from LO to HI
-what is asked of it
-    --beta B,..              inverse temperatures, up to 64
-    --pairs U-V,..           these pairs of vertices, up to 256; without it the standard pairs.
-                             Vertex (x, y), x along and y across, is x times the width + y
-    --manner M               block (the default) or element: how often a sweep is rescaled; the last bits depend on it
-of which configurations: with at most 20 free edges of all, with more of the one whose signs are plus, unless one of these is given
-    --signs S                one: the sign of each kept edge in order, as +-++, or plus for all
-    --seed N                 one: the signs drawn with this seed
-    --enumerate              all, up to 34 free edges: the mean square of each correlation, and its standard error
-    --sample N               drawn ones, N in each chunk: mean square and error again
-        --chunks C           that many chunks, or those of A..B, from A up to, and without, B; 1 by default
-        --seed N             the seed of their streams; 1 by default
-        --threads N          chunks at a time; the bits do not depend on it
-how it is told
-    --format F               text (the default), csv, json, or svg: a plot against distance
-    --bits                   the bits of every value too
-    --output FILE            to this file, which is there whole or not at all
-    --help                   this text
-
-The foot of a text tells how far its correlations, or means, are from the exact ones at most, for the factors that the
-host's exp makes. That is proved, and no digit past it is printed. csv and json carry the bound, and every digit.
-
-examples
-    sheet --kind square --width 4 --length 6 --beta 0.44,0.6
-    sheet --kind tri --width 3 --length 8 --cylinder --beta 0.3 --seed 7 --format csv
-    sheet --kind tri --width 6 --length 20 --beta 0.5 --sample 100 --chunks 40 --threads 4
-    sheet --kind honey --width 4 --length 5 --beta 1 --dilute 0.9,0.5,1.5,11 --pairs 0-19,0-1 --bits
-    sheet --kind square --width 8 --length 12 --beta 0.2,0.44,0.8 --format svg --output plot.svg
-
-Exit status: 0, 2 for a bad option or a refused job, 1 where memory or a file cannot be had.
-";
 
 #[derive(Clone, Copy, Debug, PartialEq)]
 pub enum Format {
@@ -54,11 +12,22 @@ pub enum Format {
     Svg,
 }
 
-/// A beta, and how it was written.
-#[derive(Clone, Debug, PartialEq)]
-pub struct Beta {
-    pub text: String,
-    pub value: f64,
+#[derive(Clone, Copy, Debug, PartialEq)]
+pub struct Dilution {
+    pub keep: f64,
+    pub low: f64,
+    pub high: f64,
+    pub seed: u64,
+}
+
+/// `samples` of each chunk from `from` up to, and without, `to`.
+#[derive(Clone, Copy, Debug, PartialEq)]
+pub struct Drawing {
+    pub seed: u64,
+    pub from: u64,
+    pub to: u64,
+    pub samples: usize,
+    pub threads: usize,
 }
 
 /// Which configurations are asked for.
@@ -72,22 +41,23 @@ pub enum Wanted {
     /// One, drawn with a seed.
     Drawn(u64),
     Enumerated,
-    Sampled {
-        by: Sampling,
-        threads: usize,
-    },
+    Sampled(Drawing),
 }
 
 #[derive(Clone, Debug, PartialEq)]
 pub struct Options {
-    pub strip: Strip,
+    pub kind: String,
+    pub width: usize,
+    pub length: usize,
+    pub cylinder: bool,
     pub dilution: Option<Dilution>,
-    pub betas: Vec<Beta>,
+    pub betas: Vec<f64>,
     pub pairs: Option<Vec<(usize, usize)>>,
     pub wanted: Wanted,
-    pub manner: Manner,
+    pub per_element: bool,
     pub format: Format,
     pub bits: bool,
+    pub linear: bool,
     pub output: Option<PathBuf>,
 }
 
@@ -95,18 +65,20 @@ pub struct Options {
 #[derive(Debug, PartialEq)]
 pub enum Asked {
     Help,
+    Version,
+    Verify { file: PathBuf, threads: usize },
     Sheet(Options),
 }
 
 /// The options as they are written, before they are put together.
 #[derive(Default)]
 struct Written {
-    kind: Option<Kind>,
+    kind: Option<String>,
     width: Option<usize>,
     length: Option<usize>,
     cylinder: bool,
     dilution: Option<Dilution>,
-    betas: Option<Vec<Beta>>,
+    betas: Option<Vec<f64>>,
     pairs: Option<Vec<(usize, usize)>>,
     signs: Option<Wanted>,
     seed: Option<u64>,
@@ -114,13 +86,51 @@ struct Written {
     sample: Option<usize>,
     chunks: Option<(u64, u64)>,
     threads: Option<usize>,
-    manner: Option<Manner>,
+    per_element: Option<bool>,
     format: Option<Format>,
     bits: bool,
+    linear: bool,
     output: Option<PathBuf>,
 }
 
+/// The first word may name what is to be done; an option means `make`.
 pub fn parse(words: &[String]) -> Result<Asked, Trouble> {
+    match words.split_first() {
+        None => Err(Trouble::asked("nothing is asked for; sheet --help tells how to ask")),
+        Some((first, rest)) if first == "make" => made(rest),
+        Some((first, rest)) if first == "verify" => verified(rest),
+        Some((first, _)) if first.starts_with('-') => made(words),
+        Some((first, _)) => Err(Trouble::asked(format!("'{first}' is no subcommand and no option; sheet --help tells them"))),
+    }
+}
+
+/// `verify FILE`, with `--threads N` for a sheet of drawn configurations.
+fn verified(words: &[String]) -> Result<Asked, Trouble> {
+    let (mut file, mut threads) = (None, None);
+    let mut words = words.iter();
+    while let Some(word) = words.next() {
+        match word.as_str() {
+            "--help" | "-h" => return Ok(Asked::Help),
+            "--threads" => {
+                let value = words.next().ok_or_else(|| Trouble::asked("--threads needs a value; sheet --help tells which"))?;
+                once(
+                    &mut threads,
+                    "--threads",
+                    values::threads(value).map_err(|why| Trouble::asked(format!("--threads {value}: {why}")))?,
+                )?;
+            }
+            option if option.starts_with("--") => {
+                return Err(Trouble::asked(format!("verify has no option {option}; sheet --help tells them")))
+            }
+            path if file.is_none() => file = Some(PathBuf::from(path)),
+            path => return Err(Trouble::asked(format!("verify takes one file; {path} is a second"))),
+        }
+    }
+    let file = file.ok_or_else(|| Trouble::asked("verify needs a file: a sheet in csv or json"))?;
+    Ok(Asked::Verify { file, threads: threads.unwrap_or(1) })
+}
+
+fn made(words: &[String]) -> Result<Asked, Trouble> {
     let mut written = Written::default();
     let mut words = words.iter();
     while let Some(word) = words.next() {
@@ -128,8 +138,10 @@ pub fn parse(words: &[String]) -> Result<Asked, Trouble> {
             Some((name, value)) => (name, Some(value.to_string())),
             None => (word.as_str(), None),
         };
-        if name == "--help" || name == "-h" {
-            return Ok(Asked::Help);
+        match name {
+            "--help" | "-h" => return Ok(Asked::Help),
+            "--version" => return Ok(Asked::Version),
+            _ => (),
         }
         if !written.flag(name, joined.is_some())? {
             let value = joined.take().or_else(|| words.next().cloned());
@@ -143,7 +155,7 @@ pub fn parse(words: &[String]) -> Result<Asked, Trouble> {
 fn once<T>(slot: &mut Option<T>, name: &str, value: T) -> Result<(), Trouble> {
     match slot.replace(value) {
         None => Ok(()),
-        Some(_) => Err(Trouble::option(name, "it is given twice, or with one that excludes it")),
+        Some(_) => Err(Trouble::asked(format!("{name} is given twice"))),
     }
 }
 
@@ -153,167 +165,94 @@ impl Written {
         let slot = match name {
             "--cylinder" => &mut self.cylinder,
             "--bits" => &mut self.bits,
+            "--linear" => &mut self.linear,
             "--enumerate" => &mut self.enumerate,
             _ => return Ok(false),
         };
         *slot = true;
         if joined {
-            return Err(Trouble::option(name, "it takes no value"));
+            return Err(Trouble::asked(format!("{name} takes no value")));
         }
         Ok(true)
     }
 
     fn value(&mut self, name: &str, value: Option<String>) -> Result<(), Trouble> {
-        const NAMES: [&str; 14] = [
-            "--kind",
-            "--width",
-            "--length",
-            "--dilute",
-            "--beta",
-            "--pairs",
-            "--signs",
-            "--seed",
-            "--sample",
-            "--chunks",
-            "--threads",
-            "--manner",
-            "--format",
-            "--output",
-        ];
-        if !NAMES.contains(&name) {
-            return Err(Trouble::option(name, "there is no such option; sheet --help tells them"));
+        const NAMES: &str =
+            "--kind --width --length --dilute --beta --pairs --signs --seed --sample --chunks --threads --manner --format --output";
+        if !NAMES.split(' ').any(|known| known == name) {
+            return Err(Trouble::asked(format!("there is no option {name}; sheet --help tells them")));
         }
-        let value = value.ok_or_else(|| Trouble::option(name, "its value is missing"))?;
-        let at = |why: String| Trouble::option(format!("{name} {value}"), why);
+        let value = value.ok_or_else(|| Trouble::asked(format!("{name} needs a value; sheet --help tells which")))?;
+        let at = |why: String| {
+            Trouble::asked(if why.starts_with("it must") { format!("{name}{}", &why[2..]) } else { format!("{name} {value}: {why}") })
+        };
         match name {
-            "--kind" => {
-                once(&mut self.kind, name, Kind::parse(&value).ok_or_else(|| at("there is no such kind: square, tri or honey".into()))?)
-            }
-            "--width" => once(&mut self.width, name, number(&value).map_err(at)?),
-            "--length" => once(&mut self.length, name, number(&value).map_err(at)?),
-            "--dilute" => once(&mut self.dilution, name, dilution(&value).map_err(at)?),
-            "--beta" => once(&mut self.betas, name, value.split(',').map(beta).collect::<Result<_, _>>().map_err(at)?),
-            "--pairs" => once(&mut self.pairs, name, value.split(',').map(pair).collect::<Result<_, _>>().map_err(at)?),
-            "--signs" => once(&mut self.signs, name, signs(&value).map_err(at)?),
-            "--seed" => once(&mut self.seed, name, number(&value).map_err(at)?),
-            "--sample" => once(&mut self.sample, name, number(&value).map_err(at)?),
-            "--chunks" => once(&mut self.chunks, name, chunks(&value).map_err(at)?),
-            "--threads" => once(&mut self.threads, name, threads(&value).map_err(at)?),
-            "--manner" => once(&mut self.manner, name, manner(&value).map_err(at)?),
-            "--format" => once(&mut self.format, name, format_named(&value).map_err(at)?),
+            "--kind" => once(&mut self.kind, name, values::kind(&value).map_err(at)?),
+            "--width" => once(&mut self.width, name, values::count(&value).map_err(at)?),
+            "--length" => once(&mut self.length, name, values::count(&value).map_err(at)?),
+            "--dilute" => once(&mut self.dilution, name, values::dilution(&value).map_err(at)?),
+            "--beta" => once(&mut self.betas, name, values::list(&value, values::number).map_err(at)?),
+            "--pairs" => once(&mut self.pairs, name, values::list(&value, values::pair).map_err(at)?),
+            "--signs" => once(&mut self.signs, name, values::signs(&value).map_err(at)?),
+            "--seed" => once(&mut self.seed, name, values::number(&value).map_err(at)?),
+            "--sample" => once(&mut self.sample, name, values::count(&value).map_err(at)?),
+            "--chunks" => once(&mut self.chunks, name, values::chunks(&value).map_err(at)?),
+            "--threads" => once(&mut self.threads, name, values::threads(&value).map_err(at)?),
+            "--manner" => once(&mut self.per_element, name, values::manner(&value).map_err(at)?),
+            "--format" => once(&mut self.format, name, values::format(&value).map_err(at)?),
             _ => once(&mut self.output, name, PathBuf::from(&value)),
         }
     }
 
-    /// At most one kind of configurations is asked for.
+    /// At most one kind of configurations is asked for; a seed goes with drawn ones too.
     fn wanted(&mut self) -> Result<Wanted, Trouble> {
-        let excluded = |name| Err(Trouble::option(name, "it is given twice, or with one that excludes it"));
-        let (signs, seed, sample) = (self.signs.take(), self.seed, self.sample);
-        if sample.is_none() && (self.chunks.is_some() || self.threads.is_some()) {
+        let given = [
+            ("--signs", self.signs.is_some()),
+            ("--sample", self.sample.is_some()),
+            ("--enumerate", self.enumerate),
+            ("--seed", self.seed.is_some() && self.sample.is_none()),
+        ];
+        let given: Vec<&str> = given.iter().filter(|g| g.1).map(|g| g.0).collect();
+        if let [first, second, ..] = given[..] {
+            return Err(Trouble::asked(format!("{first} and {second} cannot be combined")));
+        }
+        if self.sample.is_none() && (self.chunks.is_some() || self.threads.is_some()) {
             let name = if self.chunks.is_some() { "--chunks" } else { "--threads" };
-            return Err(Trouble::option(name, "it is for drawn configurations: give --sample too"));
+            return Err(Trouble::asked(format!("{name} is for drawn configurations; give --sample too")));
         }
-        match (signs, sample, self.enumerate, seed) {
-            (Some(_), Some(_), _, _) | (Some(_), _, true, _) | (Some(_), _, _, Some(_)) => excluded("--signs"),
-            (None, Some(_), true, _) | (None, None, true, Some(_)) => excluded("--enumerate"),
-            (Some(signs), ..) => Ok(signs),
-            (_, Some(samples), ..) => {
-                let (from, to) = self.chunks.unwrap_or((0, 1));
-                Ok(Wanted::Sampled { by: Sampling { seed: seed.unwrap_or(1), from, to, samples }, threads: self.threads.unwrap_or(1) })
-            }
-            (_, _, true, _) => Ok(Wanted::Enumerated),
-            (_, _, _, Some(seed)) => Ok(Wanted::Drawn(seed)),
-            _ => Ok(Wanted::Unsaid),
-        }
+        let (from, to) = self.chunks.unwrap_or((0, 1));
+        let drawing = |samples| Drawing { seed: self.seed.unwrap_or(1), from, to, samples, threads: self.threads.unwrap_or(1) };
+        Ok(match (self.signs.take(), self.sample, self.enumerate, self.seed) {
+            (Some(signs), ..) => signs,
+            (_, Some(samples), ..) => Wanted::Sampled(drawing(samples)),
+            (_, _, true, _) => Wanted::Enumerated,
+            (_, _, _, Some(seed)) => Wanted::Drawn(seed),
+            _ => Wanted::Unsaid,
+        })
     }
 
     fn put_together(mut self) -> Result<Options, Trouble> {
-        fn needed<T>(slot: Option<T>, name: &str) -> Result<T, Trouble> {
-            slot.ok_or_else(|| Trouble::option(name, "it is missing; sheet --help tells the options"))
+        fn needed<T>(slot: Option<T>, name: &str, what: &str) -> Result<T, Trouble> {
+            slot.ok_or_else(|| Trouble::asked(format!("{name} is required ({what})")))
         }
-        let strip = Strip {
-            kind: needed(self.kind, "--kind")?,
-            width: needed(self.width, "--width")?,
-            length: needed(self.length, "--length")?,
-            periodic: self.cylinder,
-        };
-        let wanted = self.wanted()?;
+        if self.linear && self.format != Some(Format::Svg) {
+            return Err(Trouble::asked("--linear is for a plot; give --format svg too"));
+        }
         Ok(Options {
-            strip,
+            wanted: self.wanted()?,
+            kind: needed(self.kind, "--kind", "square, tri or honey")?,
+            width: needed(self.width, "--width", "vertices across")?,
+            length: needed(self.length, "--length", "vertices along")?,
+            cylinder: self.cylinder,
             dilution: self.dilution,
-            betas: needed(self.betas, "--beta")?,
+            betas: needed(self.betas, "--beta", "inverse temperatures, as 0.44,0.6")?,
             pairs: self.pairs,
-            wanted,
-            manner: self.manner.unwrap_or(Manner::Block),
+            per_element: self.per_element.unwrap_or(false),
             format: self.format.unwrap_or(Format::Text),
             bits: self.bits,
+            linear: self.linear,
             output: self.output,
         })
-    }
-}
-
-fn number<T: std::str::FromStr>(text: &str) -> Result<T, String>
-where
-    T::Err: std::fmt::Display,
-{
-    text.trim().parse().map_err(|e| format!("'{text}' is no number that fits here ({e})"))
-}
-
-fn beta(text: &str) -> Result<Beta, String> {
-    Ok(Beta { text: text.trim().to_string(), value: number(text)? })
-}
-
-fn pair(text: &str) -> Result<(usize, usize), String> {
-    let (u, v) = text.split_once('-').ok_or_else(|| format!("'{text}' is no pair: write it as 0-5"))?;
-    Ok((number(u)?, number(v)?))
-}
-
-fn dilution(text: &str) -> Result<Dilution, String> {
-    match text.split(',').collect::<Vec<_>>()[..] {
-        [keep, low, high, seed] => Ok(Dilution { keep: number(keep)?, low: number(low)?, high: number(high)?, seed: number(seed)? }),
-        _ => Err("it takes four numbers, as 0.9,0.5,1.5,11".to_string()),
-    }
-}
-
-/// A count, or from where up to, and without, what.
-fn chunks(text: &str) -> Result<(u64, u64), String> {
-    match text.split_once("..") {
-        None => Ok((0, number(text)?)),
-        Some((from, to)) => Ok((number(from)?, number(to)?)),
-    }
-}
-
-fn threads(text: &str) -> Result<usize, String> {
-    number(text).and_then(|n: usize| if (1..=1024).contains(&n) { Ok(n) } else { Err("it is not from 1 to 1,024".to_string()) })
-}
-
-fn signs(text: &str) -> Result<Wanted, String> {
-    if text == "plus" {
-        return Ok(Wanted::Plus);
-    }
-    let sign = |c: char| match c {
-        '+' => Ok(false),
-        '-' => Ok(true),
-        _ => Err(format!("'{c}' is no sign: write + or -")),
-    };
-    Ok(Wanted::Signs(text.chars().map(sign).collect::<Result<_, _>>()?))
-}
-
-fn manner(text: &str) -> Result<Manner, String> {
-    match text {
-        "block" => Ok(Manner::Block),
-        "element" => Ok(Manner::PerElement),
-        _ => Err("there is no such manner: block or element".to_string()),
-    }
-}
-
-fn format_named(text: &str) -> Result<Format, String> {
-    match text {
-        "text" => Ok(Format::Text),
-        "csv" => Ok(Format::Csv),
-        "json" => Ok(Format::Json),
-        "svg" => Ok(Format::Svg),
-        _ => Err("there is no such format: text, csv, json or svg".to_string()),
     }
 }
 
@@ -330,11 +269,11 @@ mod tests {
         let line =
             "--kind sq --width 2 --length=3 --cylinder --beta 0.44,1 --pairs 0-1,5-2 --signs +-+ --manner element --format csv --bits";
         let Ok(Asked::Sheet(options)) = parsed(line) else { panic!() };
-        assert_eq!(options.strip, Strip { kind: Kind::Square, width: 2, length: 3, periodic: true });
-        assert_eq!(options.betas[1], Beta { text: "1".to_string(), value: 1.0 });
-        assert_eq!(options.pairs, Some(vec![(0, 1), (5, 2)]));
+        assert_eq!((options.kind.as_str(), options.width, options.length, options.cylinder), ("sq", 2, 3, true));
+        assert_eq!((options.betas, options.pairs), (vec![0.44, 1.0], Some(vec![(0, 1), (5, 2)])));
         assert_eq!(options.wanted, Wanted::Signs(vec![false, true, false]));
-        assert!(options.manner == Manner::PerElement && options.format == Format::Csv && options.bits);
+        assert!(options.per_element && options.format == Format::Csv && options.bits);
+        assert_eq!(parsed(&format!("make {line}")), parsed(line));
     }
 
     #[test]
@@ -343,7 +282,7 @@ mod tests {
             Ok(Asked::Sheet(options)) => options.wanted,
             other => panic!("{other:?}"),
         };
-        let sampled = |seed, from, to, threads| Wanted::Sampled { by: Sampling { seed, from, to, samples: 9 }, threads };
+        let sampled = |seed, from, to, threads| Wanted::Sampled(Drawing { seed, from, to, samples: 9, threads });
         assert_eq!((wanted(""), wanted("--seed 4"), wanted("--signs plus")), (Wanted::Unsaid, Wanted::Drawn(4), Wanted::Plus));
         assert_eq!((wanted("--enumerate"), wanted("--sample 9")), (Wanted::Enumerated, sampled(1, 0, 1, 1)));
         assert_eq!(wanted("--sample 9 --chunks 5 --seed 4"), sampled(4, 0, 5, 1));
@@ -353,29 +292,53 @@ mod tests {
     #[test]
     fn what_is_wrong_is_named() {
         let good = "--kind sq --width 2 --length 3 --beta 1";
-        for (more, named) in [
-            ("--width 3", "--width: it is given twice"),
-            ("--seed 1 --signs ++", "--signs: it is given twice, or with one that excludes it"),
-            ("--enumerate --seed 1", "--enumerate: it is given twice, or with one that excludes it"),
-            ("--sample 5 --signs ++", "--signs: it is given twice, or with one that excludes it"),
-            ("--chunks 0..3", "--chunks: it is for drawn configurations"),
-            ("--sample 5 --chunks 3..x", "--chunks 3..x: 'x' is no number"),
-            ("--sample 5 --threads 0", "--threads 0: it is not from 1 to 1,024"),
-            ("--seed -1", "--seed -1: '-1' is no number"),
-            ("--pairs 0-1,2", "--pairs 0-1,2: '2' is no pair"),
-            ("--dilute 1,2,3", "--dilute 1,2,3: it takes four numbers"),
-            ("--signs +x", "--signs +x: 'x' is no sign"),
-            ("--format pdf", "--format pdf: there is no such format"),
-            ("--bits=1", "--bits: it takes no value"),
-            ("--manner", "--manner: its value is missing"),
-            ("--colour red", "--colour: there is no such option"),
-            ("3", "3: there is no such option"),
+        for (more, told) in [
+            ("--width 3", "--width is given twice"),
+            ("--seed 1 --signs ++", "--signs and --seed cannot be combined"),
+            ("--enumerate --seed 1", "--enumerate and --seed cannot be combined"),
+            ("--sample 5 --signs ++", "--signs and --sample cannot be combined"),
+            ("--sample 5 --enumerate --seed 2", "--sample and --enumerate cannot be combined"),
+            ("--sample 0", "--sample must be at least 1"),
+            ("--chunks 0..3", "--chunks is for drawn configurations; give --sample too"),
+            ("--sample 5 --chunks 0", "--chunks must be at least 1"),
+            ("--sample 5 --chunks 3..3", "--chunks 3..3: it has no chunk; the second number must be above the first"),
+            ("--sample 5 --chunks 3..x", "--chunks 3..x: 'x' is no number that fits here (invalid digit found in string)"),
+            ("--sample 5 --threads 0", "--threads must be from 1 to 1,024"),
+            ("--seed -1", "--seed -1: '-1' is no number that fits here (invalid digit found in string)"),
+            ("--pairs 0-1,2", "--pairs 0-1,2: '2' is no pair; write it as 0-5"),
+            ("--dilute 1,2,3", "--dilute 1,2,3: it takes four numbers, as 0.9,0.5,1.5,11"),
+            ("--signs +x", "--signs +x: 'x' is no sign; write + or -"),
+            ("--format pdf", "--format pdf: there is no such format; use text, csv, json or svg"),
+            ("--manner slow", "--manner slow: there is no such manner; use block or element"),
+            ("--linear", "--linear is for a plot; give --format svg too"),
+            ("--bits=1", "--bits takes no value"),
+            ("--manner", "--manner needs a value; sheet --help tells which"),
+            ("--colour red", "there is no option --colour; sheet --help tells them"),
+            ("3", "there is no option 3; sheet --help tells them"),
         ] {
             let why = parsed(&format!("{good} {more}")).unwrap_err();
-            assert!(why.to_string().starts_with(named) && why.status() == 2, "{why}");
+            assert_eq!((why.to_string().as_str(), why.status()), (told, 2));
         }
-        assert_eq!(parsed("--width 2").unwrap_err().to_string(), "--kind: it is missing; sheet --help tells the options");
-        assert_eq!(parsed("--nonsense --help"), Err(Trouble::option("--nonsense", "there is no such option; sheet --help tells them")));
-        assert_eq!(parsed("--cylinder --help"), Ok(Asked::Help));
+        assert_eq!(parsed("--width 0").unwrap_err().to_string(), "--width must be at least 1");
+        assert_eq!(parsed("").unwrap_err().to_string(), "nothing is asked for; sheet --help tells how to ask");
+        assert_eq!(parsed("cook").unwrap_err().to_string(), "'cook' is no subcommand and no option; sheet --help tells them");
+        assert_eq!(parsed("--nonsense --help"), Err(Trouble::asked("there is no option --nonsense; sheet --help tells them")));
+        assert_eq!(parsed("verify").unwrap_err().to_string(), "verify needs a file: a sheet in csv or json");
+        assert_eq!(parsed("verify a b").unwrap_err().to_string(), "verify takes one file; b is a second");
+        assert_eq!(parsed("verify a --bits").unwrap_err().to_string(), "verify has no option --bits; sheet --help tells them");
+        assert_eq!(parsed("verify --threads 3 a"), Ok(Asked::Verify { file: PathBuf::from("a"), threads: 3 }));
+        assert_eq!((parsed("--cylinder --help"), parsed("--version")), (Ok(Asked::Help), Ok(Asked::Version)));
+    }
+
+    #[test]
+    fn what_is_missing_is_named() {
+        for (line, told) in [
+            ("--width 2", "--kind is required (square, tri or honey)"),
+            ("--kind sq --length 2", "--width is required (vertices across)"),
+            ("--kind sq --width 2", "--length is required (vertices along)"),
+            ("--kind sq --width 2 --length 2", "--beta is required (inverse temperatures, as 0.44,0.6)"),
+        ] {
+            assert_eq!(parsed(line), Err(Trouble::asked(told)));
+        }
     }
 }

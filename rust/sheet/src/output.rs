@@ -1,7 +1,8 @@
-//! Where a sheet goes: standard output, or a file that is there whole or not at all.
+//! Where a sheet goes: standard output, or a file that is there whole or not at all. Whether it can go there is asked before it is worked out.
 
+use crate::progress::tell;
 use crate::trouble::Trouble;
-use std::fs::{self, File};
+use std::fs::{self, File, Permissions};
 use std::io::{self, ErrorKind, Write};
 use std::path::{Path, PathBuf};
 
@@ -14,22 +15,55 @@ pub fn to_stdout(text: &str) -> Result<(), Trouble> {
     }
 }
 
-/// Written beside the file, then put in its place. What is no ordinary file, as a pipe or a terminal, is written to as it is.
-pub fn to_file(path: &Path, text: &str) -> Result<(), Trouble> {
-    let named = |e: io::Error| Trouble::Machine(format!("--output {}: {e}", path.display()));
-    match fs::metadata(path) {
-        Ok(there) if !there.is_file() => {
-            fs::OpenOptions::new().write(true).open(path).and_then(|mut file| file.write_all(text.as_bytes())).map_err(named)
-        }
-        Ok(_) => replace(&path.canonicalize().map_err(named)?, text).map_err(named),
-        Err(_) => replace(path, text).map_err(named),
+pub enum Target {
+    Stdout,
+    /// What is no ordinary file, as a pipe or a terminal, is written to as it is.
+    Stream(PathBuf),
+    /// Written beside the file, then put in its place; one that is there keeps its mode.
+    Whole {
+        file: PathBuf,
+        mode: Option<Permissions>,
+    },
+}
+
+impl Target {
+    /// A file beside the output is made and taken away again: what forbids it is told now, and a run that is broken off leaves nothing.
+    pub fn ready(output: Option<&Path>) -> Result<Target, Trouble> {
+        let Some(path) = output else { return Ok(Target::Stdout) };
+        let named = |e: io::Error| Trouble::Machine(format!("--output {}: {e}", path.display()));
+        let target = match fs::metadata(path) {
+            Ok(there) if there.is_dir() => return Err(named(ErrorKind::IsADirectory.into())),
+            Ok(there) if !there.is_file() => return Ok(Target::Stream(path.to_path_buf())),
+            Ok(there) => (path.canonicalize().map_err(named)?, Some(there.permissions())),
+            Err(_) => (path.to_path_buf(), None),
+        };
+        let beside = beside(&target.0).map_err(named)?;
+        File::create_new(&beside).and_then(|_| fs::remove_file(&beside)).map_err(named)?;
+        Ok(Target::Whole { file: target.0, mode: target.1 })
+    }
+
+    /// A sheet that its file does not take is not lost: it goes to standard output.
+    pub fn take(&self, text: &str) -> Result<(), Trouble> {
+        let (path, written) = match self {
+            Target::Stdout => return to_stdout(text),
+            Target::Stream(path) => {
+                (path, fs::OpenOptions::new().write(true).open(path).and_then(|mut stream| stream.write_all(text.as_bytes())))
+            }
+            Target::Whole { file, mode } => (file, replace(file, mode.as_ref(), text)),
+        };
+        written.or_else(|e| {
+            tell("sheet: it cannot be written to its file, and goes to standard output\n");
+            to_stdout(text)?;
+            Err(Trouble::Machine(format!("--output {}: {e}", path.display())))
+        })
     }
 }
 
-fn replace(path: &Path, text: &str) -> io::Result<()> {
+fn replace(path: &Path, mode: Option<&Permissions>, text: &str) -> io::Result<()> {
     let beside = beside(path)?;
     let written = File::create_new(&beside).and_then(|mut file| {
         file.write_all(text.as_bytes())?;
+        mode.map_or(Ok(()), |mode| file.set_permissions(mode.clone()))?;
         file.sync_all()
     });
     let placed = written.and_then(|()| fs::rename(&beside, path));

@@ -20,17 +20,24 @@ struct Report {
     seconds: f64,
 }
 
-/// The line at a moment: by what was done so far, and before the first is done by what the run was thought to take.
-fn line(report: Option<&Report>, thought: f64, seconds: f64) -> String {
+/// Lines are no wider than the narrowest terminals: one that wraps cannot be taken back.
+const WIDEST: usize = 39;
+
+/// The line at a moment: by what was done so far, and before the first is done by what was estimated.
+fn line(report: Option<&Report>, estimate: f64, seconds: f64) -> String {
     let (parts, whole) = match report {
-        Some(r) => (format!("{} of {} {}, ", r.done, r.all, r.what), r.seconds / r.done as f64 * r.all as f64),
-        None => (String::new(), thought),
+        Some(r) => (format!(", {}/{} {}", r.done, r.all, r.what), r.seconds / r.done as f64 * r.all as f64),
+        None => (String::new(), estimate),
     };
-    let percent = (100.0 * seconds / whole.max(1e-9)).min(99.0);
-    if seconds < whole {
-        format!("{parts}about {percent:.0} per cent, about {} left", time(whole - seconds))
+    if seconds >= whole {
+        return "sheet: taking longer than estimated".to_string();
+    }
+    let (percent, left) = ((100.0 * seconds / whole.max(1e-9)).min(99.0), time(whole - seconds));
+    let line = format!("sheet: {percent:.0}%{parts}, {left} left");
+    if line.len() <= WIDEST {
+        line
     } else {
-        format!("{parts}about {percent:.0} per cent, longer than was thought")
+        format!("sheet: {percent:.0}%, {left} left")
     }
 }
 
@@ -43,7 +50,7 @@ pub fn shown<T>(cost: &Cost, work: impl FnOnce(Done) -> T) -> T {
     let last: Mutex<Option<Report>> = Mutex::new(None);
     let hear = |done: u64, all: u64, what: &str| {
         let report = Report { done, all, what: what.to_string(), seconds: start.elapsed().as_secs_f64() };
-        *last.lock().unwrap_or_else(|poisoned| poisoned.into_inner()) = Some(report);
+        *last.lock().unwrap_or_else(|poisoned| poisoned.into_inner()) = Some(report).filter(|report| report.done > 0);
     };
     std::thread::scope(|scope| {
         let (working, over) = channel::<()>();
@@ -51,8 +58,8 @@ pub fn shown<T>(cost: &Cost, work: impl FnOnce(Done) -> T) -> T {
         scope.spawn(move || {
             while over.recv_timeout(Duration::from_millis(500)) == Err(RecvTimeoutError::Timeout) {
                 let report = last.lock().unwrap_or_else(|poisoned| poisoned.into_inner());
-                let told = line(report.as_ref(), cost.seconds, start.elapsed().as_secs_f64());
-                tell(&format!("\r\x1b[Ksheet: {told}"));
+                let told = line(report.as_ref(), cost.middle(), start.elapsed().as_secs_f64());
+                tell(&format!("\r\x1b[K{told}"));
             }
             tell("\r\x1b[K");
         });
@@ -66,19 +73,29 @@ pub fn shown<T>(cost: &Cost, work: impl FnOnce(Done) -> T) -> T {
 mod tests {
     use super::*;
 
-    fn report(done: u64) -> Report {
-        Report { done, all: 4, what: "betas".to_string(), seconds: 60.0 }
+    fn report(done: u64, all: u64) -> Report {
+        Report { done, all, what: "betas".to_string(), seconds: 60.0 }
     }
 
     #[test]
-    fn the_first_part_goes_by_what_was_thought() {
-        assert_eq!(line(None, 100.0, 25.0), "about 25 per cent, about 75 seconds left");
-        assert_eq!(line(None, 100.0, 130.0), "about 99 per cent, longer than was thought");
+    fn the_first_part_goes_by_what_was_estimated() {
+        assert_eq!(line(None, 100.0, 25.0), "sheet: 25%, 75 seconds left");
+        assert_eq!(line(None, 100.0, 130.0), "sheet: taking longer than estimated");
     }
 
     #[test]
     fn later_parts_go_by_those_that_are_done() {
-        assert_eq!(line(Some(&report(2)), 1.0, 72.0), "2 of 4 betas, about 60 per cent, about 48 seconds left");
-        assert_eq!(line(Some(&report(1)), 1.0, 250.0), "1 of 4 betas, about 99 per cent, longer than was thought");
+        assert_eq!(line(Some(&report(2, 4)), 1.0, 72.0), "sheet: 60%, 2/4 betas, 48 seconds left");
+        assert_eq!(line(Some(&report(1, 4)), 1.0, 250.0), "sheet: taking longer than estimated");
+    }
+
+    #[test]
+    fn lines_fit_forty_columns() {
+        for seconds in [1.0, 100.0, 1e4, 1e6, 1e9, 1e18] {
+            for all in [2, 64, 1 << 32] {
+                let told = [line(Some(&report(1, all)), 1.0, 0.5), line(None, seconds, 0.5), line(Some(&report(all - 1, all)), 1.0, 1e12)];
+                assert!(told.iter().all(|line| line.len() <= WIDEST), "{told:?}");
+            }
+        }
     }
 }

@@ -1,7 +1,10 @@
 //! A sheet: a table of values with what they are of.
 
 use crate::board::Board;
+use crate::options::{Options, Wanted};
+use crate::record::Record;
 use crate::source::{Bounds, Source, Values};
+use crate::values::spelled;
 
 pub struct Row {
     pub label: String,
@@ -13,6 +16,7 @@ pub struct Row {
 }
 
 pub struct Sheet {
+    pub record: Record,
     pub kind: String,
     pub boundary: String,
     pub width: usize,
@@ -20,23 +24,27 @@ pub struct Sheet {
     pub title: String,
     pub source: String,
     pub manner: &'static str,
-    /// As they were written.
+    /// As every format spells them.
     pub betas: Vec<String>,
     pub columns: &'static [&'static str],
     /// How far the first column's values can be from the exact ones, by beta, where that is proved.
     pub bounds: Bounds,
     pub rows: Vec<Row>,
     pub bits: bool,
+    drawn: bool,
+    /// Whether the pairs are the standard ones, by their labels.
+    pub standard: bool,
 }
 
 impl Sheet {
-    pub fn new(board: &Board, source: &dyn Source, bounds: Bounds, values: Values, bits: bool) -> Sheet {
+    pub fn new(options: &Options, board: &Board, source: &dyn Source, bounds: Bounds, values: Values) -> Sheet {
         let row = |i: usize| {
             let pair = &board.pairs[i];
             let values = values.iter().map(|of_beta| of_beta[i].clone()).collect();
             Row { label: pair.label.clone(), u: pair.u, v: pair.v, distance: board.distances[i], values }
         };
         Sheet {
+            record: Record::new(options, board, source),
             kind: board.strip.kind.name(),
             boundary: board.strip.boundary(),
             width: board.strip.width,
@@ -44,12 +52,19 @@ impl Sheet {
             title: board.title(),
             source: source.title(),
             manner: if board.manner == copperhook::Manner::Block { "block" } else { "element" },
-            betas: board.betas.iter().map(|b| b.text.clone()).collect(),
+            betas: board.betas.iter().map(|&b| spelled(b)).collect(),
             columns: source.columns(),
             bounds,
             rows: (0..board.pairs.len()).map(row).collect(),
-            bits,
+            bits: options.bits,
+            drawn: matches!(options.wanted, Wanted::Sampled(_)),
+            standard: options.pairs.is_none(),
         }
+    }
+
+    /// Whether the second column is how far a mean of drawn configurations may be off.
+    pub fn drawn(&self) -> bool {
+        self.drawn && self.columns.len() > 1
     }
 }
 

@@ -1,7 +1,13 @@
 //! The sheet as aligned text.
 
 use crate::accuracy::{foot, value};
+use crate::record::lines;
 use crate::sheet::{bits, Sheet};
+
+/// What the standard pairs' labels mean.
+const LABELS: &str = "\
+pairs: -a across, -l along; adj neighbours, d2 two steps apart; bdry on the boundary, lmid halfway along it; sheet --help tells all
+";
 
 pub fn text(sheet: &Sheet) -> String {
     let table = table(sheet);
@@ -19,7 +25,16 @@ pub fn text(sheet: &Sheet) -> String {
         text += cells.collect::<Vec<_>>().join("  ").trim_end();
         text.push('\n');
     }
-    text + &foot(sheet)
+    text += &foot(sheet);
+    if sheet.standard {
+        text += LABELS;
+    }
+    text.push('\n');
+    for line in lines(&sheet.record, 120) {
+        text += &line;
+        text.push('\n');
+    }
+    text
 }
 
 /// Its head and a line for each pair, cell by cell.

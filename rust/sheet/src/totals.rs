@@ -1,6 +1,9 @@
 //! Mean squares of correlations, and their standard errors: over all configurations, or over drawn ones.
 
 use crate::board::{counted, Board};
+use crate::explained::refused;
+use crate::options::Drawing;
+use crate::record::{Entry, Field};
 use crate::source::{Bounds, Done, Source, Values};
 use crate::trouble::Trouble;
 use copperhook::{estimates, mean_error_bound, Refusal, Sampling};
@@ -11,9 +14,9 @@ use std::sync::Mutex;
 /// One configuration has a mean and no error.
 fn columns(count: usize) -> &'static [&'static str] {
     if count == 1 {
-        &["mean"]
+        &["mean_square"]
     } else {
-        &["mean", "error"]
+        &["mean_square", "std_error"]
     }
 }
 
@@ -53,11 +56,13 @@ impl Sums {
 }
 
 /// The bound of a call's means at these betas, for a total of so many chunks of `size` configurations.
-fn mean_bound(board: &Board, betas: &[f64], chunks: u64, size: u64) -> Result<Option<f64>, Refusal> {
-    let factors = board.graph().factors(betas)?.all;
-    let bound = board.graph().totals_error_bound(betas, &factors)?;
+fn mean_bound(board: &Board, betas: &[f64], factors: &[f64], chunks: u64, size: u64) -> Result<Option<f64>, Refusal> {
+    let bound = board.graph().totals_error_bound(betas, factors)?;
     Ok(bound.map(|bound| mean_error_bound(bound, chunks, size)))
 }
+
+/// The most free edges whose configurations the library counts through.
+pub const MOST_FREE: usize = 34;
 
 /// All configurations.
 pub struct Enumerated {
@@ -67,8 +72,9 @@ pub struct Enumerated {
 
 impl Enumerated {
     pub fn new(board: &Board) -> Result<Enumerated, Trouble> {
-        if board.free > 34 {
-            return Err(Trouble::Refused { option: "--enumerate".to_string(), refusal: Refusal::FreeEdges });
+        if board.free > MOST_FREE {
+            let told = format!("{} free edges; --enumerate takes at most {MOST_FREE}, use --sample", board.free);
+            return Err(refused(told, Refusal::FreeEdges));
         }
         Ok(Enumerated { free: board.free, count: 1 << board.free })
     }
@@ -82,6 +88,17 @@ impl Source for Enumerated {
         format!("{all} {count} of {free}: {}", told(self.count))
     }
 
+    fn record(&self) -> [Entry; 6] {
+        [
+            ("configurations", Field::text("all")),
+            ("signs", Field::Nothing),
+            ("seed", Field::Nothing),
+            ("chunks", Field::Nothing),
+            ("samples", Field::Nothing),
+            ("count", Field::number(self.count)),
+        ]
+    }
+
     fn columns(&self) -> &'static [&'static str] {
         columns(self.count)
     }
@@ -90,25 +107,31 @@ impl Source for Enumerated {
         self.count as f64
     }
 
+    /// The backward vectors past the edges that change are kept: six strips of 16 to 21 free edges took 0.85 to 0.95 of the time of as many samples.
+    fn least_share(&self) -> f64 {
+        0.85
+    }
+
     fn bounds(&self, board: &Board) -> Result<Bounds, Trouble> {
         let size = self.count.min(1024);
-        let bound = |beta: &f64| mean_bound(board, &[*beta], (self.count / size) as u64, size as u64);
-        board.beta_values().iter().map(bound).collect::<Result<_, _>>().map_err(|refusal| board.refused(refusal))
+        let bound = |(i, beta): (usize, &f64)| {
+            let bound = mean_bound(board, &[*beta], board.factors_at(i), (self.count / size) as u64, size as u64);
+            bound.map_err(|refusal| board.refused_at(i, refusal))
+        };
+        board.betas.iter().enumerate().map(bound).collect()
     }
 
     /// Beta after beta: the sums of one do not depend on the others.
     fn values(&self, board: &Board, work: &mut [f64], done: Done) -> Result<Values, Trouble> {
-        let refused = |refusal| board.refused(refusal);
-        let (betas, pairs) = (board.beta_values(), board.pairs.len());
-        board.graph().factors(&betas).map_err(refused)?;
+        let pairs = board.pairs.len();
         let mut values = Vec::new();
-        for (i, beta) in betas.iter().enumerate() {
-            let factors = board.graph().factors(&[*beta]).map_err(refused)?.all;
+        for (i, beta) in board.betas.iter().enumerate() {
+            let refused = |refusal| board.refused_at(i, refusal);
             let mut sums = Sums::zero(pairs);
             let (squares, fourths) = (&mut sums.squares, &mut sums.fourths);
-            let count = board.job().exhaustive(&[*beta], &factors, board.manner, squares, fourths, work).map_err(refused)?;
+            let count = board.job().exhaustive(&[*beta], board.factors_at(i), board.manner, squares, fourths, work).map_err(refused)?;
             values.extend(sums.estimates(count, pairs).map_err(refused)?);
-            done(i as u64 + 1, betas.len() as u64, "betas");
+            done(i as u64 + 1, board.betas.len() as u64, "betas");
         }
         Ok(values)
     }
@@ -123,18 +146,16 @@ pub struct Sampled {
 
 impl Sampled {
     /// What the library refuses of all chunks at once is refused here, as it is asked for one at a time.
-    pub fn new(by: Sampling, threads: usize) -> Result<Sampled, Trouble> {
-        let chunks = by.to.saturating_sub(by.from);
+    pub fn new(by: &Drawing) -> Result<Sampled, Trouble> {
+        let chunks = by.to - by.from;
         let count = u128::from(chunks) * by.samples as u128;
-        let refused = |refusal| {
-            let option = format!("--sample {} --chunks {}..{}", by.samples, by.from, by.to);
-            Err(Trouble::Refused { option, refusal })
-        };
-        match count {
-            0 => refused(Refusal::Sums),
-            c if c > 1 << 32 => refused(Refusal::Samples),
-            c => Ok(Sampled { by, threads: threads.min(chunks.try_into().unwrap_or(usize::MAX)), count: c as usize }),
+        if count > 1 << 32 {
+            let told = format!("{chunks} chunks of {} samples = {count} configurations; at most 4,294,967,296 (2^32)", by.samples);
+            return Err(refused(told, Refusal::Samples));
         }
+        let threads = by.threads.min(chunks.try_into().unwrap_or(usize::MAX));
+        let by = Sampling { seed: by.seed, from: by.from, to: by.to, samples: by.samples };
+        Ok(Sampled { by, threads, count: count as usize })
     }
 
     fn chunks(&self) -> u64 {
@@ -147,14 +168,14 @@ struct Joined {
     total: Sums,
     next: u64,
     waiting: BTreeMap<u64, Sums>,
-    refused: Option<Refusal>,
+    refused: Option<Trouble>,
 }
 
 impl Joined {
-    fn take(&mut self, chunk: u64, sums: Result<Sums, Refusal>) {
+    fn take(&mut self, chunk: u64, sums: Result<Sums, Trouble>) {
         match sums {
             Ok(sums) => drop(self.waiting.insert(chunk, sums)),
-            Err(refusal) => self.refused = Some(refusal),
+            Err(trouble) => self.refused = Some(trouble),
         }
         while let Some(sums) = self.waiting.remove(&self.next) {
             self.total.add(&sums);
@@ -163,11 +184,22 @@ impl Joined {
     }
 }
 
-/// One chunk's sums.
-fn chunk_sums(board: &Board, betas: &[f64], factors: &[f64], by: &Sampling, work: &mut [f64]) -> Result<Sums, Refusal> {
-    let mut sums = Sums::zero(betas.len() * board.pairs.len());
-    board.job().sample(betas, factors, board.manner, by, &mut sums.squares, &mut sums.fourths, work)?;
-    Ok(sums)
+/// One chunk's sums. Where they are refused, each beta is asked for by itself, to name the one that it comes from.
+fn chunk_sums(board: &Board, by: &Sampling, work: &mut [f64]) -> Result<Sums, Trouble> {
+    let mut call = |betas: &[f64], factors: &[f64]| {
+        let mut sums = Sums::zero(betas.len() * board.pairs.len());
+        let drawn = board.job().sample(betas, factors, board.manner, by, &mut sums.squares, &mut sums.fourths, work);
+        drawn.map(|_| sums)
+    };
+    let all = call(&board.betas, &board.factors.all);
+    all.map_err(|refusal| {
+        for (i, beta) in board.betas.iter().enumerate() {
+            if let Err(refusal) = call(&[*beta], board.factors_at(i)) {
+                return board.refused_at(i, refusal);
+            }
+        }
+        board.refused(refusal)
+    })
 }
 
 impl Source for Sampled {
@@ -176,6 +208,17 @@ impl Source for Sampled {
         let (count, samples) = (counted(self.count, "configuration", "configurations"), counted(by.samples, "sample", "samples"));
         let chunks = if self.chunks() == 1 { format!("chunk {}", by.from) } else { format!("chunks {} to {}", by.from, by.to - 1) };
         format!("{count} drawn with seed {}, {chunks} of {samples}: {}", by.seed, told(self.count))
+    }
+
+    fn record(&self) -> [Entry; 6] {
+        [
+            ("configurations", Field::text("drawn")),
+            ("signs", Field::Nothing),
+            ("seed", Field::number(self.by.seed)),
+            ("chunks", Field::text(format!("{}..{}", self.by.from, self.by.to))),
+            ("samples", Field::number(self.by.samples)),
+            ("count", Field::number(self.count)),
+        ]
     }
 
     fn columns(&self) -> &'static [&'static str] {
@@ -192,18 +235,19 @@ impl Source for Sampled {
 
     /// One call has all betas, and a bound for all or for none.
     fn bounds(&self, board: &Board) -> Result<Bounds, Trouble> {
-        let betas = board.beta_values();
-        let bound = mean_bound(board, &betas, self.chunks(), self.by.samples as u64).map_err(|refusal| board.refused(refusal))?;
-        Ok(vec![bound; betas.len()])
+        let bound = mean_bound(board, &board.betas, &board.factors.all, self.chunks(), self.by.samples as u64);
+        let named = |refusal| {
+            let bad = |i: &usize| board.factors_at(*i).iter().any(|f| !f.is_finite() || *f == 0.0);
+            (0..board.betas.len()).find(bad).map_or(board.refused(refusal), |i| board.refused_at(i, refusal))
+        };
+        Ok(vec![bound.map_err(named)?; board.betas.len()])
     }
 
     /// Threads take chunk after chunk; the sums are added in the order of the chunks, as one call of all would add them.
     fn values(&self, board: &Board, work: &mut [f64], done: Done) -> Result<Values, Trouble> {
-        let refused = |refusal| board.refused(refusal);
-        let (betas, pairs) = (board.beta_values(), board.pairs.len());
-        let factors = board.graph().factors(&betas).map_err(refused)?.all;
+        let pairs = board.pairs.len();
         let next = AtomicU64::new(0);
-        let total = Sums::zero(betas.len() * pairs);
+        let total = Sums::zero(board.betas.len() * pairs);
         let joined = Mutex::new(Joined { total, next: self.by.from, waiting: BTreeMap::new(), refused: None });
         let sweep = |work: &mut [f64]| loop {
             let i = next.fetch_add(1, Ordering::Relaxed);
@@ -211,7 +255,7 @@ impl Source for Sampled {
                 return;
             }
             let chunk = self.by.from + i;
-            let sums = chunk_sums(board, &betas, &factors, &Sampling { from: chunk, to: chunk + 1, ..self.by }, work);
+            let sums = chunk_sums(board, &Sampling { from: chunk, to: chunk + 1, ..self.by }, work);
             let mut joined = joined.lock().unwrap_or_else(|poisoned| poisoned.into_inner());
             joined.take(chunk, sums);
             if joined.refused.is_some() {
@@ -226,8 +270,8 @@ impl Source for Sampled {
         });
         let joined = joined.into_inner().unwrap_or_else(|poisoned| poisoned.into_inner());
         match joined.refused {
-            Some(refusal) => Err(refused(refusal)),
-            None => joined.total.estimates(self.count, pairs).map_err(refused),
+            Some(trouble) => Err(trouble),
+            None => joined.total.estimates(self.count, pairs).map_err(|refusal| board.refused(refusal)),
         }
     }
 }
@@ -248,12 +292,10 @@ mod tests {
     }
 
     #[test]
-    fn too_many_and_none_are_refused() {
-        let sampled = |from, to, samples| Sampled::new(Sampling { seed: 1, from, to, samples }, 2).map(|s| s.count);
-        assert_eq!(sampled(0, 1 << 32, 1), Ok(1 << 32));
-        let refused = |refusal, option: &str| Err(Trouble::Refused { option: option.to_string(), refusal });
-        assert_eq!(sampled(0, (1 << 32) + 1, 1), refused(Refusal::Samples, "--sample 1 --chunks 0..4294967297"));
-        assert_eq!(sampled(3, 3, 5), refused(Refusal::Sums, "--sample 5 --chunks 3..3"));
-        assert_eq!(sampled(0, u64::MAX, 0), refused(Refusal::Sums, "--sample 0 --chunks 0..18446744073709551615"));
+    fn too_many_are_refused() {
+        let sampled = |to, samples| Sampled::new(&Drawing { seed: 1, from: 0, to, samples, threads: 2 }).map(|s| s.count);
+        assert_eq!(sampled(1 << 32, 1), Ok(1 << 32));
+        let told = "65536 chunks of 65537 samples = 4295032832 configurations; at most 4,294,967,296 (2^32) (refusal 11)";
+        assert_eq!(sampled(65536, 65537).unwrap_err().to_string(), told);
     }
 }

@@ -1,30 +1,11 @@
 //! The program as it is run: what it prints, writes and refuses.
 
+mod common;
+use common::{body, folder, printed, table, SQUARE};
 use oracle::glass::{correlations, exhaustive, sample, Acc, Plan};
 use oracle::lattice::{Graph, Kind, Strip};
 use oracle::rng::Rng;
-use std::io::Read;
-use std::path::PathBuf;
-use std::process::{Command, Output, Stdio};
-
-fn sheet(line: &str) -> Output {
-    Command::new(env!("CARGO_BIN_EXE_sheet")).args(line.split_whitespace()).output().unwrap()
-}
-
-fn printed(line: &str) -> String {
-    let output = sheet(line);
-    assert!(output.status.success() && output.stderr.is_empty(), "{line}: {}", String::from_utf8_lossy(&output.stderr));
-    String::from_utf8(output.stdout).unwrap()
-}
-
-fn folder(name: &str) -> PathBuf {
-    let folder = PathBuf::from(env!("CARGO_TARGET_TMPDIR")).join(name);
-    let _ = std::fs::remove_dir_all(&folder);
-    std::fs::create_dir_all(&folder).unwrap();
-    folder
-}
-
-const SQUARE: &str = "--kind square --width 2 --length 2 --beta 0.6931471805599453";
+use std::process::Command;
 
 #[test]
 fn the_settled_square() {
@@ -39,10 +20,11 @@ short-end-to-end  0  1         1           0.441176470588
 end-to-end-l      0  2         1           0.441176470588
 opp-corners       0  3         2           0.000000000000
 
-each correlation is within 6.9e-15 of the exact value for these factors, proved
+each correlation is within 6.9e-15 of the exact value for these factors, proved; no digit below that is printed
+pairs: -a across, -l along; adj neighbours, d2 two steps apart; bdry on the boundary, lmid halfway along it; sheet --help tells all
 ";
-    assert_eq!(printed(&format!("{SQUARE} --signs +++-")), expected);
-    let first = |line: &str| printed(&format!("{SQUARE} --format csv --bits {line}")).lines().nth(1).unwrap().to_string();
+    assert_eq!(body(&printed(&format!("{SQUARE} --signs +++-"))), expected);
+    let first = |line: &str| table(&printed(&format!("{SQUARE} --format csv --bits {line}"))).lines().nth(1).unwrap().to_string();
     let (c, bound) = (255.0f64 / 353.0, 62.0 / (1u64 << 53) as f64);
     let row = format!("square,free,2,2,0.6931471805599453,corner-adj-a,0,1,1,{c:?},0x{:016x},{bound:?}", c.to_bits());
     assert_eq!(first("--signs plus"), row);
@@ -70,7 +52,8 @@ fn original(strip: &Strip, graph: &Graph, beta: f64, seed: u64) -> Vec<(String, 
 
 /// Labels, and the bits of a column of a table of comma-separated values.
 fn labels_and_bits(csv: &str, column: &str) -> Vec<(String, u64)> {
-    let place = csv.lines().next().unwrap().split(',').position(|name| name == format!("{column} bits")).unwrap();
+    let csv = table(csv);
+    let place = csv.lines().next().unwrap().split(',').position(|name| name == format!("{column}_bits")).unwrap();
     let cell = |line: &str, i: usize| line.split(',').nth(i).unwrap().to_string();
     csv.lines().skip(1).map(|line| (cell(line, 5), u64::from_str_radix(&cell(line, place)[2..], 16).unwrap())).collect()
 }
@@ -104,22 +87,24 @@ fn the_settled_squares_totals() {
 square strip, free, 2 by 2: 4 vertices, 4 kept edges, window 2
 all 2 configurations of 1 free edge: mean squares of the correlations, and their standard errors; manner block
 
-pair              u  v  distance  mean at 0.6931471805599453  error at 0.6931471805599453
-corner-adj-a      0  1         1              0.358234484804               0.163597806603
-corner-adj-l      0  2         1              0.358234484804               0.163597806603
-short-end-to-end  0  1         1              0.358234484804               0.163597806603
-end-to-end-l      0  2         1              0.358234484804               0.163597806603
-opp-corners       0  3         2              0.203135407555               0.203135407555
+pair              u  v  distance  mean_square at 0.6931471805599453  std_error at 0.6931471805599453
+corner-adj-a      0  1         1                     0.358234484804                   0.163597806603
+corner-adj-l      0  2         1                     0.358234484804                   0.163597806603
+short-end-to-end  0  1         1                     0.358234484804                   0.163597806603
+end-to-end-l      0  2         1                     0.358234484804                   0.163597806603
+opp-corners       0  3         2                     0.203135407555                   0.203135407555
 
-each mean is within 1.5e-14 of the exact value for these factors, proved; of the errors no bound is proved
+each mean square is within 1.5e-14 of the exact value for these factors, proved; no digit below that is printed
+no bound is proved of the standard errors; no digit below 1e-15 is printed there
+pairs: -a across, -l along; adj neighbours, d2 two steps apart; bdry on the boundary, lmid halfway along it; sheet --help tells all
 ";
-    assert_eq!(printed(SQUARE), expected);
-    assert_eq!(printed(&format!("{SQUARE} --enumerate")), expected);
+    assert_eq!(body(&printed(SQUARE)), expected);
+    assert_eq!(printed(&format!("{SQUARE} --enumerate")), printed(SQUARE));
     let tree = printed("--kind square --width 1 --length 3 --beta 0.6931471805599453 --format csv --pairs 0-1");
     // 2 (2 (0 + 5) 3 + 2^2 + 5) + 2 roundings of the square, one configuration in one chunk, and one unit more
     let bound = 83.0 / (1u64 << 53) as f64;
-    let head = "kind,boundary,width,length,beta,pair,u,v,distance,mean,mean bound";
-    assert_eq!(tree, format!("{head}\nsquare,free,1,3,0.6931471805599453,0-1,0,1,1,0.36,{bound:?}\n"));
+    let head = "kind,boundary,width,length,beta,pair,u,v,distance,mean_square,mean_square_bound";
+    assert_eq!(table(&tree), format!("{head}\nsquare,free,1,3,0.6931471805599453,0-1,0,1,1,0.36,{bound:?}\n"));
 }
 
 /// Labels with the bits of the means and of the errors, beta after beta.
@@ -147,7 +132,7 @@ fn totals_are_the_originals() {
         let line = format!("--kind {name} --width {w} --length {l} {cylinder} --beta 0.3,0.8 --format csv --bits");
         let told = |more: &str| {
             let csv = printed(&format!("{line} {more}"));
-            ["mean", "error"].map(|column| labels_and_bits(&csv, column))
+            ["mean_square", "std_error"].map(|column| labels_and_bits(&csv, column))
         };
         assert_eq!(told(""), estimated(&strip, &betas, &exhaustive(&graph, &plan, &betas, 1)), "{line}");
         let total = estimated(&strip, &betas, &sample(&graph, &plan, &betas, 8, 3, 20, 7, 1));
@@ -157,34 +142,62 @@ fn totals_are_the_originals() {
     }
 }
 
-/// What stands under the table.
+/// What stands between the table and the record.
 fn foot(line: &str) -> String {
-    printed(line).rsplit_once("\n\n").unwrap().1.to_string()
+    body(&printed(line)).rsplit_once("\n\n").unwrap().1.to_string()
 }
 
 #[test]
 fn the_foot_tells_what_is_proved() {
     let square = "--kind square --width 2 --length 2 --pairs 0-1";
-    let within = "is within 6.9e-15 of the exact value for these factors, proved";
+    let of = |bound: &str| format!("is within {bound} of the exact value for these factors, proved; no digit below that is printed\n");
+    let none = |what: &str| format!("no bound is proved {what}; no digit below 1e-15 is printed there\n");
     // factors up to 2^40 have a bound: couplings up to 27.7
-    let none = "no bound is proved for couplings this strong\n";
-    assert_eq!(foot(&format!("{square} --signs plus --beta 0.5,27.7")), format!("each correlation {within}\n"));
+    let within = of("6.9e-15");
+    assert_eq!(foot(&format!("{square} --signs plus --beta 0.5,27.7")), format!("each correlation {within}"));
     for which in ["--signs plus", "--signs ---+", "--enumerate", "--sample 3", "--sample 1"] {
-        assert_eq!(foot(&format!("{square} {which} --beta 27.8")), none);
-        assert_eq!(foot(&format!("{square} {which} --beta -27.8,28")), none);
+        assert_eq!(foot(&format!("{square} {which} --beta 27.8")), none("for couplings this strong"));
+        assert_eq!(foot(&format!("{square} {which} --beta -27.8,28")), none("for couplings this strong"));
     }
-    let strong = "no bound is proved for couplings as strong as at beta 28, 30\n";
-    assert_eq!(foot(&format!("{square} --signs plus --beta 28,1,30,2")), format!("each correlation at beta 1, 2 {within}\n{strong}"));
+    let strong = "for couplings as strong as at beta 28, 30";
+    assert_eq!(foot(&format!("{square} --signs plus --beta 28,1,30,2")), format!("each correlation at beta 1, 2 {within}{}", none(strong)));
     assert_eq!(
         foot(&format!("{square} --enumerate --beta 28,1,30")),
-        format!("each mean at beta 1 is within 1.5e-14 of the exact value for these factors, proved; of the errors no bound is proved\n{strong}")
+        format!("each mean square at beta 1 {}{}", of("1.5e-14"), none(&format!("{strong}, and of the standard errors")))
     );
     // drawn configurations of all betas are one call
-    assert_eq!(foot(&format!("{square} --sample 3 --beta 28,1")), none);
-    assert_eq!(
-        foot(&format!("{square} --sample 1 --beta 1")),
-        "each mean is within 1.5e-14 of the exact value for these factors, proved\n"
-    );
+    assert_eq!(foot(&format!("{square} --sample 3 --beta 28,1")), none("for couplings this strong"));
+    assert_eq!(foot(&format!("{square} --sample 1 --beta 1")), format!("each mean square {}", of("1.5e-14")));
+}
+
+/// The two pairs are equal by symmetry, and truly 1.00256858988e-14: none of it is above the bound, and none of it is printed.
+#[test]
+fn digits_that_are_noise_are_not_printed() {
+    let line = "--kind square --width 8 --length 16 --beta 0.01 --signs plus --pairs 0-7,120-127";
+    let text = printed(line);
+    for pair in ["0-7", "120-127"] {
+        let row = text.lines().find(|row| row.starts_with(&format!("{pair} "))).unwrap();
+        assert!(row.ends_with("  0.000000000000"), "{text}");
+    }
+    assert!(text
+        .contains("\neach correlation is within 2.3e-13 of the exact value for these factors, proved; no digit below that is printed\n"));
+    let csv = table(&printed(&format!("{line} --format csv")));
+    let values: Vec<f64> = csv.lines().skip(1).map(|row| row.split(',').nth(9).unwrap().parse().unwrap()).collect();
+    assert!(values.iter().all(|x| *x != 0.0 && (x - 1.00256858988e-14).abs() < 2.3e-13), "{csv}");
+}
+
+/// Standard errors have no bound.
+#[test]
+fn no_digit_below_an_absolute_one_is_printed_without_a_bound() {
+    let text = printed("--kind square --width 3 --length 5 --beta 0.02");
+    let small = |cell: &&str| cell.contains("e-");
+    let cells: Vec<&str> = text.lines().skip(4).take_while(|row| !row.is_empty()).filter_map(|row| row.split_whitespace().last()).collect();
+    assert!(cells.iter().any(small), "{text}");
+    for cell in cells.iter().filter(|cell| small(cell)) {
+        let (digits, exponent) = cell.split_once("e-").unwrap();
+        let after = digits.split_once('.').map_or(0, |parts| parts.1.len());
+        assert_eq!(after + exponent.parse::<usize>().unwrap(), 15, "{text}");
+    }
 }
 
 #[test]
@@ -194,7 +207,7 @@ fn no_digit_is_printed_past_the_bound() {
         let line = format!("--kind square --width {width} --length {length} --beta 0.4 {which}");
         let (text, csv) = (printed(&line), printed(&format!("{line} --format csv")));
         assert!(text.contains(&format!(" is within {bound}")), "{text}");
-        for (shown, all) in text.lines().skip(4).zip(csv.lines().skip(1)) {
+        for (shown, all) in text.lines().skip(4).zip(table(&csv).lines().skip(1)) {
             let (shown, all) = (shown.split_whitespace().nth(4).unwrap(), all.split(',').nth(9).unwrap());
             let (digits, exponent) = shown.split_once("e-").unwrap_or((shown, "0"));
             let after = digits.split_once('.').map_or(0, |parts| parts.1.len());
@@ -209,18 +222,19 @@ fn data_carries_the_bound() {
     let line = "--kind square --width 2 --length 2 --pairs 0-1 --signs plus --beta 1,28";
     let bound = 62.0 / (1u64 << 53) as f64;
     let csv = printed(&format!("{line} --format csv"));
+    let csv = table(&csv);
     let last: Vec<&str> = csv.lines().map(|line| line.rsplit_once(',').unwrap().1).collect();
-    assert_eq!(last, ["correlation bound", &format!("{bound:?}"), ""]);
+    assert_eq!(last, ["correlation_bound", &format!("{bound:?}"), ""]);
     let json = printed(&format!("{line} --format json"));
-    assert!(json.contains(&format!("\n  \"correlation bound\": [{bound:?}, null],\n")), "{json}");
-    assert!(printed(&format!("{SQUARE} --format json")).contains("\n  \"mean bound\": ["));
+    assert!(json.contains(&format!("\n  \"correlation_bound\": [{bound:?}, null],\n")), "{json}");
+    assert!(printed(&format!("{SQUARE} --format json")).contains("\n  \"mean_square_bound\": ["));
 }
 
 #[test]
 fn the_head_tells_which_configurations() {
     let second = |line: &str| printed(&format!("--kind tri --width 4 --length 9 --beta 0.4 {line}")).lines().nth(1).unwrap().to_string();
     let squares = "mean squares of the correlations, and their standard errors; manner block";
-    assert_eq!(second(""), "all signs plus; manner block");
+    assert_eq!(second("--signs plus"), "all signs plus; manner block");
     assert_eq!(second("--seed 5"), "signs drawn with seed 5; manner block");
     assert_eq!(second("--sample 3"), format!("3 configurations drawn with seed 1, chunk 0 of 3 samples: {squares}"));
     assert_eq!(second("--sample 3 --chunks 2..4"), format!("6 configurations drawn with seed 1, chunks 2 to 3 of 3 samples: {squares}"));
@@ -236,98 +250,23 @@ fn other_formats() {
         "{json}"
     );
     assert_eq!(json.matches('{').count(), json.matches('}').count());
-    let svg = printed("--kind tri --width 4 --length 8 --beta 0.2,0.5,1 --seed 3 --format svg");
-    assert!(svg.starts_with("<svg ") && svg.ends_with("</svg>\n"));
-    assert_eq!(svg.matches("<polyline").count(), 3);
-    assert_eq!(svg.matches("<g ").count(), svg.matches("</g>").count());
     let apart = printed("--kind square --width 1 --length 3 --beta 1 --dilute 0,1,1,5 --pairs 0-2,1-0");
     assert!(apart.contains("\n0-2   0  2         -  0.000000000000\n"), "{apart}");
     assert_eq!(printed("--help"), printed("-h --kind"));
 }
 
+/// Those of `--help` make sheets.
 #[test]
-fn troubles_name_the_option_and_the_number() {
-    for (line, told) in [
-        ("--kind square --width 4 --length 6", "sheet: --beta: it is missing; sheet --help tells the options\n"),
-        ("--kind cube", "sheet: --kind cube: there is no such kind: square, tri or honey\n"),
-        (
-            "--kind square --width 40 --length 40 --beta 1",
-            "sheet: --width 40 --length 40: a strip side is 0, or the sides multiply above 1,024 (refusal 15)\n",
-        ),
-        ("--kind square --width 25 --length 3 --beta 1", "sheet: --width 25 --length 3: the window is above 24 (refusal 6)\n"),
-        (
-            "--kind hex --width 3 --length 4 --cylinder --beta 1",
-            "sheet: --cylinder --width 3: a honeycomb cylinder has odd width (refusal 16)\n",
-        ),
-        (
-            "--kind sq --width 2 --length 2 --beta 1 --pairs 0-1,2-4",
-            "sheet: --pairs 0-1,2-4: a pair has equal ends or an end outside the graph (refusal 8)\n",
-        ),
-        (
-            "--kind sq --width 2 --length 2 --beta 1,nan",
-            "sheet: --beta 1,nan: a magnitude or beta isn't finite, or its size is above 1,024 (refusal 4)\n",
-        ),
-        (
-            "--kind sq --width 2 --length 2 --beta 800",
-            "sheet: --beta 800: the factor list has another length, or an entry isn't finite and above zero (refusal 10)\n",
-        ),
-        (
-            "--kind sq --width 2 --length 2 --beta 700",
-            "sheet: --beta 700: some pair's partition sum Z isn't finite and above zero (refusal 14)\n",
-        ),
-        (
-            "--kind sq --width 2 --length 2 --beta 1 --dilute 0.5,0,inf,3",
-            "sheet: --dilute 0.5,0,inf,3: keep isn't finite, or a magnitude bound isn't finite or its size is above 1,024 (refusal 17)\n",
-        ),
-        (
-            "--kind sq --width 2 --length 36 --beta 1 --enumerate",
-            "sheet: --enumerate: free edges exceed 34 for enumerated totals, or 24 for stored correlations (refusal 9)\n",
-        ),
-        (
-            "--kind sq --width 2 --length 2 --beta 1 --sample 65537 --chunks 65536",
-            "sheet: --sample 65537 --chunks 0..65536: chunks times samples per chunk exceed 2^32 (refusal 11)\n",
-        ),
-        (
-            "--kind sq --width 2 --length 2 --beta 700 --sample 4 --chunks 3 --threads 2",
-            "sheet: --beta 700: some pair's partition sum Z isn't finite and above zero (refusal 14)\n",
-        ),
-        ("--kind sq --width 2 --length 2 --beta 1 --threads 2", "sheet: --threads: it is for drawn configurations: give --sample too\n"),
-        ("--kind sq --width 2 --length 2 --beta 1 --signs +-", "sheet: --signs: it has 2 signs, and the strip 4 kept edges\n"),
-    ] {
-        let output = sheet(line);
-        assert_eq!(String::from_utf8_lossy(&output.stderr), told);
-        assert!(output.status.code() == Some(2) && output.stdout.is_empty(), "{line}");
+fn the_examples_work() {
+    let (help, folder) = (printed("--help"), folder("examples"));
+    let examples: Vec<&str> =
+        help.split_once("\nexamples\n").unwrap().1.lines().take_while(|line| line.starts_with("    sheet ")).collect();
+    assert!(examples.len() > 5);
+    std::fs::write(folder.join("board.csv"), printed(&format!("{SQUARE} --format csv"))).unwrap();
+    for line in examples {
+        let words = line.split_whitespace().skip(1);
+        let output = Command::new(env!("CARGO_BIN_EXE_sheet")).args(words).current_dir(&folder).output().unwrap();
+        assert!(output.status.success(), "{line}: {}", String::from_utf8_lossy(&output.stderr));
     }
-}
-
-#[test]
-fn a_file_is_there_whole_or_not_at_all() {
-    let folder = folder("output");
-    let file = folder.join("square.txt");
-    for _ in 0..2 {
-        assert_eq!(printed(&format!("{SQUARE} --output {}", file.display())), "");
-        assert_eq!(std::fs::read_to_string(&file).unwrap(), printed(SQUARE));
-    }
-    let refused = sheet(&format!("{SQUARE} --signs + --output {}", folder.join("none").display()));
-    assert_eq!(refused.status.code(), Some(2));
-    assert_eq!(std::fs::read_dir(&folder).unwrap().count(), 1);
-    let nowhere = sheet(&format!("{SQUARE} --output {}", folder.join("none/none").display()));
-    assert_eq!(nowhere.status.code(), Some(1));
-    assert!(String::from_utf8_lossy(&nowhere.stderr).starts_with("sheet: --output "));
-    assert_eq!(printed(&format!("{SQUARE} --output /dev/null")), "");
-    assert!(!std::fs::metadata("/dev/null").unwrap().is_file());
-}
-
-#[test]
-fn a_closed_pipe_ends_it_quietly() {
-    let mut child = Command::new(env!("CARGO_BIN_EXE_sheet"))
-        .args(SQUARE.split_whitespace())
-        .stdout(Stdio::piped())
-        .stderr(Stdio::piped())
-        .spawn()
-        .unwrap();
-    drop(child.stdout.take());
-    let mut told = String::new();
-    child.stderr.take().unwrap().read_to_string(&mut told).unwrap();
-    assert!(child.wait().unwrap().success() && told.is_empty(), "{told}");
+    assert!(folder.join("plot.svg").is_file());
 }

@@ -1,0 +1,95 @@
+//! What a refusal means for the options that were given: the value, the limit, and what to do.
+
+use crate::options::Options;
+use crate::trouble::Trouble;
+use crate::values::spelled;
+use copperhook::{limits, Refusal, Strip};
+
+pub fn refused(told: String, refusal: Refusal) -> Trouble {
+    Trouble::Refused { told, number: refusal.number() }
+}
+
+/// Of the strip, its dilution, its window or its pairs.
+pub fn of_strip(options: &Options, refusal: Refusal) -> Trouble {
+    let told = match refusal {
+        Refusal::StripSides => {
+            let (w, l) = (options.width, options.length);
+            format!("{w} x {l} = {} vertices; at most 1,024", w as u128 * l as u128)
+        }
+        Refusal::OddCylinder => format!("a honeycomb cylinder needs an even width; {} is odd", options.width),
+        Refusal::Dilution => dilution(options),
+        Refusal::PairEnds => pair_ends(options),
+        Refusal::ListLengths => format!("{} pairs; at most {}", options.pairs.as_ref().map_or(0, Vec::len), limits::PAIRS),
+        other => other.sentence().to_string(),
+    };
+    refused(told, refusal)
+}
+
+/// Where it is known how the window comes from the width, that is told.
+pub fn window(strip: &Strip, window: usize) -> String {
+    let from = match window.checked_sub(strip.width) {
+        Some(0) => " (the width)".to_string(),
+        Some(more) if more <= 2 => format!(" (width + {more})"),
+        _ => String::new(),
+    };
+    format!("this strip needs a window of {window}{from}; at most {}", limits::WINDOW)
+}
+
+fn dilution(options: &Options) -> String {
+    match options.dilution {
+        Some(by) if !by.keep.is_finite() => format!("--dilute: keep is {}; it must be finite", by.keep),
+        Some(by) => format!("--dilute: magnitudes {} to {}; both must be finite and of size 1,024 at most", by.low, by.high),
+        None => Refusal::Dilution.sentence().to_string(),
+    }
+}
+
+/// The first pair that cannot be.
+fn pair_ends(options: &Options) -> String {
+    let n = options.width * options.length;
+    let bad = options.pairs.iter().flatten().find(|(u, v)| u == v || *u.max(v) >= n);
+    match bad {
+        Some((u, v)) if u == v => format!("pair {u}-{v}: its ends must differ"),
+        Some((u, v)) => format!("pair {u}-{v}: vertices are 0 to {}", n - 1),
+        None => Refusal::PairEnds.sentence().to_string(),
+    }
+}
+
+/// Of the list of betas.
+pub fn of_betas(betas: &[f64], refusal: Refusal) -> Trouble {
+    let strong = betas.iter().find(|b| !b.is_finite() || b.abs() > 1024.0);
+    let told = match (refusal, strong) {
+        (Refusal::ListLengths, _) => format!("{} betas; at most {}", betas.len(), limits::BETAS),
+        (Refusal::Magnitude, Some(beta)) => format!("beta {}: it must be finite and of size 1,024 at most", spelled(*beta)),
+        (other, _) => other.sentence().to_string(),
+    };
+    refused(told, refusal)
+}
+
+/// Of a call at one beta, whose factors are the exponentials of these.
+pub fn of_beta(beta: f64, couplings: impl Iterator<Item = f64>, refusal: Refusal) -> Trouble {
+    let bad = couplings.map(|x| (x, x.exp())).find(|(_, factor)| !factor.is_finite() || *factor == 0.0);
+    let told = match (refusal, bad) {
+        (Refusal::PartitionSum, _) => "the weights overflow, or vanish, as doubles; use a smaller one".to_string(),
+        (Refusal::Factors, Some((x, factor))) => {
+            let how = if factor == 0.0 { "vanishes" } else { "overflows" };
+            format!("exp({}) {how}; use a smaller one", spelled(x))
+        }
+        (other, _) => other.sentence().to_string(),
+    };
+    refused(format!("beta {}: {told}", spelled(beta)), refusal)
+}
+
+/// What the library takes, and hardly anyone means.
+pub fn warnings(options: &Options) -> Vec<String> {
+    let mut told = Vec::new();
+    if let Some(by) = options.dilution {
+        if !(0.0..=1.0).contains(&by.keep) {
+            let all = if by.keep > 1.0 { "every edge is kept" } else { "no edge is kept" };
+            told.push(format!("--dilute: keep is {}, not from 0 to 1; {all}", spelled(by.keep)));
+        }
+        if by.low > by.high {
+            told.push(format!("--dilute: the lower bound {} is above the upper, {}", spelled(by.low), spelled(by.high)));
+        }
+    }
+    told
+}

@@ -1,0 +1,66 @@
+//! What `--help` tells.
+
+pub const HELP: &str = "\
+The sheet of a strip: how strongly pairs of its spins hold together, as exact pair correlations of its Ising strip.
+
+usage: sheet [make] --kind K --width N --length N --beta B,.. [options]
+       sheet verify FILE [--threads N]
+       sheet --help | --version
+
+make, which an option as the first word means, works a sheet out. verify works one in csv or json out again, from the
+record that it carries, compares it cell by cell (with --bits bit for bit, else digit by digit) and tells what differs.
+
+the strip
+    --kind K                 square, tri or honey
+    --width N --length N     vertices across and along; up to 1,024 in all. The window, the width or
+                             for a triangular cylinder one more, goes up to 24
+    --cylinder               periodic across; without it free
+    --dilute KEEP,LO,HI,SEED each edge is kept with probability KEEP, its magnitude drawn from LO to HI
+what is asked of it
+    --beta B,..              inverse temperatures, up to 64
+    --pairs U-V,..           these pairs of vertices, up to 256; without it the standard pairs, see below.
+                             Vertex (x, y), x along and y across, is x times the width + y
+    --manner M               block (the default) or element: how often a sweep is rescaled; the last bits depend on it
+of which configurations: one of these; without any, all, where at most 20 edges are free
+    --signs S                one: the sign of each kept edge in order, as +-++, or plus for all
+    --seed N                 one: the signs drawn with this seed
+    --enumerate              all, up to 34 free edges: the mean square of each correlation, and its standard error
+    --sample N               drawn ones, N in each chunk: mean square and error again
+        --chunks C           that many chunks, or those of A..B, from A up to, and without, B; 1 by default
+        --seed N             the seed of their streams; 1 by default
+        --threads N          chunks at a time; the bits do not depend on it
+how it is told
+    --format F               text (the default), csv, json, or svg: a plot against distance
+        --linear             its values on a linear axis; without it on a logarithmic one where they span decades
+    --bits                   the bits of every value too
+    --output FILE            to this file, which is there whole or not at all; one that is there keeps its mode
+    --help, --version        this text; which Copperhook it is
+
+the standard pairs
+    corner-adj-a  corner-adj-l        the first corner and its neighbour: -a across the strip, -l along it
+    bdry-adj-a    bdry-adj-l          neighbours on the boundary: adj are one step apart, -lmid halfway along
+    bdry-d2-l     bdry-d3-a  ..       on the boundary, that many steps apart
+    centre-adj-a  centre-d4-l  ..     the same around the centre
+    short-end-to-end  end-to-end-l    corner to corner across, and along
+    opp-corners                       the first vertex and the last
+Beside each stands its distance: the least number of kept edges on a walk from one to the other, - where there is none.
+
+The foot of a text tells how far its correlations, or means, are from the exact ones at most, for the factors that the
+host's exp makes. That is proved, and no digit past it is printed; where no bound is proved, none below 1e-15. csv and json carry the bound, and every digit.
+
+Every sheet ends, or as csv and json begins, with its record: Copperhook's version and commit, the SHA-256 of the
+library's archive and of the factors (both signs at each beta and kept edge, as the library is lent them, eight bytes
+each, lowest first), the command that asks for the same numbers, the strip, its dilution, all signs, seed, chunks,
+samples, count and manner.
+
+examples
+    sheet --kind square --width 4 --length 6 --beta 0.44,0.6
+    sheet --kind tri --width 3 --length 8 --cylinder --beta 0.3 --seed 7 --format csv
+    sheet --kind tri --width 6 --length 20 --beta 0.5 --sample 100 --chunks 40 --threads 4
+    sheet --kind honey --width 4 --length 5 --beta 1 --dilute 0.9,0.5,1.5,11 --pairs 0-19,0-1 --bits
+    sheet verify board.csv
+    sheet --kind square --width 8 --length 12 --beta 0.2,0.44,0.8 --signs plus --format svg --output plot.svg
+
+Exit status: 0, 2 for a bad option or a refused job, 1 where memory or a file cannot be had.
+Of verify: 0 where all agrees, 1 for a difference, 2 where the sheet cannot be read or worked out.
+";
