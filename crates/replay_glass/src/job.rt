@@ -1,18 +1,24 @@
 // One job: its lists are loaded, the call is made, and what it answers and leaves in the lent lists is compared.
-use crate::doubles::are_cleared;
-use crate::doubles::fill;
 use checks::Answer;
 use glass::Manner;
+use stored::are_cleared;
 use stored::are_stored;
 use stored::at;
+use stored::edge_lists;
+use stored::fill;
 use stored::length_at;
 use stored::load_doubles;
+use stored::load_edges;
 use stored::load_numbers;
 use stored::number_at;
+use stored::two_lists;
 use stored::word;
 use tally::Counted;
 use tally::NUMBERS;
-use tally::count;
+use tally::Replayed;
+use tally::advance;
+use tally::begin;
+use tally::finish;
 
 // More than a call takes.
 const EDGES: usize = 4100;
@@ -23,15 +29,9 @@ const REFUSED: u64 = 0x1_0000_0000;
 // The words that a record begins with, by their place.
 const FLOOR: usize = 1;
 
-const A_COUNT: usize = 2;
+const EDGE_COUNTS: usize = 2;
 
-const B_COUNT: usize = 3;
-
-const M_COUNT: usize = 4;
-
-const US_COUNT: usize = 5;
-
-const VS_COUNT: usize = 6;
+const PAIR_COUNTS: usize = 5;
 
 const FACTORS: usize = 7;
 
@@ -55,11 +55,6 @@ const ROOM: usize = 14;
 
 // the lists in the order of their lengths, then the results after the call
 const LISTS: usize = 15;
-
-struct Replayed {
-    same: bool,
-    next: usize,
-}
 
 fn manner_of(per_element: u64) -> Manner {
     if per_element == 1 {
@@ -167,14 +162,14 @@ fn replay_edges(
 ) -> Replayed {
     let mut first = [0usize; PAIRS];
     let mut second = [0usize; PAIRS];
-    let k = length_at(list, at(start, US_COUNT), PAIRS);
-    let l = length_at(list, at(start, VS_COUNT), PAIRS);
+    let lists = two_lists(list, at(start, PAIR_COUNTS), place, PAIRS, PAIRS);
+    let k = lists.first;
+    let l = lists.second;
     let us = &mut first[..k];
     let vs = &mut second[..l];
-    let others = at(place, k);
     load_numbers(list, place, us);
-    load_numbers(list, others, vs);
-    let r = replay_pairs(list, start, at(others, l), a, b, m, us, vs, work);
+    load_numbers(list, lists.other, vs);
+    let r = replay_pairs(list, start, lists.next, a, b, m, us, vs, work);
     Replayed {
         same: r.same & room_agrees(list, start, a, b, m, us, vs),
         next: r.next,
@@ -185,39 +180,24 @@ fn replay(list: &[u8], start: usize, work: &mut [f64]) -> Replayed {
     let mut first = [0usize; EDGES];
     let mut second = [0usize; EDGES];
     let mut third = [0.0f64; EDGES];
-    let k = length_at(list, at(start, A_COUNT), EDGES);
-    let l = length_at(list, at(start, B_COUNT), EDGES);
-    let j = length_at(list, at(start, M_COUNT), EDGES);
+    let lists = edge_lists(list, at(start, EDGE_COUNTS), at(start, LISTS), EDGES);
+    let k = lists.a;
+    let l = lists.b;
+    let j = lists.m;
     let a = &mut first[..k];
     let b = &mut second[..l];
     let m = &mut third[..j];
-    let ones = at(start, LISTS);
-    let others = at(ones, k);
-    let magnitudes = at(others, l);
-    load_numbers(list, ones, a);
-    load_numbers(list, others, b);
-    load_doubles(list, magnitudes, m);
-    replay_edges(list, start, at(magnitudes, j), a, b, m, work)
+    load_edges(list, lists, a, b, m);
+    replay_edges(list, start, lists.next, a, b, m, work)
 }
 
 // The first word is the number of jobs. Those that agree are counted by their refusal's number.
 pub(crate) fn replay_all(list: &[u8], work: &mut [f64], counts: &mut [usize; NUMBERS]) -> Counted {
-    let all = number_at(list, 0);
-    let mut same: usize = 0;
-    let mut p: usize = 8;
-    let mut left = all;
-    while left > 0 {
-        let r = replay(list, p, work);
-        if r.same {
-            same = std::num::wrapping_add_usize(same, 1);
-            count(counts, number_at(list, at(p, NUMBER)));
-        }
-        p = r.next;
-        left -= 1;
+    let mut progress = begin(list);
+    while progress.left > 0 {
+        let place = progress.place;
+        let r = replay(list, place, work);
+        progress = advance(progress, r, number_at(list, at(place, NUMBER)), counts);
     }
-    Counted {
-        same,
-        all,
-        left: std::num::wrapping_sub_usize(list.len(), p),
-    }
+    finish(progress, list)
 }

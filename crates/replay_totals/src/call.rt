@@ -1,10 +1,10 @@
 // One call, by its record's first words: it is made, and what it answers and leaves in the lent lists is compared.
-use crate::doubles::are_cleared;
-use crate::doubles::fill;
 use checks::Answer;
 use glass::Manner;
+use stored::are_cleared;
 use stored::are_stored;
 use stored::at;
+use stored::fill;
 use stored::number_at;
 use stored::word;
 

@@ -1,7 +1,6 @@
 // Replays the original's totals. data/totals.bin is words: the number of calls, and a record for each, which call.rt reads. `answers totals` of
 // rust/oracle made it: the results are the original's, the refusals' numbers and the room from document 01.
 mod call;
-mod doubles;
 mod record;
 
 use tally::NUMBERS;

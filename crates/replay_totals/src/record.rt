@@ -3,13 +3,19 @@ use crate::call::answers;
 use crate::call::left_as_stored;
 use crate::call::refusal_at;
 use stored::at;
+use stored::edge_lists;
 use stored::length_at;
 use stored::load_doubles;
+use stored::load_edges;
 use stored::load_numbers;
 use stored::number_at;
+use stored::two_lists;
 use tally::Counted;
 use tally::NUMBERS;
-use tally::count;
+use tally::Replayed;
+use tally::advance;
+use tally::begin;
+use tally::finish;
 
 // As much as a stored call takes.
 const EDGES: usize = 128;
@@ -22,34 +28,20 @@ const FACTORS: usize = 1024;
 
 const RESULTS: usize = 4200;
 // The lengths of a record's lists, by their place behind the words that call.rt reads.
-const A_COUNT: usize = 11;
+const EDGE_COUNTS: usize = 11;
 
-const B_COUNT: usize = 12;
+const PAIR_COUNTS: usize = 14;
 
-const M_COUNT: usize = 13;
+// of the betas and the factors
+const FACTOR_COUNTS: usize = 16;
 
-const US_COUNT: usize = 14;
-
-const VS_COUNT: usize = 15;
-
-const BETA_COUNT: usize = 16;
-
-const FACTOR_COUNT: usize = 17;
-
-const FIRST_COUNT: usize = 18;
-
-const SECOND_COUNT: usize = 19;
+const RESULT_COUNTS: usize = 18;
 
 // how much work memory is lent
 const LENT: usize = 20;
 
 // the lists in the order of their lengths, the results as they are after the call
 const LISTS: usize = 21;
-
-struct Replayed {
-    same: bool,
-    next: usize,
-}
 
 // Lends results and work memory, and calls; the results begin at `place`.
 fn replay_results(
@@ -67,13 +59,14 @@ fn replay_results(
 ) -> Replayed {
     let mut one = [0.0f64; RESULTS];
     let mut two = [0.0f64; RESULTS];
-    let k = length_at(list, at(start, FIRST_COUNT), RESULTS);
-    let l = length_at(list, at(start, SECOND_COUNT), RESULTS);
+    let lists = two_lists(list, at(start, RESULT_COUNTS), place, RESULTS, RESULTS);
+    let k = lists.first;
+    let l = lists.second;
     let lent = length_at(list, at(start, LENT), work.len());
     let first = &mut one[..k];
     let second = &mut two[..l];
     let memory = &mut work[..lent];
-    let other = at(place, k);
+    let other = lists.other;
     let same = answers(
         list,
         start,
@@ -90,7 +83,7 @@ fn replay_results(
     );
     Replayed {
         same: same & left_as_stored(list, start, place, other, first, second, memory),
-        next: at(other, l),
+        next: lists.next,
     }
 }
 
@@ -108,17 +101,17 @@ fn replay_betas(
 ) -> Replayed {
     let mut first = [0.0f64; BETAS];
     let mut second = [0.0f64; FACTORS];
-    let k = length_at(list, at(start, BETA_COUNT), BETAS);
-    let l = length_at(list, at(start, FACTOR_COUNT), FACTORS);
+    let lists = two_lists(list, at(start, FACTOR_COUNTS), place, BETAS, FACTORS);
+    let k = lists.first;
+    let l = lists.second;
     let betas = &mut first[..k];
     let factors = &mut second[..l];
-    let others = at(place, k);
     load_doubles(list, place, betas);
-    load_doubles(list, others, factors);
+    load_doubles(list, lists.other, factors);
     replay_results(
         list,
         start,
-        at(others, l),
+        lists.next,
         a,
         b,
         m,
@@ -142,53 +135,38 @@ fn replay_pairs(
 ) -> Replayed {
     let mut first = [0usize; PAIRS];
     let mut second = [0usize; PAIRS];
-    let k = length_at(list, at(start, US_COUNT), PAIRS);
-    let l = length_at(list, at(start, VS_COUNT), PAIRS);
+    let lists = two_lists(list, at(start, PAIR_COUNTS), place, PAIRS, PAIRS);
+    let k = lists.first;
+    let l = lists.second;
     let us = &mut first[..k];
     let vs = &mut second[..l];
-    let others = at(place, k);
     load_numbers(list, place, us);
-    load_numbers(list, others, vs);
-    replay_betas(list, start, at(others, l), a, b, m, us, vs, work)
+    load_numbers(list, lists.other, vs);
+    replay_betas(list, start, lists.next, a, b, m, us, vs, work)
 }
 
 fn replay(list: &[u8], start: usize, work: &mut [f64]) -> Replayed {
     let mut first = [0usize; EDGES];
     let mut second = [0usize; EDGES];
     let mut third = [0.0f64; EDGES];
-    let k = length_at(list, at(start, A_COUNT), EDGES);
-    let l = length_at(list, at(start, B_COUNT), EDGES);
-    let j = length_at(list, at(start, M_COUNT), EDGES);
+    let lists = edge_lists(list, at(start, EDGE_COUNTS), at(start, LISTS), EDGES);
+    let k = lists.a;
+    let l = lists.b;
+    let j = lists.m;
     let a = &mut first[..k];
     let b = &mut second[..l];
     let m = &mut third[..j];
-    let ones = at(start, LISTS);
-    let others = at(ones, k);
-    let magnitudes = at(others, l);
-    load_numbers(list, ones, a);
-    load_numbers(list, others, b);
-    load_doubles(list, magnitudes, m);
-    replay_pairs(list, start, at(magnitudes, j), a, b, m, work)
+    load_edges(list, lists, a, b, m);
+    replay_pairs(list, start, lists.next, a, b, m, work)
 }
 
 // The first word is the number of calls. Those that agree are counted by their refusal's number.
 pub(crate) fn replay_all(list: &[u8], work: &mut [f64], counts: &mut [usize; NUMBERS]) -> Counted {
-    let all = number_at(list, 0);
-    let mut same: usize = 0;
-    let mut p: usize = 8;
-    let mut left = all;
-    while left > 0 {
-        let r = replay(list, p, work);
-        if r.same {
-            same = std::num::wrapping_add_usize(same, 1);
-            count(counts, refusal_at(list, p));
-        }
-        p = r.next;
-        left -= 1;
+    let mut progress = begin(list);
+    while progress.left > 0 {
+        let place = progress.place;
+        let r = replay(list, place, work);
+        progress = advance(progress, r, refusal_at(list, place), counts);
     }
-    Counted {
-        same,
-        all,
-        left: std::num::wrapping_sub_usize(list.len(), p),
-    }
+    finish(progress, list)
 }

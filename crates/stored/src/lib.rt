@@ -8,6 +8,8 @@ ghost use Rattle.vector.specs.Tabulate.{tabulate};
 ghost use Rattle.stored.specs.Words.{wordAt, placeAt, every};
 
 mod hash;
+mod lists;
+mod memory;
 
 pub use hash::OFFSET;
 pub use hash::mix;
@@ -15,6 +17,13 @@ pub use hash::mix_doubles;
 pub use hash::mix_marks;
 pub use hash::mix_number;
 pub use hash::mix_numbers;
+pub use lists::EdgeLists;
+pub use lists::TwoLists;
+pub use lists::edge_lists;
+pub use lists::load_edges;
+pub use lists::two_lists;
+pub use memory::are_cleared;
+pub use memory::fill;
 
 fn wide(x: u8) -> u64
     ensures { λ r. ⌜ r ≡ x ⌝ }

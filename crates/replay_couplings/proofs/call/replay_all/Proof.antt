@@ -4,43 +4,37 @@ use Rattle.replay_couplings.proofs.call.replay_all.Statement.{statement
 use Rattle.replay_couplings.proofs.call.replay_all.Tie as tie
 
 abbrev Inv-loop : tie.InvT-loop
-Inv-loop list counts₀ all same₀ p₀ left₀ counts same p left = Unit {0}
+Inv-loop list counts₀ progress₀ counts progress = Unit
 
 abbrev μ-loop : tie.MeasureT-loop
-μ-loop list counts₀ all same₀ p₀ left₀ counts same p left = left
+μ-loop list counts₀ progress₀ counts progress = progress .left
 
-number-at-requires : tie.Need-number-at-requires Inv-loop μ-loop
-number-at-requires c κs = search needs
+begin-requires : tie.Need-begin-requires Inv-loop μ-loop
+begin-requires c κs = search needs
 
 loop-holds : tie.Need-loop-holds Inv-loop μ-loop
-loop-holds c = tt
+loop-holds c = search needs
 
 replay-requires : tie.Need-replay-requires Inv-loop μ-loop
 replay-requires c κs = search needs
 
-wrapping-add-usize-requires : tie.Need-wrapping-add-usize-requires Inv-loop μ-loop
-wrapping-add-usize-requires c κs = search needs
-
 at-requires : tie.Need-at-requires Inv-loop μ-loop
 at-requires c κs = search needs
 
-number-at-requires-2 : tie.Need-number-at-requires-2 Inv-loop μ-loop
-number-at-requires-2 c κs = search needs
+number-at-requires : tie.Need-number-at-requires Inv-loop μ-loop
+number-at-requires c κs = search needs
 
-count-requires : tie.Need-count-requires Inv-loop μ-loop
-count-requires c κs = search needs
-
-sub-left : tie.Need-sub-left Inv-loop μ-loop
-sub-left c = search needs
+advance-requires : tie.Need-advance-requires Inv-loop μ-loop
+advance-requires c κs = search needs
 
 loop-less : tie.Need-loop-less Inv-loop μ-loop
 loop-less c = search needs
 
 loop-again : tie.Need-loop-again Inv-loop μ-loop
-loop-again c = tt
+loop-again c = search needs
 
-wrapping-sub-usize-requires : tie.Need-wrapping-sub-usize-requires Inv-loop μ-loop
-wrapping-sub-usize-requires c κs = search needs
+finish-requires : tie.Need-finish-requires Inv-loop μ-loop
+finish-requires c κs = search needs
 
 returns : tie.Need-returns Inv-loop μ-loop
 returns c = search needs
@@ -51,15 +45,13 @@ replay-all-spec =
     (tie.spec
     Inv-loop
     μ-loop
-    number-at-requires
+    begin-requires
     loop-holds
     replay-requires
-    wrapping-add-usize-requires
     at-requires
-    number-at-requires-2
-    count-requires
-    sub-left
+    number-at-requires
+    advance-requires
     loop-less
     loop-again
-    wrapping-sub-usize-requires
+    finish-requires
     returns)

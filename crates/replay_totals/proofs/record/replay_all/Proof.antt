@@ -1,18 +1,18 @@
 -- The number of calls left falls, and the work memory keeps its length.
-use lib.ListN.{length}
 use mathlib.Core.Path.{_≡_}
+use lib.ListN.{length}
 use borrow.Author.Needs.{needs}
 use Rattle.replay_totals.proofs.record.replay_all.Statement.{statement}
 use Rattle.replay_totals.proofs.record.replay_all.Tie as tie
 
 abbrev Inv-loop : tie.InvT-loop
-Inv-loop list work₀ counts₀ all same₀ p₀ left₀ work counts same p left = length work ≡ length work₀
+Inv-loop list work₀ counts₀ progress₀ work counts progress = length work ≡ length work₀
 
 abbrev μ-loop : tie.MeasureT-loop
-μ-loop list work₀ counts₀ all same₀ p₀ left₀ work counts same p left = left
+μ-loop list work₀ counts₀ progress₀ work counts progress = progress .left
 
-number-at-requires : tie.Need-number-at-requires Inv-loop μ-loop
-number-at-requires c κs = search needs
+begin-requires : tie.Need-begin-requires Inv-loop μ-loop
+begin-requires c κs = search needs
 
 loop-holds : tie.Need-loop-holds Inv-loop μ-loop
 loop-holds c = search needs
@@ -20,17 +20,11 @@ loop-holds c = search needs
 replay-requires : tie.Need-replay-requires Inv-loop μ-loop
 replay-requires c κs = search needs
 
-wrapping-add-usize-requires : tie.Need-wrapping-add-usize-requires Inv-loop μ-loop
-wrapping-add-usize-requires c κs = search needs
-
 refusal-at-requires : tie.Need-refusal-at-requires Inv-loop μ-loop
 refusal-at-requires c κs = search needs
 
-count-requires : tie.Need-count-requires Inv-loop μ-loop
-count-requires c κs = search needs
-
-sub-left : tie.Need-sub-left Inv-loop μ-loop
-sub-left c = search needs
+advance-requires : tie.Need-advance-requires Inv-loop μ-loop
+advance-requires c κs = search needs
 
 loop-less : tie.Need-loop-less Inv-loop μ-loop
 loop-less c = search needs
@@ -38,8 +32,8 @@ loop-less c = search needs
 loop-again : tie.Need-loop-again Inv-loop μ-loop
 loop-again c = search needs
 
-wrapping-sub-usize-requires : tie.Need-wrapping-sub-usize-requires Inv-loop μ-loop
-wrapping-sub-usize-requires c κs = search needs
+finish-requires : tie.Need-finish-requires Inv-loop μ-loop
+finish-requires c κs = search needs
 
 same-length : tie.Need-same-length Inv-loop μ-loop
 same-length c = search needs
@@ -53,15 +47,13 @@ replay-all-spec =
     (tie.spec
     Inv-loop
     μ-loop
-    number-at-requires
+    begin-requires
     loop-holds
     replay-requires
-    wrapping-add-usize-requires
     refusal-at-requires
-    count-requires
-    sub-left
+    advance-requires
     loop-less
     loop-again
-    wrapping-sub-usize-requires
+    finish-requires
     same-length
     returns)

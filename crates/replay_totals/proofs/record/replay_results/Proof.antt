@@ -1,7 +1,7 @@
 -- The parts that are lent have the length that was asked for.
-use lib.Seq.{length-take-le}
-use native.Mathlib.Omega.{arith}
 use mathlib.Core.Path.{sym}
+use native.Mathlib.Omega.{arith}
+use lib.Seq.{length-take-le}
 use borrow.Author.Needs.{needs}
 use Rattle.replay_totals.proofs.record.replay_results.Statement.{statement}
 use Rattle.replay_totals.proofs.record.replay_results.Tie as tie
@@ -9,20 +9,14 @@ use Rattle.replay_totals.proofs.record.replay_results.Tie as tie
 at-requires : tie.Need-at-requires
 at-requires c κs = search needs
 
-length-at-requires : tie.Need-length-at-requires
-length-at-requires c κs = search needs
+two-lists-requires : tie.Need-two-lists-requires
+two-lists-requires c κs = search needs
 
 at-requires-2 : tie.Need-at-requires-2
 at-requires-2 c κs = search needs
 
-length-at-requires-2 : tie.Need-length-at-requires-2
-length-at-requires-2 c κs = search needs
-
-at-requires-3 : tie.Need-at-requires-3
-at-requires-3 c κs = search needs
-
-length-at-requires-3 : tie.Need-length-at-requires-3
-length-at-requires-3 c κs = search needs
+length-at-requires : tie.Need-length-at-requires
+length-at-requires c κs = search needs
 
 array-borrow-prefix-one : tie.Need-array-borrow-prefix-one
 array-borrow-prefix-one c = search needs
@@ -42,17 +36,11 @@ slice-relend-prefix-memory c = search needs
 slice-aggregate-memory : tie.Need-slice-aggregate-memory
 slice-aggregate-memory c = sym (length-take-le _ _ (omega arith))
 
-at-requires-4 : tie.Need-at-requires-4
-at-requires-4 c κs = search needs
-
 answers-requires : tie.Need-answers-requires
 answers-requires c κs = search needs
 
 left-as-stored-requires : tie.Need-left-as-stored-requires
 left-as-stored-requires c κs = search needs
-
-at-requires-5 : tie.Need-at-requires-5
-at-requires-5 c κs = search needs
 
 same-length : tie.Need-same-length
 same-length c = search needs
@@ -65,20 +53,16 @@ replay-results-spec =
     tie.close
     (tie.spec
     at-requires
-    length-at-requires
+    two-lists-requires
     at-requires-2
-    length-at-requires-2
-    at-requires-3
-    length-at-requires-3
+    length-at-requires
     array-borrow-prefix-one
     slice-aggregate-first
     array-borrow-prefix-two
     slice-aggregate-second
     slice-relend-prefix-memory
     slice-aggregate-memory
-    at-requires-4
     answers-requires
     left-as-stored-requires
-    at-requires-5
     same-length
     returns)

@@ -2,8 +2,8 @@
 use lib.ListN.{length}
 use Prim.Native.Nat.{_≤_, _-_}
 use borrow.Author.Needs.{needs}
-use Rattle.replay_glass.proofs.doubles.are_cleared.Statement.{statement}
-use Rattle.replay_glass.proofs.doubles.are_cleared.Tie as tie
+use Rattle.stored.proofs.memory.are_cleared.Statement.{statement}
+use Rattle.stored.proofs.memory.are_cleared.Tie as tie
 
 abbrev Inv-loop : tie.InvT-loop
 Inv-loop xs cleared others same₀ i₀ same i = i ≤ length xs
