@@ -121,74 +121,44 @@ fn room_agrees(
     room_word(refuse::room(n, floor, a, b, m, us, vs)) == word(list, at(start, ROOM))
 }
 
-// Loads the factors, which begin at `place`, and lends results and work memory.
-fn replay_pairs(
-    list: &[u8],
-    start: usize,
-    place: usize,
-    a: &[usize],
-    b: &[usize],
-    m: &[f64],
-    us: &[usize],
-    vs: &[usize],
-    work: &mut [f64],
-) -> Replayed {
-    let mut first = [0.0f64; EDGES];
-    let mut second = [0.0f64; PAIRS];
-    let k = length_at(list, at(start, FACTORS), EDGES);
-    let l = length_at(list, at(start, RESULTS), PAIRS);
-    let lent = length_at(list, at(start, LENT), work.len());
-    let factors = &mut first[..k];
-    let results = &mut second[..l];
-    let memory = &mut work[..lent];
-    let answers = at(place, k);
-    load_doubles(list, place, factors);
-    let number = call(list, start, a, b, m, us, vs, factors, results, memory);
-    Replayed {
-        same: agrees(list, start, answers, number, results, memory),
-        next: at(answers, l),
-    }
-}
-
-// Loads the pairs, which begin at `place`.
-fn replay_edges(
-    list: &[u8],
-    start: usize,
-    place: usize,
-    a: &[usize],
-    b: &[usize],
-    m: &[f64],
-    work: &mut [f64],
-) -> Replayed {
-    let mut first = [0usize; PAIRS];
-    let mut second = [0usize; PAIRS];
-    let lists = two_lists(list, at(start, PAIR_COUNTS), place, PAIRS, PAIRS);
-    let k = lists.first;
-    let l = lists.second;
-    let us = &mut first[..k];
-    let vs = &mut second[..l];
-    load_numbers(list, place, us);
-    load_numbers(list, lists.other, vs);
-    let r = replay_pairs(list, start, lists.next, a, b, m, us, vs, work);
-    Replayed {
-        same: r.same & room_agrees(list, start, a, b, m, us, vs),
-        next: r.next,
-    }
-}
-
+// Loads the lists of the record that begins at `start`, lends them to the call, and compares what it leaves.
 fn replay(list: &[u8], start: usize, work: &mut [f64]) -> Replayed {
-    let mut first = [0usize; EDGES];
-    let mut second = [0usize; EDGES];
-    let mut third = [0.0f64; EDGES];
-    let lists = edge_lists(list, at(start, EDGE_COUNTS), at(start, LISTS), EDGES);
-    let k = lists.a;
-    let l = lists.b;
-    let j = lists.m;
-    let a = &mut first[..k];
-    let b = &mut second[..l];
-    let m = &mut third[..j];
-    load_edges(list, lists, a, b, m);
-    replay_edges(list, start, lists.next, a, b, m, work)
+    let mut ones = [0usize; EDGES];
+    let mut others = [0usize; EDGES];
+    let mut magnitudes = [0.0f64; EDGES];
+    let mut firsts = [0usize; PAIRS];
+    let mut seconds = [0usize; PAIRS];
+    let mut plus = [0.0f64; EDGES];
+    let mut answers = [0.0f64; PAIRS];
+    let edges = edge_lists(list, at(start, EDGE_COUNTS), at(start, LISTS), EDGES);
+    let pairs = two_lists(list, at(start, PAIR_COUNTS), edges.next, PAIRS, PAIRS);
+    let a_count = edges.a;
+    let b_count = edges.b;
+    let m_count = edges.m;
+    let us_count = pairs.first;
+    let vs_count = pairs.second;
+    let factor_count = length_at(list, at(start, FACTORS), EDGES);
+    let result_count = length_at(list, at(start, RESULTS), PAIRS);
+    let lent = length_at(list, at(start, LENT), work.len());
+    let a = &mut ones[..a_count];
+    let b = &mut others[..b_count];
+    let m = &mut magnitudes[..m_count];
+    let us = &mut firsts[..us_count];
+    let vs = &mut seconds[..vs_count];
+    let factors = &mut plus[..factor_count];
+    let results = &mut answers[..result_count];
+    let memory = &mut work[..lent];
+    load_edges(list, edges, a, b, m);
+    load_numbers(list, edges.next, us);
+    load_numbers(list, pairs.other, vs);
+    load_doubles(list, pairs.next, factors);
+    let place = at(pairs.next, factor_count);
+    let number = call(list, start, a, b, m, us, vs, factors, results, memory);
+    let same = agrees(list, start, place, number, results, memory);
+    Replayed {
+        same: same & room_agrees(list, start, a, b, m, us, vs),
+        next: at(place, result_count),
+    }
 }
 
 // The first word is the number of jobs. Those that agree are counted by their refusal's number.

@@ -8,7 +8,6 @@ use stored::length_at;
 use stored::load_doubles;
 use stored::load_edges;
 use stored::load_numbers;
-use stored::number_at;
 use stored::two_lists;
 use tally::Counted;
 use tally::NUMBERS;
@@ -43,31 +42,47 @@ const LENT: usize = 20;
 // the lists in the order of their lengths, the results as they are after the call
 const LISTS: usize = 21;
 
-// Lends results and work memory, and calls; the results begin at `place`.
-fn replay_results(
-    list: &[u8],
-    start: usize,
-    place: usize,
-    a: &[usize],
-    b: &[usize],
-    m: &[f64],
-    us: &[usize],
-    vs: &[usize],
-    betas: &[f64],
-    factors: &[f64],
-    work: &mut [f64],
-) -> Replayed {
+// Loads the lists of the record that begins at `start`, lends them to the call, and compares what it leaves.
+fn replay(list: &[u8], start: usize, work: &mut [f64]) -> Replayed {
+    let mut ones = [0usize; EDGES];
+    let mut others = [0usize; EDGES];
+    let mut magnitudes = [0.0f64; EDGES];
+    let mut firsts = [0usize; PAIRS];
+    let mut seconds = [0usize; PAIRS];
+    let mut temperatures = [0.0f64; BETAS];
+    let mut both = [0.0f64; FACTORS];
     let mut one = [0.0f64; RESULTS];
     let mut two = [0.0f64; RESULTS];
-    let lists = two_lists(list, at(start, RESULT_COUNTS), place, RESULTS, RESULTS);
-    let k = lists.first;
-    let l = lists.second;
-    let lent = length_at(list, at(start, LENT), work.len());
-    let first = &mut one[..k];
-    let second = &mut two[..l];
-    let memory = &mut work[..lent];
-    let other = lists.other;
-    let same = answers(
+    let edges = edge_lists(list, at(start, EDGE_COUNTS), at(start, LISTS), EDGES);
+    let pairs = two_lists(list, at(start, PAIR_COUNTS), edges.next, PAIRS, PAIRS);
+    let lent = two_lists(list, at(start, FACTOR_COUNTS), pairs.next, BETAS, FACTORS);
+    let results = two_lists(list, at(start, RESULT_COUNTS), lent.next, RESULTS, RESULTS);
+    let a_count = edges.a;
+    let b_count = edges.b;
+    let m_count = edges.m;
+    let us_count = pairs.first;
+    let vs_count = pairs.second;
+    let beta_count = lent.first;
+    let factor_count = lent.second;
+    let first_count = results.first;
+    let second_count = results.second;
+    let memory_count = length_at(list, at(start, LENT), work.len());
+    let a = &mut ones[..a_count];
+    let b = &mut others[..b_count];
+    let m = &mut magnitudes[..m_count];
+    let us = &mut firsts[..us_count];
+    let vs = &mut seconds[..vs_count];
+    let betas = &mut temperatures[..beta_count];
+    let factors = &mut both[..factor_count];
+    let first = &mut one[..first_count];
+    let second = &mut two[..second_count];
+    let memory = &mut work[..memory_count];
+    load_edges(list, edges, a, b, m);
+    load_numbers(list, edges.next, us);
+    load_numbers(list, pairs.other, vs);
+    load_doubles(list, pairs.next, betas);
+    load_doubles(list, lent.other, factors);
+    let called = answers(
         list,
         start,
         a,
@@ -82,82 +97,9 @@ fn replay_results(
         memory,
     );
     Replayed {
-        same: same & left_as_stored(list, start, place, other, first, second, memory),
-        next: lists.next,
+        same: called & left_as_stored(list, start, lent.next, results.other, first, second, memory),
+        next: results.next,
     }
-}
-
-// Loads the betas, which begin at `place`, and the factors.
-fn replay_betas(
-    list: &[u8],
-    start: usize,
-    place: usize,
-    a: &[usize],
-    b: &[usize],
-    m: &[f64],
-    us: &[usize],
-    vs: &[usize],
-    work: &mut [f64],
-) -> Replayed {
-    let mut first = [0.0f64; BETAS];
-    let mut second = [0.0f64; FACTORS];
-    let lists = two_lists(list, at(start, FACTOR_COUNTS), place, BETAS, FACTORS);
-    let k = lists.first;
-    let l = lists.second;
-    let betas = &mut first[..k];
-    let factors = &mut second[..l];
-    load_doubles(list, place, betas);
-    load_doubles(list, lists.other, factors);
-    replay_results(
-        list,
-        start,
-        lists.next,
-        a,
-        b,
-        m,
-        us,
-        vs,
-        betas,
-        factors,
-        work,
-    )
-}
-
-// Loads the pairs, which begin at `place`.
-fn replay_pairs(
-    list: &[u8],
-    start: usize,
-    place: usize,
-    a: &[usize],
-    b: &[usize],
-    m: &[f64],
-    work: &mut [f64],
-) -> Replayed {
-    let mut first = [0usize; PAIRS];
-    let mut second = [0usize; PAIRS];
-    let lists = two_lists(list, at(start, PAIR_COUNTS), place, PAIRS, PAIRS);
-    let k = lists.first;
-    let l = lists.second;
-    let us = &mut first[..k];
-    let vs = &mut second[..l];
-    load_numbers(list, place, us);
-    load_numbers(list, lists.other, vs);
-    replay_betas(list, start, lists.next, a, b, m, us, vs, work)
-}
-
-fn replay(list: &[u8], start: usize, work: &mut [f64]) -> Replayed {
-    let mut first = [0usize; EDGES];
-    let mut second = [0usize; EDGES];
-    let mut third = [0.0f64; EDGES];
-    let lists = edge_lists(list, at(start, EDGE_COUNTS), at(start, LISTS), EDGES);
-    let k = lists.a;
-    let l = lists.b;
-    let j = lists.m;
-    let a = &mut first[..k];
-    let b = &mut second[..l];
-    let m = &mut third[..j];
-    load_edges(list, lists, a, b, m);
-    replay_pairs(list, start, lists.next, a, b, m, work)
 }
 
 // The first word is the number of calls. Those that agree are counted by their refusal's number.
