@@ -16,7 +16,7 @@ use Rattle.transfer.specs.Job.{Job}
 use Rattle.transfer.specs.Rounded.{ieee}
 use Rattle.transfer.specs.Sweep as S
 use Rattle.transfer.specs.Totals.{square, fourth}
-use Rattle.answers.specs.Sound.{unsound, Outcome}
+use Rattle.pair_correlations.specs.Sound.{unsound, Outcome}
 use Rattle.powers.specs.Added.{addedAt, addedTo}
 use Rattle.chunks.specs.Passing.{one-passed, one-failed}
 use Rattle.chunks.specs.Powers.{pairAt, correlationAt, pair-numbered, AddedPowers}

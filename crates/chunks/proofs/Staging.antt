@@ -18,7 +18,7 @@ use Rattle.vertex.specs.Frame.{Fits, half-held}
 use Rattle.vertex.specs.Ready.{Ready, PlanOf, Backward, Swept, Still, still-swept}
 use Rattle.sweeps.specs.Begun.{Stands}
 use Rattle.sweeps.specs.Kept.{SameFrom}
-use Rattle.answers.specs.Sound.{Outcome}
+use Rattle.pair_correlations.specs.Sound.{Outcome}
 use Rattle.chunks.specs.Stage.{Stage}
 use Rattle.chunks.specs.Lists.{part-of}
 

@@ -12,7 +12,7 @@ use Rattle.vector.specs.Tabulate.{tabulate, tabulated}
 use Rattle.transfer.specs.Arithmetic.{sum}
 use Rattle.transfer.specs.Job.{Job}
 use Rattle.transfer.specs.Rounded.{ieee}
-use Rattle.answers.specs.Sound.{unsound}
+use Rattle.pair_correlations.specs.Sound.{unsound}
 
 pub none-unsound : (J : ℕ → Job Float) (us vs : List ℕ) (betas : ℕ) → betas * length us ≡ 0 → some (λ b. unsound (J b) us vs) betas ≡ false
 unfolding unsound

@@ -12,7 +12,7 @@ use Rattle.transfer.specs.Rounded.{ieee}
 use Rattle.transfer.specs.Sweep as S
 use Rattle.transfer.specs.Totals.{square, fourth}
 use Rattle.vertex.specs.Ready.{Backward}
-use Rattle.answers.specs.Sound.{unsound}
+use Rattle.pair_correlations.specs.Sound.{unsound}
 use Rattle.powers.specs.Added.{addedTo}
 
 -- The correlation of pair p.

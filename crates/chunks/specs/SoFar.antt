@@ -11,7 +11,7 @@ use Rattle.vector.specs.Tabulate.{tabulate}
 use Rattle.transfer.specs.Job.{Job}
 use Rattle.transfer.specs.Rounded.{ieee}
 use Rattle.transfer.specs.Totals.{square, fourth}
-use Rattle.answers.specs.Sound.{unsound}
+use Rattle.pair_correlations.specs.Sound.{unsound}
 use Rattle.chunks.specs.Signed.{PlanOfAll}
 use Rattle.chunks.specs.Powers.{correlationAt}
 

@@ -5,7 +5,7 @@ use Prim.Native.Nat.{ℕ, _+_, _*_, _≤_}
 use lib.ListN.{length}
 use Rattle.places.specs.Order.{Ordered}
 use Rattle.vertex.specs.Ready.{Ready}
-use Rattle.answers.specs.Served.{Served}
+use Rattle.pair_correlations.specs.Served.{Served}
 
 -- A planned job of m edges with its pairs and their order, a room of `end` numbers that its factors close, and a result for each pair.
 pub record Stage (plan us vs order : List ℕ) (m n w scales end results : ℕ) : Type 0 where

@@ -21,7 +21,7 @@ use Rattle.checks.specs.First.{passed, checks-numbered}
 use Rattle.checks.specs.Refusal.{checks, refusal, ofEnumeration}
 use Rattle.checks.specs.Request.{enumerationRequest}
 use Rattle.lattice.specs.Graphs.{freeCount}
-use Rattle.answers.specs.Sound.{unsound}
+use Rattle.pair_correlations.specs.Sound.{unsound}
 use Rattle.glass.specs.Correlations.{mannerOf}
 use Rattle.glass.specs.declared.Manner.{Manner}
 use Rattle.totals.specs.Jobs.{jobSigned, jobEnumerated, jobSampled, unsoundEnumeration}

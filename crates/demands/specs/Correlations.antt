@@ -21,7 +21,7 @@ use Rattle.checks.specs.Edges.{kept, earlyEnds}
 use Rattle.checks.specs.First.{passed, checks-numbered}
 use Rattle.checks.specs.Refusal.{checks, ofCorrelations}
 use Rattle.checks.specs.Request.{correlationRequest}
-use Rattle.answers.specs.Sound.{unsound}
+use Rattle.pair_correlations.specs.Sound.{unsound}
 use Rattle.glass.specs.Correlations.{mannerOf, jobGiven, Correlated}
 use Rattle.glass.specs.declared.Manner.{Manner}
 use Rattle.error_bound.specs.Bound.{mostBits, errorBoundOf}

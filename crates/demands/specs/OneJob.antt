@@ -23,7 +23,7 @@ use Rattle.exactness.specs.Exact.{rational, atValues, exact-answer-of-doubles, 
 use Rattle.exactness.specs.Literal.{literalForward, literalPropagated, literalZ, literalAnswer}
 use Rattle.exactness.specs.Textbook.{partitionSum, textbook}
 use Rattle.bounds.specs.Bounds.{Answerable, correlation-bounded, propagated-bounded, literal-correlation-bounded, literal-propagated-bounded}
-use Rattle.answers.specs.Sound.{soundly, unsound, sound-positive}
+use Rattle.pair_correlations.specs.Sound.{soundly, unsound, sound-positive}
 use Rattle.halves.specs.Even.{Even}
 use Rattle.halves.specs.Odd.{Odd}
 use Rattle.demands.specs.Halves.{half-bounded}

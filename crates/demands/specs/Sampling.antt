@@ -28,7 +28,7 @@ use Rattle.checks.specs.Edges.{windowFrom}
 use Rattle.checks.specs.First.{passed, checks-numbered}
 use Rattle.checks.specs.Refusal.{checks, ofSampling}
 use Rattle.checks.specs.Request.{samplingRequest}
-use Rattle.answers.specs.Sound.{unsound}
+use Rattle.pair_correlations.specs.Sound.{unsound}
 use Rattle.bounds.specs.Bounds.{sampled-answers-bounded}
 use Rattle.chunks.specs.Powers.{correlationAt}
 use Rattle.glass.specs.Correlations.{mannerOf}

@@ -17,7 +17,7 @@ use Rattle.transfer.specs.Arithmetic.{sum}
 use Rattle.transfer.specs.Job.{Job}
 use Rattle.transfer.specs.Rounded.{ieee}
 use Rattle.transfer.specs.Totals.{square, fourth}
-use Rattle.answers.specs.Sound.{unsound}
+use Rattle.pair_correlations.specs.Sound.{unsound}
 use Rattle.chunks.specs.Passing.{one-passed, one-failed}
 use Rattle.chunks.specs.Powers.{pairAt, correlationAt, pair-numbered}
 use Rattle.chunks.specs.Sums.{Sums, sumsOf}

@@ -13,7 +13,7 @@ use Rattle.transfer.specs.Arithmetic.{sum}
 use Rattle.transfer.specs.Rounded.{ieee}
 use Rattle.transfer.specs.Totals.{square, fourth}
 use Rattle.vertex.specs.Ready.{PlanOf, Backward}
-use Rattle.answers.specs.Sound.{unsound}
+use Rattle.pair_correlations.specs.Sound.{unsound}
 use Rattle.signed.specs.Signed.{signedFactors}
 use Rattle.chunks.specs.Signed.{PlanOfAll}
 use Rattle.chunks.specs.Powers.{pairAt, correlationAt}

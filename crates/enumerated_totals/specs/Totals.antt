@@ -10,7 +10,7 @@ use Rattle.vector.specs.Tabulate.{tabulate}
 use Rattle.transfer.specs.Job.{Job}
 use Rattle.transfer.specs.Rounded.{ieee}
 use Rattle.transfer.specs.Totals.{square, fourth, enumerated}
-use Rattle.answers.specs.Sound.{unsound}
+use Rattle.pair_correlations.specs.Sound.{unsound}
 use Rattle.chunks.specs.Powers.{correlationAt}
 use Rattle.chunks.specs.Chunked.{Chunked}
 use Rattle.enumerate.specs.Configurations.{PlanOfEach}

@@ -23,7 +23,7 @@ use Rattle.checks.specs.AcceptedJob.{listsRefusal, correlations-in-parts, accep
 use Rattle.kept.specs.Fronts.{front-early, front-late}
 use Rattle.refuse.specs.Checked.{ReadyJob}
 use Rattle.refuse.specs.Plannable.{edge-count, plannable}
-use Rattle.answers.specs.Sound.{unsound}
+use Rattle.pair_correlations.specs.Sound.{unsound}
 use Rattle.planned.specs.Zeros.{zeros}
 use Rattle.passed.specs.Passed.{Passed, Finished}
 use Rattle.glass.specs.Correlations.{mannerOf, jobGiven, settled, cleared, Correlated}

@@ -16,7 +16,7 @@ use Rattle.transfer.specs.Sweep as S
 use Rattle.checks.specs.Edges.{kept, earlyEnds, lateEnds, windowFrom}
 use Rattle.checks.specs.Request.{correlationRequest}
 use Rattle.checks.specs.Refusal.{refusal, ofCorrelations}
-use Rattle.answers.specs.Sound.{unsound}
+use Rattle.pair_correlations.specs.Sound.{unsound}
 use Rattle.planned.specs.Zeros.{zeros}
 use Rattle.glass.specs.declared.Manner.{Manner}
 use Rattle.glass.specs.declared.Manner.the-variants.{Block, PerElement}

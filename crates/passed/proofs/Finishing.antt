@@ -16,8 +16,8 @@ use Rattle.transfer.specs.Rounded.{ieee}
 use Rattle.transfer.specs.Sweep as S
 use Rattle.places.specs.Work.{Laid, Planned}
 use Rattle.vertex.specs.Ready.{PlanOf}
-use Rattle.answers.specs.Sound.{unsound}
-use Rattle.answers.specs.Planning.{plan-of, end-fits}
+use Rattle.pair_correlations.specs.Sound.{unsound}
+use Rattle.pair_correlations.specs.Planning.{plan-of, end-fits}
 use Rattle.planned.specs.Zeros.{zeros}
 use Rattle.passed.specs.Passed.{Passed, Finished}
 

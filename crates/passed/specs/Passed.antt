@@ -11,7 +11,7 @@ use Rattle.transfer.specs.Room.{room}
 use Rattle.transfer.specs.Rounded.{ieee}
 use Rattle.transfer.specs.Sweep as S
 use Rattle.places.specs.Plannable.{Plannable}
-use Rattle.answers.specs.Sound.{unsound}
+use Rattle.pair_correlations.specs.Sound.{unsound}
 use Rattle.planned.specs.Zeros.{zeros}
 
 -- a job that a plan can be made of, a factor for each of its edges, and a result for each pair

@@ -10,7 +10,7 @@ use Rattle.transfer.specs.Rounded.{ieee}
 use Rattle.transfer.specs.Sweep as S
 use Rattle.vertex.specs.Ready.{PlanOf, Swept}
 use Rattle.sweeps.specs.Kept.{SameFrom}
-use Rattle.answers.specs.Sound.{unsound, Outcome}
+use Rattle.pair_correlations.specs.Sound.{unsound, Outcome}
 
 module _ (plan us vs : List ℕ) (e r results : List Float) (n w scales : ℕ) (each sound : Bool)
     (same : SameFrom e r (scales + n))

@@ -10,10 +10,10 @@ ghost use Rattle.transfer.specs.Rounded.{ieee};
 ghost use Rattle.transfer.specs.Sweep as S;
 ghost use Rattle.places.specs.Order.{Ordered};
 ghost use Rattle.vertex.specs.Ready.{Ready, PlanOf};
-ghost use Rattle.answers.specs.Served.{Served};
-ghost use Rattle.answers.specs.Sound.{unsound};
+ghost use Rattle.pair_correlations.specs.Served.{Served};
+ghost use Rattle.pair_correlations.specs.Sound.{unsound};
 ghost use Rattle.planned.specs.Zeros.{zeros};
-use answers::answer_pairs;
+use pair_correlations::answer_pairs;
 use sweep::fill;
 use sweeps::sweep;
 

@@ -12,7 +12,7 @@ use lib.Seq.{take-all, length-take-le}
 use borrow.Author.Tests.{lt-ltb}
 use Rattle.checks.specs.Request.{Request, badVertices, badLists, correlationRequest}
 use Rattle.checks.specs.Refusal.{refusal, ofCorrelations}
-use Rattle.answers.specs.Sound.{unsound}
+use Rattle.pair_correlations.specs.Sound.{unsound}
 use Rattle.glass.specs.declared.Manner.{Manner}
 use Rattle.glass.specs.Correlations.{Correlated, jobGiven}
 use Rattle.glass.specs.Settling.{settled-not, cleared-not}

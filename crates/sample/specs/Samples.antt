@@ -10,7 +10,7 @@ use Rattle.vector.specs.Search.{some}
 use Rattle.vector.specs.Tabulate.{tabulate}
 use Rattle.transfer.specs.Job.{Job}
 use Rattle.transfer.specs.Configuration.{sampledMinus, drawn, wordsPerSample}
-use Rattle.answers.specs.Sound.{unsound}
+use Rattle.pair_correlations.specs.Sound.{unsound}
 use Rattle.chunks.specs.Signed.{PlanOfAll}
 use Rattle.chunks.specs.Powers.{correlationAt}
 use Rattle.chunks.specs.Sums.{Passed}

@@ -13,7 +13,7 @@ use Rattle.transfer.specs.Arithmetic.{sum}
 use Rattle.transfer.specs.Job.{Job}
 use Rattle.transfer.specs.Rounded.{ieee}
 use Rattle.transfer.specs.Totals.{square, fourth, chunked, sampled}
-use Rattle.answers.specs.Sound.{unsound}
+use Rattle.pair_correlations.specs.Sound.{unsound}
 use Rattle.chunks.specs.Nothing.{none-unsound, no-chunk, no-sample}
 use Rattle.sampled_totals.specs.Totals.{Idle, Totals}
 

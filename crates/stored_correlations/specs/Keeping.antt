@@ -7,7 +7,7 @@ use lib.Ieee.{Float}
 use lib.ListN.{length}
 use Rattle.vector.specs.Search.{some}
 use Rattle.transfer.specs.Job.{Job}
-use Rattle.answers.specs.Sound.{unsound}
+use Rattle.pair_correlations.specs.Sound.{unsound}
 use Rattle.chunks.specs.Powers.{correlationAt}
 use Rattle.stored_correlations.specs.Stored.{Stored}
 use Rattle.enumerate.specs.Configurations.{PlanOfEach}

@@ -12,7 +12,7 @@ use lib.Seq.{getD-set-same, getD-set-other}
 use Rattle.vector.specs.Search.{some}
 use Rattle.vector.specs.Tabulate.{tabulate, tabulated}
 use Rattle.transfer.specs.Job.{Job}
-use Rattle.answers.specs.Sound.{unsound}
+use Rattle.pair_correlations.specs.Sound.{unsound}
 use Rattle.chunks.specs.Signed.{PlanOfAll}
 use Rattle.chunks.specs.Powers.{correlationAt}
 

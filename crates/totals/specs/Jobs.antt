@@ -13,7 +13,7 @@ use Rattle.transfer.specs.Configuration.{configured, enumeratedMinus, sampledMi
 use Rattle.transfer.specs.Rounded.{ieee}
 use Rattle.transfer.specs.Totals.{enumerated, sampled}
 use Rattle.lattice.specs.Graphs.{freeCount}
-use Rattle.answers.specs.Sound.{unsound}
+use Rattle.pair_correlations.specs.Sound.{unsound}
 use Rattle.chunks.specs.Powers.{correlationAt}
 
 -- How many correlations are stored.

@@ -15,7 +15,7 @@ use Rattle.transfer.specs.Configuration.{freeBefore, enumeratedMinus, sampledMi
 use Rattle.lattice.specs.Graphs.{freeCount}
 use Rattle.places.specs.Work.{Planned}
 use Rattle.vertex.specs.Ready.{PlanOf}
-use Rattle.answers.specs.Planning.{plan-of}
+use Rattle.pair_correlations.specs.Planning.{plan-of}
 use Rattle.signed.specs.Signed.{signedFactors}
 use Rattle.enumerate.specs.Configurations.{signsOf, PlanOfEach}
 use Rattle.sample.specs.Samples.{PlanOfChunks}

@@ -20,8 +20,8 @@ use Rattle.lattice.specs.Graphs.{freeCount}
 use Rattle.plan.specs.Layout.{Holds}
 use Rattle.places.specs.Order.{Ordered}
 use Rattle.places.specs.Work.{Planned}
-use Rattle.answers.specs.Planning.{ready, serves, end-fits}
-use Rattle.answers.specs.Sound.{unsound}
+use Rattle.pair_correlations.specs.Planning.{ready, serves, end-fits}
+use Rattle.pair_correlations.specs.Sound.{unsound}
 use Rattle.chunks.specs.Powers.{correlationAt}
 use Rattle.chunks.specs.Stage.{Stage, Lent}
 use Rattle.enumerate.specs.Configurations.{Enumerates}

@@ -11,7 +11,7 @@ use Rattle.transfer.specs.Job.{Job, block, perElement, stepOf}
 use Rattle.transfer.specs.Rounded.{ieee}
 use Rattle.transfer.specs.Sweep as S
 use Rattle.plan.specs.Layout.{Holds, Vertex, stepIn, forwardPlace, backwardPlace}
-use Rattle.sweep.specs.Place.{held, Places}
+use Rattle.sweep.specs.Place.{held, Place, Places}
 use Rattle.halves.specs.Even.{Even}
 use Rattle.half_sums.specs.Terms.{halfAt}
 use Rattle.vertex.specs.Frame.{Fits, moving-fits, half-held, Wrote, wrote-length, wrote-other, wrote-drop}
@@ -45,6 +45,11 @@ pub record Readable (plan : List ℕ) (len w factors t : ℕ) : Type 0 where
 pub record Stepping (plan : List ℕ) (len w factors t src dst : ℕ) : Type 0 where
   pub reads : Readable plan len w factors t
   pub places : Places len w src dst
+
+-- a moving place lies in the room
+pub moving-place : (plan : List ℕ) (len n w scales p : ℕ) → Ready plan len n w scales → p < 2 → Place len w p
+moving-place plan len n w scales p g l =
+    record { wide = g .wide; narrow = g .narrow; inside = omega (arith, g .ends, moving-fits w scales p l (g .moving)) }
 
 -- The plan, with the factors x, is of job J. `each` is the per-element manner.
 pub record PlanOf (J : Job Float) (plan : List ℕ) (x : List Float) (n w : ℕ) (each : Bool) : Type 0 where
@@ -83,6 +88,10 @@ still-none r w scales = record { same = refl; tail = refl; places = λ p a b. re
 pub still-then : (r₀ r₁ r₂ : List Float) (w scales : ℕ) → Still r₀ r₁ w scales → Still r₁ r₂ w scales → Still r₀ r₂ w scales
 still-then r₀ r₁ r₂ w scales a b =
     record { same = b .same ∙ a .same; tail = b .tail ∙ a .tail; places = λ p c d. b .places p c d ∙ a .places p c d }
+
+pub still-ready : (plan : List ℕ) (r₀ r : List Float) (n w scales : ℕ) → Still r₀ r w scales → Ready plan (length r₀) n w scales
+    → Ready plan (length r) n w scales
+still-ready plan r₀ r n w scales s p = rw (s .same) p
 
 -- the factors behind the scales
 pub tail-factors : (r₀ r : List Float) (scales n : ℕ) → drop scales r ≡ drop scales r₀ → drop (scales + n) r ≡ drop (scales + n) r₀

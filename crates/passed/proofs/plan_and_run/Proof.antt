@@ -6,7 +6,7 @@ use lib.Seq.{length-take-le}
 use Rattle.vertex.specs.Ready.{Ready}
 use Rattle.plan.specs.Layout.{Holds}
 use Rattle.vector.specs.Part.{put-length}
-use Rattle.answers.specs.Planning.{end-fits, ready, serves}
+use Rattle.pair_correlations.specs.Planning.{end-fits, ready, serves}
 use Rattle.passed.proofs.Finishing.{factors-fit, finished}
 use borrow.Author.Needs.{needs}
 use Rattle.passed.proofs.plan_and_run.Statement.{statement}

@@ -13,7 +13,7 @@ use Rattle.planned.proofs.run.Statement.{statement}
 use Rattle.planned.proofs.run.Tie as tie
 use Rattle.planned.proofs.run.Reads as reads
 use Rattle.planned.proofs.run.Lts as lts
-use Rattle.answers.proofs.answer_pairs.Reads as answer-pairs-reads
+use Rattle.pair_correlations.proofs.answer_pairs.Reads as answer-pairs-reads
 use Rattle.planned.proofs.clear.Reads as clear-reads
 use Rattle.sweeps.proofs.sweep.Reads as sweep-reads
 

@@ -8,7 +8,7 @@ use Rattle.sweep.specs.Constants.{zero-is}
 use Rattle.chunks.specs.Chunked.{chunked-none, chunked-more, not-chunked}
 use Rattle.chunks.specs.Lists.{filled, stage-with, lent-with}
 use Rattle.vector.specs.Search.{some}
-use Rattle.answers.specs.Sound.{unsound}
+use Rattle.pair_correlations.specs.Sound.{unsound}
 use Rattle.chunks.specs.Powers.{correlationAt}
 use Rattle.chunks.specs.Sums.{Sums}
 use Rattle.sample.specs.Samples.{PlanOfSamples}

@@ -13,7 +13,7 @@ use Rattle.chunks.proofs.configuration.answer_signed.Statement.{stateme
 use Rattle.chunks.proofs.configuration.answer_signed.Tie as tie
 use Rattle.chunks.proofs.configuration.answer_signed.Reads as reads
 use Rattle.chunks.proofs.configuration.answer_signed.Lts as lts
-use Rattle.answers.proofs.answer_pairs.Reads as answer-pairs-reads
+use Rattle.pair_correlations.proofs.answer_pairs.Reads as answer-pairs-reads
 use Rattle.signed.proofs.lay_signed.Reads as lay-signed-reads
 use Rattle.sweeps.proofs.sweep.Reads as sweep-reads
 

@@ -6,7 +6,7 @@ use lib.ListN.{length, take}
 use lib.Seq.{length-take-le}
 use Rattle.transfer.specs.Job.{block, perElement}
 use Rattle.plan.specs.Layout.{Holds}
-use Rattle.answers.specs.Planning.{end-fits}
+use Rattle.pair_correlations.specs.Planning.{end-fits}
 use Rattle.lattice.specs.Graphs.{freeCount}
 use Rattle.planned.specs.Zeros.{zeros}
 use Rattle.totals.specs.Jobs.{jobEnumerated, unsoundEnumeration, storedCorrelations}

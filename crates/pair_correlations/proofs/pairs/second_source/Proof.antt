@@ -1,0 +1,51 @@
+-- Either the first pair again, or a direct one.
+use mathlib.Core.Path.{refl}
+use mathlib.Core.Logic.{inl, inr}
+use borrow.Author.Needs.{needs}
+use Rattle.pair_correlations.proofs.Answering.{pair-places}
+use Rattle.pair_correlations.proofs.pairs.second_source.Statement.{statement}
+use Rattle.pair_correlations.proofs.pairs.second_source.Tie as tie
+
+returns : tie.Need-returns
+returns c = inl (c .if1 .taken, refl)
+
+mul-a : tie.Need-mul-a
+mul-a c = search needs
+
+shared-slice-read-a : tie.Need-shared-slice-read-a
+shared-slice-read-a c = search needs
+
+mul-b : tie.Need-mul-b
+mul-b c = search needs
+
+shared-slice-read-b : tie.Need-shared-slice-read-b
+shared-slice-read-b c = search needs
+
+earlier-requires : tie.Need-earlier-requires
+earlier-requires c κs = search needs
+
+later-requires : tie.Need-later-requires
+later-requires c κs = search needs
+
+direct-source-requires : tie.Need-direct-source-requires
+direct-source-requires c κs =
+    let s = c .before .before .before .before .before .before .before .before in
+    (s .pre .0, rw (c .before .earlier .ensures, c .later .ensures) (pair-places _ _ _ _ _ _ (s .pre .1) (s .pre .2)))
+
+returns-2 : tie.Need-returns-2
+returns-2 c =
+    inr (c .before .before .before .before .before .if1 .left, rw (c .before .before .earlier .ensures, c .before .later .ensures) at (c .direct-source .ensures))
+
+pub second-source-spec : {M : Type 1} → statement M
+second-source-spec =
+    tie.close
+    (tie.spec
+    returns
+    mul-a
+    shared-slice-read-a
+    mul-b
+    shared-slice-read-b
+    earlier-requires
+    later-requires
+    direct-source-requires
+    returns-2)
