@@ -1,7 +1,7 @@
 // How the work memory is laid out, and how much of it a call needs.
 ghost use mathlib.Core.Path.{_≡_};
 ghost use mathlib.Core.Bool.{false};
-ghost use Prim.Native.Nat.{_^_, _<_, _≤_};
+ghost use Prim.Native.Nat.{_≤_};
 ghost use lib.ListN.{length};
 ghost use Rattle.transfer.specs.Job.{tooManyNear};
 ghost use Rattle.transfer.specs.Configuration.{numbered};
@@ -13,6 +13,7 @@ ghost use Rattle.places.specs.Work.{Laid, Planned};
 use crate::kept::count_places;
 use crate::kept::plan_places;
 use plan::plan_edges;
+use sweep::pow2;
 
 // The number of places, where the scales and the factors begin, and the room.
 pub struct Work {
@@ -20,14 +21,6 @@ pub struct Work {
     pub scales: usize,
     pub factors: usize,
     pub room: usize,
-}
-
-// 2 to the e.
-fn pow2(e: usize) -> usize
-    requires { ⌜ e < 64 ⌝ }
-    ensures { λ r. ⌜ r ≡ 2 ^ e ⌝ }
-{
-    1usize << e
 }
 
 // The places first, a vector of 2^w numbers each, then the scales of the vertices, then the factors of the m edges.
