@@ -13,7 +13,7 @@ use Rattle.vector.specs.Part.{put, part, part-at, part-put, part-put-out, put-l
 use Rattle.transfer.specs.Job.{Job}
 use Rattle.plan.specs.Layout.{backwardPlace}
 use Rattle.sweep.specs.Place.{held}
-use Rattle.vertex.specs.Same.{even-ext}
+use Rattle.vertex.specs.Same.{symmetric-ext}
 use Rattle.vertex.specs.Frame.{Fits, half-held}
 use Rattle.vertex.specs.Ready.{Ready, PlanOf, Backward, Swept, Still, still-swept}
 use Rattle.sweeps.specs.Begun.{Stands}
@@ -50,7 +50,7 @@ module _ (plan us vs : List ℕ) (x r r₁ r₂ r₃ results : List Float) (n w 
   laid-stands J given early =
       record {
         vectors = λ u a b p.
-            even-ext (given early .vectors u a b p) (half-held r r₁ w (backwardPlace plan u) (laid-held _ (g .backward .fits u b p)));
+            symmetric-ext (given early .vectors u a b p) (half-held r r₁ w (backwardPlace plan u) (laid-held _ (g .backward .fits u b p)));
       }
 
   pub told-of : (J : Job Float) → PlanOf J plan x n w each → Stands J plan r n w c → Outcome J us vs results sound × Backward J plan r₃ n w 0

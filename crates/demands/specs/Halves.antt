@@ -15,8 +15,8 @@ use Rattle.transfer.specs.Sweep as S
 use Rattle.transfer.specs.Checked.{Checked}
 use Rattle.bounds.specs.Bounds.{forward-finite, propagated-under}
 use Rattle.halves.specs.Alike.{Alike, same, zeros}
-use Rattle.halves.specs.Even.{Even}
-use Rattle.halves.specs.Odd.{Odd}
+use Rattle.halves.specs.Symmetric.{SymmetricHalf}
+use Rattle.halves.specs.Antisymmetric.{AntisymmetricHalf}
 
 -- the sign of a zero does not change its size
 alike-under : {x z y : Float} → Alike x z → Under x y → Under z y
@@ -29,7 +29,7 @@ module _ (J : Job Float) (checked : Checked (λ x. T (positive x)) J) (u v t j :
   entry-finite =
       forward-finite J checked v (u + t) inside (positive-finite (S.Z ieee J v) passed) j (omega (arith, pow-double (J .window) (checked .window)))
 
-  pub half-bounded : Odd (J .window) g (S.propagated ieee J u t) → Even (J .window) f (S.forward ieee J (u + t)) → T (le (abs (g j)) (f j))
+  pub half-bounded : AntisymmetricHalf (J .window) g (S.propagated ieee J u t) → SymmetricHalf (J .window) f (S.forward ieee J (u + t)) → T (le (abs (g j)) (f j))
   half-bounded odd even =
       subst (λ (y : Float). T (le (abs (g j)) y)) (even .low j low)
       (under-le (abs-under (alike-under (odd .low j low) (propagated-under J checked u t j))) entry-finite)

@@ -24,8 +24,8 @@ use Rattle.exactness.specs.Literal.{literalForward, literalPropagated, literalZ
 use Rattle.exactness.specs.Textbook.{partitionSum, textbook}
 use Rattle.bounds.specs.Bounds.{Answerable, correlation-bounded, propagated-bounded, literal-correlation-bounded, literal-propagated-bounded}
 use Rattle.pair_correlations.specs.Sound.{soundly, unsound, sound-positive}
-use Rattle.halves.specs.Even.{Even}
-use Rattle.halves.specs.Odd.{Odd}
+use Rattle.halves.specs.Symmetric.{SymmetricHalf}
+use Rattle.halves.specs.Antisymmetric.{AntisymmetricHalf}
 use Rattle.demands.specs.Halves.{half-bounded}
 
 -- From -1 to 1.
@@ -53,7 +53,7 @@ pub record Bounded (J : Job Float) (us vs : List ℕ) : Type 0 where
       → T (le (abs (S.at ieee (S.propagated ieee J (earlier us vs i) t) j)) (S.at ieee (S.forward ieee J (earlier us vs i + t)) j))
   -- and so it is of the lower halves g and f that stand for the two.
   pub half : (i : ℕ) → i < length us → (t j : ℕ) → earlier us vs i + t ≤ later us vs i → j < 2 ^ (J .window - 1)
-      → (g f : ℕ → Float) → Odd (J .window) g (S.propagated ieee J (earlier us vs i) t) → Even (J .window) f (S.forward ieee J (earlier us vs i + t))
+      → (g f : ℕ → Float) → AntisymmetricHalf (J .window) g (S.propagated ieee J (earlier us vs i) t) → SymmetricHalf (J .window) f (S.forward ieee J (earlier us vs i + t))
       → T (le (abs (g j)) (f j))
   -- Where no step is taken at vertex 0, of each pair whose Z is then finite and above zero: the same.
   pub literal-correlation : (i : ℕ) → i < length us → T (positive (literalZ ieee J (later us vs i)))

@@ -1,1 +1,1 @@
-mod BackwardTurn
+mod BackwardIteration

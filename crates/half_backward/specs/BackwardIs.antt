@@ -12,8 +12,8 @@ use Rattle.vector.specs.Tabulate.{tabulate, tabulate-ext}
 use Rattle.vector.specs.Part.{put}
 use Rattle.transfer.specs.Job.{Step}
 use Rattle.sweep.specs.Step.{Tables, Tabled}
-use Rattle.sweep.specs.Rule.{entries, weights, inTurn, mix, backwardRule}
-use Rattle.sweep.specs.Rules.{turn-even, turn-odd}
+use Rattle.sweep.specs.Rule.{entries, weights, alternating, mix, backwardRule}
+use Rattle.sweep.specs.Rules.{alternating-even, alternating-odd}
 use Rattle.sweep.specs.Tabled.{up-weight, down-weight}
 use Rattle.runs.specs.Patterns.{pattern-zero}
 use Rattle.runs.specs.Quarter.{half-is}
@@ -71,7 +71,7 @@ module _ (s : Step Float) (sc : Float) (t : Tables) (a : Tabled s sc t) (w : ℕ
   -- one entry, or two: those of the pattern 0
   abbrev few : ℕ → Float
   few =
-      inTurn (mix (t .ep) (t .em) (getD (t .up) 0 nan) (getD (t .down) 0 nan) (getD d src nan) (getD d (src + half - 1) nan))
+      alternating (mix (t .ep) (t .em) (getD (t .up) 0 nan) (getD (t .down) 0 nan) (getD d src nan) (getD d (src + half - 1) nan))
       (mix (t .em) (t .ep) (getD (t .up) 0 nan) (getD (t .down) 0 nan) (getD d src nan) (getD d (src + half - 1) nan))
 
   few-entry : 1 ≤ w → w ≤ 2 → (j : ℕ) → j < half → few j ≡ whole j
@@ -86,7 +86,7 @@ module _ (s : Step Float) (sc : Float) (t : Tables) (a : Tabled s sc t) (w : ℕ
       let i : src + half - 1 ≡ src = omega arith in
       rw (
         fold-one w s sc (entries d src) j b e,
-        turn-even _ _ j (omega arith),
+        alternating-even _ _ j (omega arith),
         i,
         zero,
         a .plus,
@@ -103,10 +103,10 @@ module _ (s : Step Float) (sc : Float) (t : Tables) (a : Tabled s sc t) (w : ℕ
       dite (decLt j 1)
       (λ c.
       let at : j ≡ 0 = omega arith in
-      rw (at, turn-even _ _ 0 refl, ← front (omega arith) 0 (omega arith), i, zero, p))
+      rw (at, alternating-even _ _ 0 refl, ← front (omega arith) 0 (omega arith), i, zero, p))
       (λ c.
       let at : j ≡ half - 1 - 0 = omega arith in
-      rw (turn-odd _ _ j (omega arith), at, ← end (omega arith) 0 (omega arith), i, zero, p)))
+      rw (alternating-odd _ _ j (omega arith), at, ← end (omega arith) 0 (omega arith), i, zero, p)))
 
   pub few-is : 1 ≤ w → w ≤ 2 → tabulate few half ≡ tabulate whole half
   few-is wide short = tabulate-ext few whole half (few-entry wide short)

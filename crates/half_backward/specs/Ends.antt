@@ -70,7 +70,7 @@ module _ {A : Type 0} where
         let x = fill-length d lo f n (omega arith) in
         fill-length (put d lo (tabulate f n)) (hi - n) (reversed n g) n (omega arith) ∙ x
 
-    -- a loop's turn: one element more at each end
+    -- a loop's iteration: one element more at each end
     pub ends-one : (k : ℕ) (a b : A) → lo + 2 * (k + 1) ≤ hi → hi ≤ length d → a ≡ f k → b ≡ g k
         → set (set (ends k) (lo + k) a) (hi - k - 1) b ≡ ends (k + 1)
     unfolding reversed

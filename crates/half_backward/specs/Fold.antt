@@ -13,7 +13,7 @@ use Rattle.transfer.specs.Sweep as S
 use Rattle.symmetry.specs.Flip.{Below}
 use Rattle.symmetry.specs.Entries.{lower}
 use Rattle.halves.specs.Half.{thereAndBack, there, backwardHalf}
-use Rattle.halves.specs.Even.{Even, even-ext, backward-even, backward-even-one}
+use Rattle.halves.specs.Symmetric.{SymmetricHalf, symmetric-ext, backward-half, backward-half-one}
 
 -- backward, from the half there and back: in a window of 1 its one entry stands for both of the pair
 abbrev pub backwardFold : ℕ → Step Float → Float → (ℕ → Float) → ℕ → Float
@@ -36,12 +36,12 @@ module _ (w : ℕ) (s : Step Float) (sc : Float) (h : ℕ → Float) (j : ℕ) (
       let z = pow-double (w - 1) (omega arith) in
       rw (there w (omega arith) h (2 * k) (omega arith), there w (omega arith) h (2 * k + 1) (omega arith))
 
--- it is the even half of the backward step's vector
-pub fold-even : (w : ℕ) (s : Step Float) (sc : Float) (h : ℕ → Float) (v : List Float) → 1 ≤ w → Below (w - 1) (s .others) → Even w h v
-    → Even w (backwardFold w s sc h) (S.backwardStep ieee w s sc v)
-fold-even w s sc h v wide low even =
+-- it is the symmetric half of the backward step's vector
+pub fold-symmetric : (w : ℕ) (s : Step Float) (sc : Float) (h : ℕ → Float) (v : List Float) → 1 ≤ w → Below (w - 1) (s .others) → SymmetricHalf w h v
+    → SymmetricHalf w (backwardFold w s sc h) (S.backwardStep ieee w s sc v)
+fold-symmetric w s sc h v wide low symmetric =
     dite (decLt w 2)
     (λ l.
     let e : w ≡ 1 = omega arith in
-    even-ext (backward-even-one w s sc h v wide low even e) (λ j b. fold-one w s sc h j b e))
-    (λ l. even-ext (backward-even w s sc h v wide low even (omega arith)) (λ j b. fold-wide w s sc h j b (omega arith)))
+    symmetric-ext (backward-half-one w s sc h v wide low symmetric e) (λ j b. fold-one w s sc h j b e))
+    (λ l. symmetric-ext (backward-half w s sc h v wide low symmetric (omega arith)) (λ j b. fold-wide w s sc h j b (omega arith)))

@@ -7,7 +7,7 @@ ghost use Rattle.vector.specs.Tabulate.{tabulate};
 ghost use Rattle.vector.specs.Part.{Apart, put};
 ghost use Rattle.transfer.specs.Job.{Step};
 ghost use Rattle.sweep.specs.Step.{Rising, Tabled, tables};
-ghost use Rattle.sweep.specs.Rule.{entries, weights, inTurn, backwardRule};
+ghost use Rattle.sweep.specs.Rule.{entries, weights, alternating, backwardRule};
 ghost use Rattle.sweep.specs.Place.{Places};
 ghost use Rattle.largest.specs.Larger.{larger};
 ghost use Rattle.largest.specs.Top.{top};
@@ -22,16 +22,16 @@ use runs::run_bit;
 use sweep::pattern_of;
 use sweep::pow2;
 
-// A run of n pairs, two a turn: source at s, targets from lo up and from below hi down. Neighbours are stored one after the other, so that
-// their stores are one. Answers the largest of the entries, each of a turn in a lane of its own.
+// A run of n pairs, two an iteration: source at s, targets from lo up and from below hi down. Neighbours are stored one after the other, so that
+// their stores are one. Returns the largest of the entries, each of an iteration in a lane of its own.
 fn backward_run(
     v: &mut [f64],
     s: usize,
     lo: usize,
     hi: usize,
     n: usize,
-    x: f64,
-    y: f64,
+    ep: f64,
+    em: f64,
     p0: f64,
     q0: f64,
     p1: f64,
@@ -39,11 +39,11 @@ fn backward_run(
 ) -> f64
     requires { ⌜ (n % 2 ≡ 0) × (lo + 2 * n ≤ hi) × Apart (length (now v)) s (2 * n) lo n × Apart (length (now v)) s (2 * n) (hi - n) n ⌝ }
     ensures { λ _. ⌜ now (v .exit) ≡ ends (now (v .entry)) lo hi
-        (backwardRule x y (inTurn p0 p1) (inTurn q0 q1) (entries (now (v .entry)) s))
-        (backwardRule y x (inTurn p0 p1) (inTurn q0 q1) (entries (now (v .entry)) s)) n ⌝ }
+        (backwardRule ep em (alternating p0 p1) (alternating q0 q1) (entries (now (v .entry)) s))
+        (backwardRule em ep (alternating p0 p1) (alternating q0 q1) (entries (now (v .entry)) s)) n ⌝ }
     ensures { λ r. ⌜ r ≡ larger
-        (top (backwardRule x y (inTurn p0 p1) (inTurn q0 q1) (entries (now (v .entry)) s)) n)
-        (top (backwardRule y x (inTurn p0 p1) (inTurn q0 q1) (entries (now (v .entry)) s)) n) ⌝ }
+        (top (backwardRule ep em (alternating p0 p1) (alternating q0 q1) (entries (now (v .entry)) s)) n)
+        (top (backwardRule em ep (alternating p0 p1) (alternating q0 q1) (entries (now (v .entry)) s)) n) ⌝ }
 {
     let mut m = no_entries();
     let mut i = 0usize;
@@ -53,10 +53,10 @@ fn backward_run(
         let s1 = v[s + 2 * i + 2] * p1;
         let t1 = v[s + 2 * i + 3] * q1;
         let r = Four {
-            a: x * s0 + y * t0,
-            b: x * s1 + y * t1,
-            c: y * s1 + x * t1,
-            d: y * s0 + x * t0,
+            a: ep * s0 + em * t0,
+            b: ep * s1 + em * t1,
+            c: em * s1 + ep * t1,
+            d: em * s0 + ep * t0,
         };
         v[lo + i] = r.a;
         v[lo + i + 1] = r.b;
@@ -68,7 +68,7 @@ fn backward_run(
     larger_of(larger_of(m.a, m.b), larger_of(m.d, m.c))
 }
 
-// The step from the half of 2 * 2 ^ g entries at src to that at dst, run by run. Answers its largest entry.
+// The step from the half of 2 * 2 ^ g entries at src to that at dst, run by run. Returns its largest entry.
 fn backward_runs(
     v: &mut [f64],
     src: usize,
@@ -123,7 +123,7 @@ fn backward_runs(
     most
 }
 
-// The backward step from the half at place src to place dst. Answers the largest entry of what it wrote.
+// The backward step from the half at place src to place dst. Returns the largest entry of what it wrote.
 pub fn half_backward(
     room: &mut [f64],
     src: usize,

@@ -1,1 +1,1 @@
-mod ForwardTurn
+mod ForwardIteration

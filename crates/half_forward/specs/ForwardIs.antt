@@ -10,21 +10,21 @@ use Rattle.vector.specs.Tabulate.{tabulate, tabulate-ext}
 use Rattle.vector.specs.Part.{put}
 use Rattle.transfer.specs.Job.{Step}
 use Rattle.sweep.specs.Step.{Tables, Tabled}
-use Rattle.sweep.specs.Rule.{entries, fromEnd, weights, inTurn, blend, forwardRule}
+use Rattle.sweep.specs.Rule.{entries, fromEnd, weights, alternating, blend, forwardRule}
 use Rattle.sweep.specs.Tabled.{up-weight, down-weight}
 use Rattle.runs.specs.Patterns.{pattern-zero}
 use Rattle.halves.specs.Half.{forwardHalf}
 
-module _ (s : Step Float) (sc : Float) (t : Tables) (a : Tabled s sc t) (w : ℕ) (turn : Float → Float) (d : List Float) (src : ℕ) where
+module _ (s : Step Float) (sc : Float) (t : Tables) (a : Tabled s sc t) (w : ℕ) (sign : Float → Float) (d : List Float) (src : ℕ) where
   abbrev half : ℕ
   half = 2 ^ (w - 1)
 
   abbrev whole : ℕ → Float
-  whole = forwardHalf w s sc turn (entries d src)
+  whole = forwardHalf w s sc sign (entries d src)
 
   abbrev made : ℕ → Float
   made =
-      forwardRule (t .ep) (turn (t .em)) (t .em) (turn (t .ep)) (weights (t .bits) (t .count) (t .up)) (weights (t .bits) (t .count) (t .down))
+      forwardRule (t .ep) (sign (t .em)) (t .em) (sign (t .ep)) (weights (t .bits) (t .count) (t .up)) (weights (t .bits) (t .count) (t .down))
       (entries d src) (fromEnd d src half)
 
   entry : (j : ℕ) → j < half → made j ≡ whole j
@@ -41,17 +41,17 @@ module _ (s : Step Float) (sc : Float) (t : Tables) (a : Tabled s sc t) (w : ℕ
   forward-filled r at e = e ∙ ap (put d at) forward-is
 
   -- one entry, or two: those of the pattern 0
-  abbrev few : (y u : Float) → ℕ → Float
-  few y u =
-      inTurn (blend (t .ep) y (getD (t .up) 0 nan) (getD d src nan) (getD d (src + half - 1) nan))
-      (blend (t .em) u (getD (t .down) 0 nan) (getD d src nan) (getD d (src + half - 1) nan))
+  abbrev few : (sem sep : Float) → ℕ → Float
+  few sem sep =
+      alternating (blend (t .ep) sem (getD (t .up) 0 nan) (getD d src nan) (getD d (src + half - 1) nan))
+      (blend (t .em) sep (getD (t .down) 0 nan) (getD d src nan) (getD d (src + half - 1) nan))
 
-  few-entry : (y u : Float) → y ≡ turn (t .em) → u ≡ turn (t .ep) → half ≤ 2 → (j : ℕ) → j < half → few y u j ≡ made j
-  unfolding inTurn forwardRule
-  few-entry y u p q l j b =
+  few-entry : (sem sep : Float) → sem ≡ sign (t .em) → sep ≡ sign (t .ep) → half ≤ 2 → (j : ℕ) → j < half → few sem sep j ≡ made j
+  unfolding alternating forwardRule
+  few-entry sem sep p q l j b =
       let k : j / 2 ≡ 0 = omega arith in
       let i : src + (half - 1 - 0) ≡ src + half - 1 = omega arith in
       rw (p, q, k, pattern-zero (t .bits) (t .count), add-zero src, i)
 
-  pub few-is : (y u : Float) → y ≡ turn (t .em) → u ≡ turn (t .ep) → half ≤ 2 → tabulate (few y u) half ≡ tabulate whole half
-  few-is y u p q l = rw (tabulate-ext (few y u) made half (few-entry y u p q l)) forward-is
+  pub few-is : (sem sep : Float) → sem ≡ sign (t .em) → sep ≡ sign (t .ep) → half ≤ 2 → tabulate (few sem sep) half ≡ tabulate whole half
+  few-is sem sep p q l = rw (tabulate-ext (few sem sep) made half (few-entry sem sep p q l)) forward-is

@@ -7,12 +7,12 @@ ghost use Rattle.vector.specs.Tabulate.{tabulate};
 ghost use Rattle.vector.specs.Part.{Apart, put};
 ghost use Rattle.transfer.specs.Job.{Step};
 ghost use Rattle.sweep.specs.Step.{Rising, Tabled, tables};
-ghost use Rattle.sweep.specs.Rule.{entries, fromEnd, weights, inTurn, forwardRule};
+ghost use Rattle.sweep.specs.Rule.{entries, fromEnd, weights, alternating, forwardRule};
 ghost use Rattle.sweep.specs.Place.{Places};
-ghost use Rattle.halves.specs.Half.{forwardHalf, turnOf};
+ghost use Rattle.halves.specs.Half.{forwardHalf, negatedIf};
 ghost use Rattle.largest.specs.Top.{top};
 use half_steps::store_few;
-use halves::turned;
+use halves::negated_if;
 use largest::Four;
 use largest::joined;
 use largest::larger_of;
@@ -21,18 +21,18 @@ use runs::run_bit;
 use sweep::pattern_of;
 use sweep::pow2;
 
-// A run of n pairs, two a turn: sources from a up and from b down, target at o. All of a turn is read before its first store, so that the
-// stores of a pair are one. Answers the largest of the entries, which are at hand here: each of a turn goes into a lane of its own.
+// A run of n pairs, two an iteration: sources from a up and from b down, target at o. All of an iteration is read before its first store, so that the
+// stores of a pair are one. Returns the largest of the entries: each of an iteration goes into a lane of its own.
 fn forward_run(
     v: &mut [f64],
     a: usize,
     b: usize,
     o: usize,
     n: usize,
-    x: f64,
-    y: f64,
-    z: f64,
-    u: f64,
+    ep: f64,
+    sem: f64,
+    em: f64,
+    sep: f64,
     p0: f64,
     q0: f64,
     p1: f64,
@@ -41,10 +41,10 @@ fn forward_run(
     requires { ⌜ (n % 2 ≡ 0) × (n ≤ b + 1) × Apart (length (now v)) a n o (2 * n) × Apart (length (now v)) (b + 1 - n) n o (2 * n) ⌝ }
     ensures { λ _. ⌜ now (v .exit) ≡ put (now (v .entry)) o
         (tabulate
-        (forwardRule x y z u (inTurn p0 p1) (inTurn q0 q1) (entries (now (v .entry)) a) (fromEnd (now (v .entry)) (b + 1 - n) n))
+        (forwardRule ep sem em sep (alternating p0 p1) (alternating q0 q1) (entries (now (v .entry)) a) (fromEnd (now (v .entry)) (b + 1 - n) n))
         (2 * n)) ⌝ }
     ensures { λ r. ⌜ r ≡ top
-        (forwardRule x y z u (inTurn p0 p1) (inTurn q0 q1) (entries (now (v .entry)) a) (fromEnd (now (v .entry)) (b + 1 - n) n))
+        (forwardRule ep sem em sep (alternating p0 p1) (alternating q0 q1) (entries (now (v .entry)) a) (fromEnd (now (v .entry)) (b + 1 - n) n))
         (2 * n) ⌝ }
 {
     let mut m = no_entries();
@@ -55,10 +55,10 @@ fn forward_run(
         let a1 = v[a + i + 1];
         let b1 = v[b - i - 1];
         let r = Four {
-            a: (x * a0 + y * b0) * p0,
-            b: (z * a0 + u * b0) * q0,
-            c: (x * a1 + y * b1) * p1,
-            d: (z * a1 + u * b1) * q1,
+            a: (ep * a0 + sem * b0) * p0,
+            b: (em * a0 + sep * b0) * q0,
+            c: (ep * a1 + sem * b1) * p1,
+            d: (em * a1 + sep * b1) * q1,
         };
         v[o + 2 * i] = r.a;
         v[o + 2 * i + 1] = r.b;
@@ -70,16 +70,16 @@ fn forward_run(
     larger_of(larger_of(m.a, m.c), larger_of(m.b, m.d))
 }
 
-// The step from the half of 2 * 2 ^ g entries at src to that at dst, run by run. Answers its largest entry.
+// The step from the half of 2 * 2 ^ g entries at src to that at dst, run by run. Returns its largest entry.
 fn forward_runs(
     v: &mut [f64],
     src: usize,
     dst: usize,
     g: usize,
-    x: f64,
-    y: f64,
-    z: f64,
-    u: f64,
+    ep: f64,
+    sem: f64,
+    em: f64,
+    sep: f64,
     bits: &[usize; 4],
     n: usize,
     up: &[f64; 16],
@@ -88,7 +88,7 @@ fn forward_runs(
     requires { ⌜ (1 ≤ g) × (g < 23) × Apart (length (now v)) src (2 * 2 ^ g) dst (2 * 2 ^ g) × Rising (now bits) n (g + 1) ⌝ }
     ensures { λ _. ⌜ now (v .exit) ≡ put (now (v .entry)) dst
         (tabulate
-        (forwardRule x y z u (weights (now (bits .entry)) n (now (up .entry))) (weights (now (bits .entry)) n (now (down .entry)))
+        (forwardRule ep sem em sep (weights (now (bits .entry)) n (now (up .entry))) (weights (now (bits .entry)) n (now (down .entry)))
         (entries (now (v .entry)) src) (fromEnd (now (v .entry)) src (2 * 2 ^ g)))
         (2 * 2 ^ g)) ⌝ }
     ensures { λ r. ⌜ r ≡ top (entries (now (v .exit)) dst) (2 * 2 ^ g) ⌝ }
@@ -113,10 +113,10 @@ fn forward_runs(
             last - k,
             dst + 2 * k,
             size,
-            x,
-            y,
-            z,
-            u,
+            ep,
+            sem,
+            em,
+            sep,
             p0,
             q0,
             p1,
@@ -128,7 +128,7 @@ fn forward_runs(
     most
 }
 
-// The forward step from the half at place src to place dst: from an even half, or from an odd one. Answers the largest entry of what it
+// The forward step from the half at place src to place dst: from a symmetric half, or from an antisymmetric one. Returns the largest entry of what it
 // wrote.
 pub fn half_forward(
     room: &mut [f64],
@@ -137,7 +137,7 @@ pub fn half_forward(
     w: usize,
     ep: f64,
     em: f64,
-    odd: bool,
+    antisymmetric: bool,
     bits: &[usize; 4],
     count: usize,
     up: &[f64; 16],
@@ -147,21 +147,27 @@ pub fn half_forward(
     ensures { λ _. ⌜ ((s : Step Float) (sc : Float)
         → Tabled s sc (tables count ep em (now (bits .entry)) (now (up .entry)) (now (down .entry)))
         → now (room .exit) ≡ put (now (room .entry)) (dst * 2 ^ w)
-        (tabulate (forwardHalf w s sc (turnOf odd) (entries (now (room .entry)) (src * 2 ^ w))) (2 ^ (w - 1)))) ⌝ }
+        (tabulate (forwardHalf w s sc (negatedIf antisymmetric) (entries (now (room .entry)) (src * 2 ^ w))) (2 ^ (w - 1)))) ⌝ }
     ensures { λ r. ⌜ r ≡ top (entries (now (room .exit)) (dst * 2 ^ w)) (2 ^ (w - 1)) ⌝ }
 {
     let size = pow2(w);
     let s = src * size;
     let o = dst * size;
-    let y = turned(odd, em);
-    let u = turned(odd, ep);
+    let sem = negated_if(antisymmetric, em);
+    let sep = negated_if(antisymmetric, ep);
     if w > 2 {
-        return forward_runs(room, s, o, w - 2, ep, y, em, u, bits, count, up, down);
+        return forward_runs(room, s, o, w - 2, ep, sem, em, sep, bits, count, up, down);
     }
     let half = pow2(w - 1);
     let a = room[s];
     let b = room[s + half - 1];
     let p = up[0];
     let q = down[0];
-    store_few(room, o, half, (ep * a + y * b) * p, (em * a + u * b) * q)
+    store_few(
+        room,
+        o,
+        half,
+        (ep * a + sem * b) * p,
+        (em * a + sep * b) * q,
+    )
 }

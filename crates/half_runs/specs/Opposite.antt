@@ -10,19 +10,19 @@ use lib.Pow.{pow-add}
 use lib.ListN.{getD}
 use lib.Ieee.{Float, nan}
 use Rattle.sweep.specs.Step.{patternBy}
-use Rattle.sweep.specs.Rule.{weights, inTurn}
-use Rattle.sweep.specs.Rules.{turn-even, turn-odd}
+use Rattle.sweep.specs.Rule.{weights, alternating}
+use Rattle.sweep.specs.Rules.{alternating-even, alternating-odd}
 use Rattle.runs.specs.declared.Four.{Four}
 use Rattle.runs.specs.AtRun.{Runs, TwoRuns, AtRun, run-size, run-even, run-inside, run-16}
 use Rattle.runs.specs.RunWeights.{run-weight}
 use Rattle.half_runs.specs.Rule.{endWeights, Opposed}
 
--- by turns, from the other end
-turn-back : (p q : Float) (n i : ℕ) → n % 2 ≡ 0 → i < n → inTurn p q (n - 1 - i) ≡ inTurn q p i
-turn-back p q n i ev b =
+-- alternately, from the other end
+alternating-back : (p q : Float) (n i : ℕ) → n % 2 ≡ 0 → i < n → alternating p q (n - 1 - i) ≡ alternating q p i
+alternating-back p q n i ev b =
     dite (decLt (i % 2) 1)
-    (λ l. rw (turn-odd p q (n - 1 - i) (omega arith), turn-even q p i (omega arith)))
-    (λ l. rw (turn-even p q (n - 1 - i) (omega arith), turn-odd q p i (omega arith)))
+    (λ l. rw (alternating-odd p q (n - 1 - i) (omega arith), alternating-even q p i (omega arith)))
+    (λ l. rw (alternating-even p q (n - 1 - i) (omega arith), alternating-odd q p i (omega arith)))
 
 -- t and x of c blocks of n, and one
 multiples : (c t x n : ℕ) → c ≡ t + x + 1 → c * n ≡ t * n + x * n + n
@@ -64,11 +64,11 @@ module _ {l : List ℕ} {n : ℕ} {l′ : List ℕ} {n′ g h e end quarter size
 
   -- the weights of the run, and those of its opposite from the end
   module _ (table : List Float) (f : Four) (i m t : ℕ) (b : i < size) (o : Opposed table m t one f) where
-    pub run-is : m ≡ patternBy l n k → inTurn (f .first) (f .third) i ≡ weights l n table (k + i)
+    pub run-is : m ≡ patternBy l n k → alternating (f .first) (f .third) i ≡ weights l n table (k + i)
     run-is p = rw (o .first, o .third) (run-weight (r .first) a m p table i b)
 
-    pub opposite-is : t ≡ patternBy l n (quarter - k - size) → inTurn (f .second) (f .fourth) i ≡ endWeights h l n table (k + i)
+    pub opposite-is : t ≡ patternBy l n (quarter - k - size) → alternating (f .second) (f .fourth) i ≡ endWeights h l n table (k + i)
     opposite-is p =
         let z : quarter - k - size + (size - 1 - i) ≡ 2 ^ h - 1 - (k + i) = omega (arith, run-inside r a under, r .whole) in
-        rw (o .second, o .fourth, ← turn-back (getD table t nan) (getD table (t + one) nan) size i (run-even all) b, ← z)
+        rw (o .second, o .fourth, ← alternating-back (getD table t nan) (getD table (t + one) nan) size i (run-even all) b, ← z)
         (run-weight all opposite t p table (size - 1 - i) (omega arith))

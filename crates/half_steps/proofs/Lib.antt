@@ -1,2 +1,2 @@
-mod FewTurn
-mod AlternateTurn
+mod FewIteration
+mod AlternateIteration

@@ -6,10 +6,10 @@ ghost use Rattle.vector.specs.Tabulate.{tabulate};
 ghost use Rattle.vector.specs.Part.{Apart, put};
 ghost use Rattle.sweep.specs.Rule.{entries};
 ghost use Rattle.sweep.specs.Place.{Places};
-ghost use Rattle.halves.specs.Odd.{alternateHalf};
+ghost use Rattle.halves.specs.Antisymmetric.{alternateHalf};
 use sweep::pow2;
 
-// n entries from s to o, two a turn.
+// n entries from s to o, two an iteration.
 fn alternate_run(v: &mut [f64], s: usize, o: usize, n: usize)
     requires { ⌜ (n % 2 ≡ 0) × Apart (length (now v)) s n o n ⌝ }
     ensures { λ _. ⌜ now (v .exit) ≡ put (now (v .entry)) o (tabulate (alternateHalf (entries (now (v .entry)) s)) n) ⌝ }

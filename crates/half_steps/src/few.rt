@@ -4,14 +4,14 @@ ghost use Prim.Native.Nat.{_+_, _≤_};
 ghost use lib.ListN.{length};
 ghost use Rattle.vector.specs.Tabulate.{tabulate};
 ghost use Rattle.vector.specs.Part.{put};
-ghost use Rattle.sweep.specs.Rule.{entries, inTurn};
+ghost use Rattle.sweep.specs.Rule.{entries, alternating};
 ghost use Rattle.largest.specs.Top.{top};
 use largest::larger_of;
 
-// The one entry of a half, or its two. Answers the larger.
+// The one entry of a half, or its two. Returns the larger.
 pub fn store_few(v: &mut [f64], dst: usize, half: usize, a: f64, b: f64) -> f64
     requires { ⌜ (1 ≤ half) × (half ≤ 2) × (dst + half ≤ length (now v)) ⌝ }
-    ensures { λ _. ⌜ now (v .exit) ≡ put (now (v .entry)) dst (tabulate (inTurn a b) half) ⌝ }
+    ensures { λ _. ⌜ now (v .exit) ≡ put (now (v .entry)) dst (tabulate (alternating a b) half) ⌝ }
     ensures { λ r. ⌜ r ≡ top (entries (now (v .exit)) dst) half ⌝ }
 {
     v[dst] = a;

@@ -16,7 +16,7 @@ use Rattle.half_runs.specs.Rule.{endWeights, Opposed}
 use Rattle.half_runs.specs.Opposite.{run-is, opposite-is}
 use Rattle.half_stride_backward.specs.Rule.{frontTwice, endTwice, backward-same, end-same}
 use Rattle.half_stride_backward.specs.Inward.{Parts, inward, inward-run, inward-apart}
-use Rattle.half_stride_backward.proofs.BackwardTurn.{frontRun, endRun}
+use Rattle.half_stride_backward.proofs.BackwardIteration.{frontRun, endRun}
 
 -- what both steps make from the half at src of d, from pairs at the front and from pairs at the end
 abbrev pub frontStep : (x y z u : Float) (l : List ℕ) (n : ℕ) (up down : List Float) (l′ : List ℕ) (n′ : ℕ) (up′ down′ : List Float) (h src : ℕ)
@@ -113,12 +113,12 @@ module _ {l : List ℕ} {n : ℕ} {l′ : List ℕ} {n′ part h e end quarter s
           end-same x y u z _ _ _ _ _ _ _ _ _ _ i (k + i) (opposite-is r a under up p i m t b ps at-t) (opposite-is r a under down q i m t b qs at-t)
           (later u z (2 * i) _ (omega arith) (omega arith)) (later u z (2 * i + 1) _ (omega arith) (omega arith))
 
-      pub runs-turn : (v′ : List Float)
+      pub runs-iteration : (v′ : List Float)
           → v′ ≡ inward v (dst + k) (dst + (quarter - k - size)) (dst + quarter + k) (dst + quarter + (quarter - k - size))
           (frontRun x y z u p q f g (src + 4 * k) v) (endRun x y z u p q f g (src + 4 * k) v)
           (endRun y x z u p q f g (src + 4 * k) v) (frontRun y x z u p q f g (src + 4 * k) v) size
           → v′ ≡ so-far (k + size)
-      runs-turn v′ w =
+      runs-iteration v′ w =
           let fits = ends in
           let whole = r .whole in
           let to = off .to in

@@ -1,3 +1,3 @@
 -- Laws that the proofs share.
-mod BackwardTurn
+mod BackwardIteration
 mod BackwardRuns

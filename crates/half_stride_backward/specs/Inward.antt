@@ -158,7 +158,7 @@ module _ {A : Type 0} where
         ∙ ap (λ (r : List A). put r (e + n) K) (fill-run Y c h h′ m n (omega arith) ph))
         ∙ fill-before Z e k k′ m n (omega arith) pk
 
-  -- a turn: two elements more of each, the stores of each part one behind the other
+  -- an iteration: two elements more of each, the stores of each part one behind the other
   module _ (d : List A) (a b c e : ℕ) (f g h k : ℕ → A) (n : ℕ) (v : List A) (s : Parts (length d) a b c e (n + 2))
       (w : v ≡ inward d a (b + 2) c (e + 2) f g h k n) (f₀ f₁ g₀ g₁ h₀ h₁ k₀ k₁ : A) where
     pub inward-two : (at-b at-b′ at-e at-e′ : ℕ) → at-b ≡ b → at-b′ ≡ b + 1 → at-e ≡ e → at-e′ ≡ e + 1

@@ -7,7 +7,7 @@ ghost use Rattle.vector.specs.Tabulate.{tabulate};
 ghost use Rattle.vector.specs.Part.{Apart};
 ghost use Rattle.transfer.specs.Job.{Step};
 ghost use Rattle.sweep.specs.Step.{Rising, Tabled, tables};
-ghost use Rattle.sweep.specs.Rule.{entries, weights, inTurn};
+ghost use Rattle.sweep.specs.Rule.{entries, weights, alternating};
 ghost use Rattle.sweep.specs.Place.{Places, hold};
 ghost use Rattle.halves.specs.Half.{backwardHalf};
 ghost use Rattle.runs.specs.Rule.{inFour};
@@ -21,7 +21,7 @@ use runs::runs_of;
 use sweep::pattern_of;
 use sweep::pow2;
 
-// A run of n places, two a turn: source at s; targets at a and c, and counted from their end at b and d. Neighbours are stored one after
+// A run of n places, two an iteration: source at s; targets at a and c, and counted from their end at b and d. Neighbours are stored one after
 // the other.
 fn backward_run(
     v: &mut [f64],
@@ -31,10 +31,10 @@ fn backward_run(
     c: usize,
     d: usize,
     n: usize,
-    x: f64,
-    y: f64,
-    z: f64,
-    u: f64,
+    ep: f64,
+    em: f64,
+    ep2: f64,
+    em2: f64,
     p: Four,
     q: Four,
     e: Four,
@@ -43,13 +43,13 @@ fn backward_run(
     requires { ⌜ (n % 2 ≡ 0) × Parts (length (now v)) a b c d n × Apart (length (now v)) s (4 * n) a n
         × Apart (length (now v)) s (4 * n) b n × Apart (length (now v)) s (4 * n) c n × Apart (length (now v)) s (4 * n) d n ⌝ }
     ensures { λ _. ⌜ now (v .exit) ≡ inward (now (v .entry)) a b c d
-        (frontTwice x y z u (inTurn (p .first) (p .third)) (inTurn (q .first) (q .third))
+        (frontTwice ep em ep2 em2 (alternating (p .first) (p .third)) (alternating (q .first) (q .third))
         (inFour (e .first) (e .second) (e .third) (e .fourth)) (inFour (f .first) (f .second) (f .third) (f .fourth)) (entries (now (v .entry)) s))
-        (endTwice x y u z (inTurn (p .second) (p .fourth)) (inTurn (q .second) (q .fourth))
+        (endTwice ep em em2 ep2 (alternating (p .second) (p .fourth)) (alternating (q .second) (q .fourth))
         (inFour (e .first) (e .second) (e .third) (e .fourth)) (inFour (f .first) (f .second) (f .third) (f .fourth)) (entries (now (v .entry)) s))
-        (endTwice y x u z (inTurn (p .second) (p .fourth)) (inTurn (q .second) (q .fourth))
+        (endTwice em ep em2 ep2 (alternating (p .second) (p .fourth)) (alternating (q .second) (q .fourth))
         (inFour (e .first) (e .second) (e .third) (e .fourth)) (inFour (f .first) (f .second) (f .third) (f .fourth)) (entries (now (v .entry)) s))
-        (frontTwice y x z u (inTurn (p .first) (p .third)) (inTurn (q .first) (q .third))
+        (frontTwice em ep ep2 em2 (alternating (p .first) (p .third)) (alternating (q .first) (q .third))
         (inFour (e .first) (e .second) (e .third) (e .fourth)) (inFour (f .first) (f .second) (f .third) (f .fourth)) (entries (now (v .entry)) s)) n ⌝ }
 {
     let Four {
@@ -87,22 +87,22 @@ fn backward_run(
         let b1 = v[s + 4 * i + 5] * f2;
         let c1 = v[s + 4 * i + 6] * e3;
         let d1 = v[s + 4 * i + 7] * f3;
-        let k0 = (z * a0 + u * b0) * p0;
-        let k1 = (z * a1 + u * b1) * p2;
-        let l0 = (z * c0 + u * d0) * q0;
-        let l1 = (z * c1 + u * d1) * q2;
-        let m0 = (u * a0 + z * b0) * q1;
-        let m1 = (u * a1 + z * b1) * q3;
-        let n0 = (u * c0 + z * d0) * p1;
-        let n1 = (u * c1 + z * d1) * p3;
-        v[a + i] = x * k0 + y * l0;
-        v[a + i + 1] = x * k1 + y * l1;
-        v[b + r - 2] = x * n1 + y * m1;
-        v[b + r - 1] = x * n0 + y * m0;
-        v[c + i] = y * n0 + x * m0;
-        v[c + i + 1] = y * n1 + x * m1;
-        v[d + r - 2] = y * k1 + x * l1;
-        v[d + r - 1] = y * k0 + x * l0;
+        let k0 = (ep2 * a0 + em2 * b0) * p0;
+        let k1 = (ep2 * a1 + em2 * b1) * p2;
+        let l0 = (ep2 * c0 + em2 * d0) * q0;
+        let l1 = (ep2 * c1 + em2 * d1) * q2;
+        let m0 = (em2 * a0 + ep2 * b0) * q1;
+        let m1 = (em2 * a1 + ep2 * b1) * q3;
+        let n0 = (em2 * c0 + ep2 * d0) * p1;
+        let n1 = (em2 * c1 + ep2 * d1) * p3;
+        v[a + i] = ep * k0 + em * l0;
+        v[a + i + 1] = ep * k1 + em * l1;
+        v[b + r - 2] = ep * n1 + em * m1;
+        v[b + r - 1] = ep * n0 + em * m0;
+        v[c + i] = em * n0 + ep * m0;
+        v[c + i + 1] = em * n1 + ep * m1;
+        v[d + r - 2] = em * k1 + ep * l1;
+        v[d + r - 1] = em * k0 + ep * l0;
         i += 2;
     }
 }
@@ -113,14 +113,14 @@ fn backward_runs(
     src: usize,
     dst: usize,
     h: usize,
-    x: f64,
-    y: f64,
+    ep: f64,
+    em: f64,
     bits: &[usize; 4],
     n: usize,
     up: &[f64; 16],
     down: &[f64; 16],
-    z: f64,
-    u: f64,
+    ep2: f64,
+    em2: f64,
     bits2: &[usize; 4],
     n2: usize,
     up2: &[f64; 16],
@@ -129,13 +129,13 @@ fn backward_runs(
     requires { ⌜ (2 ≤ h) × (h < 23) × Apart (length (now v)) src (2 * 2 ^ h) dst (2 * 2 ^ h) × Rising (now bits) n (h + 1)
         × Rising (now bits2) n2 (h + 1) ⌝ }
     ensures { λ _. ⌜ now (v .exit) ≡ inward (now (v .entry)) dst (dst + 2 ^ (h - 1)) (dst + 2 ^ h) (dst + 2 ^ h + 2 ^ (h - 1))
-        (frontTwice x y z u (weights (now (bits .entry)) n (now (up .entry))) (weights (now (bits .entry)) n (now (down .entry)))
+        (frontTwice ep em ep2 em2 (weights (now (bits .entry)) n (now (up .entry))) (weights (now (bits .entry)) n (now (down .entry)))
         (weights (now (bits2 .entry)) n2 (now (up2 .entry))) (weights (now (bits2 .entry)) n2 (now (down2 .entry))) (entries (now (v .entry)) src))
-        (endTwice x y u z (endWeights h (now (bits .entry)) n (now (up .entry))) (endWeights h (now (bits .entry)) n (now (down .entry)))
+        (endTwice ep em em2 ep2 (endWeights h (now (bits .entry)) n (now (up .entry))) (endWeights h (now (bits .entry)) n (now (down .entry)))
         (weights (now (bits2 .entry)) n2 (now (up2 .entry))) (weights (now (bits2 .entry)) n2 (now (down2 .entry))) (entries (now (v .entry)) src))
-        (endTwice y x u z (endWeights h (now (bits .entry)) n (now (up .entry))) (endWeights h (now (bits .entry)) n (now (down .entry)))
+        (endTwice em ep em2 ep2 (endWeights h (now (bits .entry)) n (now (up .entry))) (endWeights h (now (bits .entry)) n (now (down .entry)))
         (weights (now (bits2 .entry)) n2 (now (up2 .entry))) (weights (now (bits2 .entry)) n2 (now (down2 .entry))) (entries (now (v .entry)) src))
-        (frontTwice y x z u (weights (now (bits .entry)) n (now (up .entry))) (weights (now (bits .entry)) n (now (down .entry)))
+        (frontTwice em ep ep2 em2 (weights (now (bits .entry)) n (now (up .entry))) (weights (now (bits .entry)) n (now (down .entry)))
         (weights (now (bits2 .entry)) n2 (now (up2 .entry))) (weights (now (bits2 .entry)) n2 (now (down2 .entry))) (entries (now (v .entry)) src))
         (2 ^ (h - 1)) ⌝ }
 {
@@ -165,10 +165,10 @@ fn backward_runs(
             o + k,
             o + t,
             size,
-            x,
-            y,
-            z,
-            u,
+            ep,
+            em,
+            ep2,
+            em2,
             p,
             q,
             f,

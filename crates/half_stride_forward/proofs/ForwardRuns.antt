@@ -8,7 +8,7 @@ use lib.Ieee.{Float, nan}
 use Rattle.vector.specs.Tabulate.{tabulate}
 use Rattle.vector.specs.Part.{Apart, apart-within, put, fill-run, read-apart}
 use Rattle.sweep.specs.Step.{patternBy}
-use Rattle.sweep.specs.Rule.{entries, fromEnd, weights, inTurn, forwardRule}
+use Rattle.sweep.specs.Rule.{entries, fromEnd, weights, alternating, forwardRule}
 use Rattle.sweep.specs.Rules.{rule-from}
 use Rattle.runs.specs.declared.Four.{Four}
 use Rattle.runs.specs.Rule.{Picked}
@@ -17,13 +17,13 @@ use Rattle.runs.specs.AtRun.{TwoRuns, AtRun, run-ends}
 use Rattle.half_runs.specs.Rule.{endWeights, Opposed}
 use Rattle.half_runs.specs.Opposite.{run-is, opposite-is}
 use Rattle.half_stride_forward.specs.Rule.{halfTwice}
-use Rattle.half_stride_forward.proofs.ForwardTurn.{runRule}
+use Rattle.half_stride_forward.proofs.ForwardIteration.{runRule}
 
 -- what both steps make from the half at src of d
-abbrev pub stepRule : (x y u z x₂ y₂ u₂ z₂ : Float) (l : List ℕ) (n : ℕ) (up down : List Float) (l′ : List ℕ) (n′ : ℕ) (up′ down′ : List Float)
+abbrev pub stepRule : (ep sem em sep ep₂ sem₂ em₂ sep₂ : Float) (l : List ℕ) (n : ℕ) (up down : List Float) (l′ : List ℕ) (n′ : ℕ) (up′ down′ : List Float)
     (h src : ℕ) (d : List Float) → ℕ → Float
-stepRule x y u z x₂ y₂ u₂ z₂ l n up down l′ n′ up′ down′ h src d =
-    halfTwice x y u z x₂ y₂ u₂ z₂ (weights l n up) (weights l n down) (endWeights h l n up) (endWeights h l n down)
+stepRule ep sem em sep ep₂ sem₂ em₂ sep₂ l n up down l′ n′ up′ down′ h src d =
+    halfTwice ep sem em sep ep₂ sem₂ em₂ sep₂ (weights l n up) (weights l n down) (endWeights h l n up) (endWeights h l n down)
     (weights l′ n′ up′) (weights l′ n′ down′)
     (entries d src) (fromEnd d src (2 * 2 ^ h)) (entries d (src + 2 ^ h)) (fromEnd d src (2 ^ h))
 
@@ -43,16 +43,16 @@ module _ {l : List ℕ} {n : ℕ} {l′ : List ℕ} {n′ part h e end quarter s
       )
 
   -- a run is the next entries of both steps
-  module _ (x y u z x₂ y₂ u₂ z₂ : Float) (up down up′ down′ : List Float) (p q f g : Four) (m t m′ src dst : ℕ) (d v : List Float)
+  module _ (ep sem em sep ep₂ sem₂ em₂ sep₂ : Float) (up down up′ down′ : List Float) (p q f g : Four) (m t m′ src dst : ℕ) (d v : List Float)
       (at-k : m ≡ patternBy l n k) (at-t : t ≡ patternBy l n (quarter - k - size)) (at-2k : m′ ≡ patternBy l′ n′ (2 * k))
       (ps : Opposed up m t one p) (qs : Opposed down m t one q) (fs : Picked up′ m′ low two f) (gs : Picked down′ m′ low two g)
       (off : Apart (length d) src (2 * 2 ^ h) dst (2 * 2 ^ h)) where
     abbrev step : ℕ → Float
-    step = stepRule x y u z x₂ y₂ u₂ z₂ l n up down l′ n′ up′ down′ h src d
+    step = stepRule ep sem em sep ep₂ sem₂ em₂ sep₂ l n up down l′ n′ up′ down′ h src d
 
     abbrev run : ℕ → Float
     run =
-        runRule x y u z x₂ y₂ u₂ z₂ p q f g (src + k) (src + quarter + (quarter - k - size)) (src + quarter + k) (src + (quarter - k - size)) size v
+        runRule ep sem em sep ep₂ sem₂ em₂ sep₂ p q f g (src + k) (src + quarter + (quarter - k - size)) (src + quarter + k) (src + (quarter - k - size)) size v
 
     module _ (filled : v ≡ put d dst (tabulate step (4 * k))) where
       kept : (o s s′ : ℕ) → o < 2 * 2 ^ h → s ≡ src + o → s′ ≡ src + o → getD v s nan ≡ getD d s′ nan
@@ -63,26 +63,26 @@ module _ {l : List ℕ} {n : ℕ} {l′ : List ℕ} {n′ part h e end quarter s
       ends = run-ends (r .first) a under
 
       front-run : (i : ℕ) → i < 2 * size
-          → forwardRule x y u z (inTurn (p .first) (p .third)) (inTurn (q .first) (q .third)) (entries v (src + k))
+          → forwardRule ep sem em sep (alternating (p .first) (p .third)) (alternating (q .first) (q .third)) (entries v (src + k))
           (fromEnd v (src + quarter + (quarter - k - size)) size) i
-          ≡ forwardRule x y u z (weights l n up) (weights l n down) (entries d src) (fromEnd d src (2 * 2 ^ h)) (2 * k + i)
+          ≡ forwardRule ep sem em sep (weights l n up) (weights l n down) (entries d src) (fromEnd d src (2 * 2 ^ h)) (2 * k + i)
       front-run i b =
           let fits = ends in
           let w = r .whole in
-          rule-from x y u z _ _ _ _ _ _ _ _ k size i b (λ j c. run-is r a under up p j m t c ps at-k) (λ j c. run-is r a under down q j m t c qs at-k)
+          rule-from ep sem em sep _ _ _ _ _ _ _ _ k size i b (λ j c. run-is r a under up p j m t c ps at-k) (λ j c. run-is r a under down q j m t c qs at-k)
           (λ j c. kept (k + j) (src + k + j) (src + (k + j)) (omega arith) (omega arith) (omega arith))
           (λ j c.
           kept (2 * 2 ^ h - 1 - (k + j)) (src + quarter + (quarter - k - size) + (size - 1 - j)) (src + (2 * 2 ^ h - 1 - (k + j)))
           (omega arith) (omega arith) (omega arith))
 
       back-run : (i : ℕ) → i < 2 * size
-          → forwardRule u z x y (inTurn (q .second) (q .fourth)) (inTurn (p .second) (p .fourth)) (fromEnd v (src + (quarter - k - size)) size)
+          → forwardRule em sep ep sem (alternating (q .second) (q .fourth)) (alternating (p .second) (p .fourth)) (fromEnd v (src + (quarter - k - size)) size)
           (entries v (src + quarter + k)) i
-          ≡ forwardRule u z x y (endWeights h l n down) (endWeights h l n up) (fromEnd d src (2 ^ h)) (entries d (src + 2 ^ h)) (2 * k + i)
+          ≡ forwardRule em sep ep sem (endWeights h l n down) (endWeights h l n up) (fromEnd d src (2 ^ h)) (entries d (src + 2 ^ h)) (2 * k + i)
       back-run i b =
           let fits = ends in
           let w = r .whole in
-          rule-from u z x y _ _ _ _ _ _ _ _ k size i b (λ j c. opposite-is r a under down q j m t c qs at-t) (λ j c. opposite-is r a under up p j m t c ps at-t)
+          rule-from em sep ep sem _ _ _ _ _ _ _ _ k size i b (λ j c. opposite-is r a under down q j m t c qs at-t) (λ j c. opposite-is r a under up p j m t c ps at-t)
           (λ j c.
           kept (2 ^ h - 1 - (k + j)) (src + (quarter - k - size) + (size - 1 - j)) (src + (2 ^ h - 1 - (k + j))) (omega arith) (omega arith) (omega arith))
           (λ j c. kept (2 ^ h + (k + j)) (src + quarter + k + j) (src + 2 ^ h + (k + j)) (omega arith) (omega arith) (omega arith))
@@ -91,11 +91,11 @@ module _ {l : List ℕ} {n : ℕ} {l′ : List ℕ} {n′ part h e end quarter s
       same j b =
           let e : 4 * k + j ≡ 2 * (2 * k) + j = omega arith in
           rw e
-          (rule-from x₂ y₂ u₂ z₂ _ _ _ _ _ _ _ _ (2 * k) (2 * size) j (omega arith)
+          (rule-from ep₂ sem₂ em₂ sep₂ _ _ _ _ _ _ _ _ (2 * k) (2 * size) j (omega arith)
           (λ i c. second-is r a up′ f i m′ c at-2k fs) (λ i c. second-is r a down′ g i m′ c at-2k gs) front-run back-run)
 
-      pub runs-turn : (v′ : List Float) → v′ ≡ put v (dst + 4 * k) (tabulate run (4 * size)) → v′ ≡ put d dst (tabulate step (4 * (k + size)))
-      runs-turn v′ w =
+      pub runs-iteration : (v′ : List Float) → v′ ≡ put v (dst + 4 * k) (tabulate run (4 * size)) → v′ ≡ put d dst (tabulate step (4 * (k + size)))
+      runs-iteration v′ w =
           let fits = ends in
           let e : 4 * (k + size) ≡ 4 * k + 4 * size = omega arith in
           w ∙ ap (λ (s : List Float). put s (dst + 4 * k) (tabulate run (4 * size))) filled

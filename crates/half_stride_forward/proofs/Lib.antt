@@ -1,4 +1,4 @@
 -- Laws that the proofs share.
 mod Rules
-mod ForwardTurn
+mod ForwardIteration
 mod ForwardRuns

@@ -22,31 +22,31 @@ pub record At (p q r s e f a b c d : ℕ → Float) (i : ℕ) (p′ q′ r′ s�
   pub c-is : c i ≡ c′
   pub d-is : d i ≡ d′
 
-module _ (x y u z x₂ y₂ u₂ z₂ : Float) {p q r s e f a b c d : ℕ → Float} {i : ℕ} {p′ q′ r′ s′ e₀ e₁ f₀ f₁ a′ b′ c′ d′ : Float}
+module _ (ep sem em sep ep₂ sem₂ em₂ sep₂ : Float) {p q r s e f a b c d : ℕ → Float} {i : ℕ} {p′ q′ r′ s′ e₀ e₁ f₀ f₁ a′ b′ c′ d′ : Float}
     (h : At p q r s e f a b c d i p′ q′ r′ s′ e₀ e₁ f₀ f₁ a′ b′ c′ d′) where
   abbrev twice : ℕ → Float
-  twice = halfTwice x y u z x₂ y₂ u₂ z₂ p q r s e f a b c d
+  twice = halfTwice ep sem em sep ep₂ sem₂ em₂ sep₂ p q r s e f a b c d
 
-  front-even : forwardRule x y u z p q a b (2 * i) ≡ blend x y p′ a′ b′
-  front-even = rule-even x y u z p q a b (2 * i) i refl ∙ rw (h .p-is, h .a-is, h .b-is)
+  front-even : forwardRule ep sem em sep p q a b (2 * i) ≡ blend ep sem p′ a′ b′
+  front-even = rule-even ep sem em sep p q a b (2 * i) i refl ∙ rw (h .p-is, h .a-is, h .b-is)
 
-  front-odd : forwardRule x y u z p q a b (2 * i + 1) ≡ blend u z q′ a′ b′
-  front-odd = rule-odd x y u z p q a b (2 * i + 1) i refl ∙ rw (h .q-is, h .a-is, h .b-is)
+  front-odd : forwardRule ep sem em sep p q a b (2 * i + 1) ≡ blend em sep q′ a′ b′
+  front-odd = rule-odd ep sem em sep p q a b (2 * i + 1) i refl ∙ rw (h .q-is, h .a-is, h .b-is)
 
-  back-even : forwardRule u z x y s r d c (2 * i) ≡ blend u z s′ d′ c′
-  back-even = rule-even u z x y s r d c (2 * i) i refl ∙ rw (h .s-is, h .c-is, h .d-is)
+  back-even : forwardRule em sep ep sem s r d c (2 * i) ≡ blend em sep s′ d′ c′
+  back-even = rule-even em sep ep sem s r d c (2 * i) i refl ∙ rw (h .s-is, h .c-is, h .d-is)
 
-  back-odd : forwardRule u z x y s r d c (2 * i + 1) ≡ blend x y r′ d′ c′
-  back-odd = rule-odd u z x y s r d c (2 * i + 1) i refl ∙ rw (h .r-is, h .c-is, h .d-is)
+  back-odd : forwardRule em sep ep sem s r d c (2 * i + 1) ≡ blend ep sem r′ d′ c′
+  back-odd = rule-odd em sep ep sem s r d c (2 * i + 1) i refl ∙ rw (h .r-is, h .c-is, h .d-is)
 
-  pub twice-0 : (j : ℕ) → j ≡ 4 * i → blend x₂ y₂ e₀ (blend x y p′ a′ b′) (blend u z s′ d′ c′) ≡ twice j
-  twice-0 j g = sym (rule-even x₂ y₂ u₂ z₂ e f _ _ j (2 * i) (omega arith) ∙ rw (h .e-even, front-even, back-even))
+  pub twice-0 : (j : ℕ) → j ≡ 4 * i → blend ep₂ sem₂ e₀ (blend ep sem p′ a′ b′) (blend em sep s′ d′ c′) ≡ twice j
+  twice-0 j g = sym (rule-even ep₂ sem₂ em₂ sep₂ e f _ _ j (2 * i) (omega arith) ∙ rw (h .e-even, front-even, back-even))
 
-  pub twice-1 : (j : ℕ) → j ≡ 4 * i + 1 → blend u₂ z₂ f₀ (blend x y p′ a′ b′) (blend u z s′ d′ c′) ≡ twice j
-  twice-1 j g = sym (rule-odd x₂ y₂ u₂ z₂ e f _ _ j (2 * i) (omega arith) ∙ rw (h .f-even, front-even, back-even))
+  pub twice-1 : (j : ℕ) → j ≡ 4 * i + 1 → blend em₂ sep₂ f₀ (blend ep sem p′ a′ b′) (blend em sep s′ d′ c′) ≡ twice j
+  twice-1 j g = sym (rule-odd ep₂ sem₂ em₂ sep₂ e f _ _ j (2 * i) (omega arith) ∙ rw (h .f-even, front-even, back-even))
 
-  pub twice-2 : (j : ℕ) → j ≡ 4 * i + 2 → blend x₂ y₂ e₁ (blend u z q′ a′ b′) (blend x y r′ d′ c′) ≡ twice j
-  twice-2 j g = sym (rule-even x₂ y₂ u₂ z₂ e f _ _ j (2 * i + 1) (omega arith) ∙ rw (h .e-odd, front-odd, back-odd))
+  pub twice-2 : (j : ℕ) → j ≡ 4 * i + 2 → blend ep₂ sem₂ e₁ (blend em sep q′ a′ b′) (blend ep sem r′ d′ c′) ≡ twice j
+  twice-2 j g = sym (rule-even ep₂ sem₂ em₂ sep₂ e f _ _ j (2 * i + 1) (omega arith) ∙ rw (h .e-odd, front-odd, back-odd))
 
-  pub twice-3 : (j : ℕ) → j ≡ 4 * i + 3 → blend u₂ z₂ f₁ (blend u z q′ a′ b′) (blend x y r′ d′ c′) ≡ twice j
-  twice-3 j g = sym (rule-odd x₂ y₂ u₂ z₂ e f _ _ j (2 * i + 1) (omega arith) ∙ rw (h .f-odd, front-odd, back-odd))
+  pub twice-3 : (j : ℕ) → j ≡ 4 * i + 3 → blend em₂ sep₂ f₁ (blend em sep q′ a′ b′) (blend ep sem r′ d′ c′) ≡ twice j
+  twice-3 j g = sym (rule-odd ep₂ sem₂ em₂ sep₂ e f _ _ j (2 * i + 1) (omega arith) ∙ rw (h .f-odd, front-odd, back-odd))

@@ -21,17 +21,17 @@ use Rattle.half_stride_forward.specs.Rule.{halfTwice}
 
 -- ---- one step by its tables t, from the half h
 
-module _ (s : Step Float) (sc : Float) (t : Tables) (a : Tabled s sc t) (w : ℕ) (turn : Float → Float) (h : ℕ → Float) where
+module _ (s : Step Float) (sc : Float) (t : Tables) (a : Tabled s sc t) (w : ℕ) (sign : Float → Float) (h : ℕ → Float) where
   -- at even places, and at odd ones
   pub even-is : (j k : ℕ) → j ≡ 2 * k
-      → forwardHalf w s sc turn h j ≡ blend (t .ep) (turn (t .em)) (weights (t .bits) (t .count) (t .up) k) (h k) (h (2 ^ (w - 1) - 1 - k))
+      → forwardHalf w s sc sign h j ≡ blend (t .ep) (sign (t .em)) (weights (t .bits) (t .count) (t .up) k) (h k) (h (2 ^ (w - 1) - 1 - k))
   unfolding blend
-  even-is j k e = forwardHalf-even w s sc turn h j k e ∙ rw (a .plus, a .minus, up-weight s sc t a k)
+  even-is j k e = forwardHalf-even w s sc sign h j k e ∙ rw (a .plus, a .minus, up-weight s sc t a k)
 
   pub odd-is : (j k : ℕ) → j ≡ 2 * k + 1
-      → forwardHalf w s sc turn h j ≡ blend (t .em) (turn (t .ep)) (weights (t .bits) (t .count) (t .down) k) (h k) (h (2 ^ (w - 1) - 1 - k))
+      → forwardHalf w s sc sign h j ≡ blend (t .em) (sign (t .ep)) (weights (t .bits) (t .count) (t .down) k) (h k) (h (2 ^ (w - 1) - 1 - k))
   unfolding blend
-  odd-is j k e = forwardHalf-odd w s sc turn h j k e ∙ rw (a .plus, a .minus, down-weight s sc t a k)
+  odd-is j k e = forwardHalf-odd w s sc sign h j k e ∙ rw (a .plus, a .minus, down-weight s sc t a k)
 
 -- what is at j is made from the half's entries at j / 2, whatever rule it is
 by-parity : (P : ℕ → Type 0) → ((k : ℕ) → P (2 * k)) → ((k : ℕ) → P (2 * k + 1)) → (j : ℕ) → P j
@@ -41,7 +41,7 @@ by-parity P p q j =
     (λ l. let e : j ≡ 2 * (j / 2) + 1 = omega arith in rw e (q (j / 2)))
 
 module _ (s : Step Float) (sc : Float) (t : Tables) (a : Tabled s sc t) (s′ : Step Float) (sc′ : Float) (t′ : Tables) (a′ : Tabled s′ sc′ t′)
-    (w : ℕ) (turn : Float → Float) (d : List Float) (src : ℕ) (wide : 2 ≤ w) where
+    (w : ℕ) (sign : Float → Float) (d : List Float) (src : ℕ) (wide : 2 ≤ w) where
   abbrev quarter : ℕ
   quarter = 2 ^ (w - 2)
 
@@ -50,22 +50,22 @@ module _ (s : Step Float) (sc : Float) (t : Tables) (a : Tabled s sc t) (s′ : 
 
   -- the first step
   abbrev once : ℕ → Float
-  once = forwardHalf w s sc turn (entries d src)
+  once = forwardHalf w s sc sign (entries d src)
 
   -- its front, and its end
   abbrev front : ℕ → Float
   front =
-      forwardRule (t .ep) (turn (t .em)) (t .em) (turn (t .ep)) (weights (t .bits) (t .count) (t .up)) (weights (t .bits) (t .count) (t .down))
+      forwardRule (t .ep) (sign (t .em)) (t .em) (sign (t .ep)) (weights (t .bits) (t .count) (t .up)) (weights (t .bits) (t .count) (t .down))
       (entries d src) (fromEnd d src (2 * quarter))
 
   abbrev back : ℕ → Float
   back =
-      forwardRule (t .em) (turn (t .ep)) (t .ep) (turn (t .em)) (endWeights (w - 2) (t .bits) (t .count) (t .down)) (endWeights (w - 2) (t .bits) (t .count) (t .up))
+      forwardRule (t .em) (sign (t .ep)) (t .ep) (sign (t .em)) (endWeights (w - 2) (t .bits) (t .count) (t .down)) (endWeights (w - 2) (t .bits) (t .count) (t .up))
       (fromEnd d src quarter) (entries d (src + quarter))
 
   abbrev pub made : ℕ → Float
   made =
-      halfTwice (t .ep) (turn (t .em)) (t .em) (turn (t .ep)) (t′ .ep) (turn (t′ .em)) (t′ .em) (turn (t′ .ep))
+      halfTwice (t .ep) (sign (t .em)) (t .em) (sign (t .ep)) (t′ .ep) (sign (t′ .em)) (t′ .em) (sign (t′ .ep))
       (weights (t .bits) (t .count) (t .up)) (weights (t .bits) (t .count) (t .down))
       (endWeights (w - 2) (t .bits) (t .count) (t .up)) (endWeights (w - 2) (t .bits) (t .count) (t .down))
       (weights (t′ .bits) (t′ .count) (t′ .up)) (weights (t′ .bits) (t′ .count) (t′ .down))
@@ -74,8 +74,8 @@ module _ (s : Step Float) (sc : Float) (t : Tables) (a : Tabled s sc t) (s′ : 
   front-is : (j : ℕ) → front j ≡ once j
   front-is =
       by-parity (λ j. front j ≡ once j)
-      (λ k. rule-even _ _ _ _ _ _ _ _ (2 * k) k refl ∙ rw (← half) (sym (even-is s sc t a w turn (entries d src) (2 * k) k refl)))
-      (λ k. rule-odd _ _ _ _ _ _ _ _ (2 * k + 1) k refl ∙ rw (← half) (sym (odd-is s sc t a w turn (entries d src) (2 * k + 1) k refl)))
+      (λ k. rule-even _ _ _ _ _ _ _ _ (2 * k) k refl ∙ rw (← half) (sym (even-is s sc t a w sign (entries d src) (2 * k) k refl)))
+      (λ k. rule-odd _ _ _ _ _ _ _ _ (2 * k + 1) k refl ∙ rw (← half) (sym (odd-is s sc t a w sign (entries d src) (2 * k + 1) k refl)))
 
   -- the entry opposite to place k of the first quarter stands in the second
   across : (k : ℕ) → k < quarter → getD d (src + quarter + k) nan ≡ entries d src (2 ^ (w - 1) - 1 - (quarter - 1 - k))
@@ -86,24 +86,24 @@ module _ (s : Step Float) (sc : Float) (t : Tables) (a : Tabled s sc t) (s′ : 
       by-parity (λ j. j < 2 * quarter → back j ≡ once (2 ^ (w - 1) - 1 - j))
       (λ k b.
       rule-even _ _ _ _ _ _ _ _ (2 * k) k refl
-      ∙ rw (across k (omega arith)) (sym (odd-is s sc t a w turn (entries d src) (2 ^ (w - 1) - 1 - 2 * k) (quarter - 1 - k) (omega (arith, half)))))
+      ∙ rw (across k (omega arith)) (sym (odd-is s sc t a w sign (entries d src) (2 ^ (w - 1) - 1 - 2 * k) (quarter - 1 - k) (omega (arith, half)))))
       (λ k b.
       rule-odd _ _ _ _ _ _ _ _ (2 * k + 1) k refl
-      ∙ rw (across k (omega arith)) (sym (even-is s sc t a w turn (entries d src) (2 ^ (w - 1) - 1 - (2 * k + 1)) (quarter - 1 - k) (omega (arith, half)))))
+      ∙ rw (across k (omega arith)) (sym (even-is s sc t a w sign (entries d src) (2 ^ (w - 1) - 1 - (2 * k + 1)) (quarter - 1 - k) (omega (arith, half)))))
 
   -- the second over it
-  entry : (j : ℕ) → j < 2 * quarter → made j ≡ forwardHalf w s′ sc′ turn once j
+  entry : (j : ℕ) → j < 2 * quarter → made j ≡ forwardHalf w s′ sc′ sign once j
   entry =
-      by-parity (λ j. j < 2 * quarter → made j ≡ forwardHalf w s′ sc′ turn once j)
+      by-parity (λ j. j < 2 * quarter → made j ≡ forwardHalf w s′ sc′ sign once j)
       (λ k b.
-      rule-even _ _ _ _ _ _ _ _ (2 * k) k refl ∙ rw (front-is k, back-is k (omega arith)) (sym (even-is s′ sc′ t′ a′ w turn once (2 * k) k refl)))
+      rule-even _ _ _ _ _ _ _ _ (2 * k) k refl ∙ rw (front-is k, back-is k (omega arith)) (sym (even-is s′ sc′ t′ a′ w sign once (2 * k) k refl)))
       (λ k b.
-      rule-odd _ _ _ _ _ _ _ _ (2 * k + 1) k refl ∙ rw (front-is k, back-is k (omega arith)) (sym (odd-is s′ sc′ t′ a′ w turn once (2 * k + 1) k refl)))
+      rule-odd _ _ _ _ _ _ _ _ (2 * k + 1) k refl ∙ rw (front-is k, back-is k (omega arith)) (sym (odd-is s′ sc′ t′ a′ w sign once (2 * k + 1) k refl)))
 
-  forward-twice-is : tabulate made (2 * quarter) ≡ tabulate (forwardHalf w s′ sc′ turn once) (2 ^ (w - 1))
-  forward-twice-is = rw half (tabulate-ext made (forwardHalf w s′ sc′ turn once) (2 * quarter) entry)
+  forward-twice-is : tabulate made (2 * quarter) ≡ tabulate (forwardHalf w s′ sc′ sign once) (2 ^ (w - 1))
+  forward-twice-is = rw half (tabulate-ext made (forwardHalf w s′ sc′ sign once) (2 * quarter) entry)
 
   -- what the runs leave
   pub forward-twice-filled : (r : List Float) (dst : ℕ) → r ≡ hold d w dst (tabulate made (2 * quarter))
-      → r ≡ hold d w dst (tabulate (forwardHalf w s′ sc′ turn once) (2 ^ (w - 1)))
+      → r ≡ hold d w dst (tabulate (forwardHalf w s′ sc′ sign once) (2 ^ (w - 1)))
   forward-twice-filled r dst e = e ∙ ap (hold d w dst) forward-twice-is

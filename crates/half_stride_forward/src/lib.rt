@@ -7,21 +7,21 @@ ghost use Rattle.vector.specs.Tabulate.{tabulate};
 ghost use Rattle.vector.specs.Part.{Apart, put};
 ghost use Rattle.transfer.specs.Job.{Step};
 ghost use Rattle.sweep.specs.Step.{Rising, Tabled, tables};
-ghost use Rattle.sweep.specs.Rule.{entries, fromEnd, weights, inTurn};
+ghost use Rattle.sweep.specs.Rule.{entries, fromEnd, weights, alternating};
 ghost use Rattle.sweep.specs.Place.{Places, hold};
-ghost use Rattle.halves.specs.Half.{forwardHalf, turnOf};
+ghost use Rattle.halves.specs.Half.{forwardHalf, negatedIf};
 ghost use Rattle.runs.specs.Rule.{inFour};
 ghost use Rattle.half_runs.specs.Rule.{endWeights};
 ghost use Rattle.half_stride_forward.specs.Rule.{halfTwice};
 use half_runs::opposed;
-use halves::turned;
+use halves::negated_if;
 use runs::Four;
 use runs::four_at;
 use runs::runs_of;
 use sweep::pattern_of;
 use sweep::pow2;
 
-// A run of n places, two a turn: sources at a and c, and counted from their end at b and d; target at o. All of a turn is read before its
+// A run of n places, two an iteration: sources at a and c, and counted from their end at b and d; target at o. All of an iteration is read before its
 // first store.
 fn forward_run(
     v: &mut [f64],
@@ -31,14 +31,14 @@ fn forward_run(
     d: usize,
     o: usize,
     n: usize,
-    x: f64,
-    y: f64,
-    u: f64,
-    z: f64,
-    x2: f64,
-    y2: f64,
-    u2: f64,
-    z2: f64,
+    ep: f64,
+    sem: f64,
+    em: f64,
+    sep: f64,
+    ep2: f64,
+    sem2: f64,
+    em2: f64,
+    sep2: f64,
     p: Four,
     q: Four,
     e: Four,
@@ -48,8 +48,8 @@ fn forward_run(
         × Apart (length (now v)) c n o (4 * n) × Apart (length (now v)) d n o (4 * n) ⌝ }
     ensures { λ _. ⌜ now (v .exit) ≡ put (now (v .entry)) o
         (tabulate
-        (halfTwice x y u z x2 y2 u2 z2 (inTurn (p .first) (p .third)) (inTurn (q .first) (q .third)) (inTurn (p .second) (p .fourth))
-        (inTurn (q .second) (q .fourth)) (inFour (e .first) (e .second) (e .third) (e .fourth)) (inFour (f .first) (f .second) (f .third) (f .fourth))
+        (halfTwice ep sem em sep ep2 sem2 em2 sep2 (alternating (p .first) (p .third)) (alternating (q .first) (q .third)) (alternating (p .second) (p .fourth))
+        (alternating (q .second) (q .fourth)) (inFour (e .first) (e .second) (e .third) (e .fourth)) (inFour (f .first) (f .second) (f .third) (f .fourth))
         (entries (now (v .entry)) a) (fromEnd (now (v .entry)) b n) (entries (now (v .entry)) c) (fromEnd (now (v .entry)) d n))
         (4 * n)) ⌝ }
 {
@@ -88,22 +88,22 @@ fn forward_run(
         let c1 = v[c + i + 1];
         let d0 = v[d + r - 1];
         let d1 = v[d + r - 2];
-        let k0 = (x * a0 + y * b0) * p0;
-        let l0 = (u * a0 + z * b0) * q0;
-        let m0 = (u * d0 + z * c0) * q1;
-        let n0 = (x * d0 + y * c0) * p1;
-        let k1 = (x * a1 + y * b1) * p2;
-        let l1 = (u * a1 + z * b1) * q2;
-        let m1 = (u * d1 + z * c1) * q3;
-        let n1 = (x * d1 + y * c1) * p3;
-        v[o + 4 * i] = (x2 * k0 + y2 * m0) * e0;
-        v[o + 4 * i + 1] = (u2 * k0 + z2 * m0) * f0;
-        v[o + 4 * i + 2] = (x2 * l0 + y2 * n0) * e1;
-        v[o + 4 * i + 3] = (u2 * l0 + z2 * n0) * f1;
-        v[o + 4 * i + 4] = (x2 * k1 + y2 * m1) * e2;
-        v[o + 4 * i + 5] = (u2 * k1 + z2 * m1) * f2;
-        v[o + 4 * i + 6] = (x2 * l1 + y2 * n1) * e3;
-        v[o + 4 * i + 7] = (u2 * l1 + z2 * n1) * f3;
+        let k0 = (ep * a0 + sem * b0) * p0;
+        let l0 = (em * a0 + sep * b0) * q0;
+        let m0 = (em * d0 + sep * c0) * q1;
+        let n0 = (ep * d0 + sem * c0) * p1;
+        let k1 = (ep * a1 + sem * b1) * p2;
+        let l1 = (em * a1 + sep * b1) * q2;
+        let m1 = (em * d1 + sep * c1) * q3;
+        let n1 = (ep * d1 + sem * c1) * p3;
+        v[o + 4 * i] = (ep2 * k0 + sem2 * m0) * e0;
+        v[o + 4 * i + 1] = (em2 * k0 + sep2 * m0) * f0;
+        v[o + 4 * i + 2] = (ep2 * l0 + sem2 * n0) * e1;
+        v[o + 4 * i + 3] = (em2 * l0 + sep2 * n0) * f1;
+        v[o + 4 * i + 4] = (ep2 * k1 + sem2 * m1) * e2;
+        v[o + 4 * i + 5] = (em2 * k1 + sep2 * m1) * f2;
+        v[o + 4 * i + 6] = (ep2 * l1 + sem2 * n1) * e3;
+        v[o + 4 * i + 7] = (em2 * l1 + sep2 * n1) * f3;
         i += 2;
     }
 }
@@ -114,18 +114,18 @@ fn forward_runs(
     src: usize,
     dst: usize,
     h: usize,
-    x: f64,
-    y: f64,
-    u: f64,
-    z: f64,
+    ep: f64,
+    sem: f64,
+    em: f64,
+    sep: f64,
     bits: &[usize; 4],
     n: usize,
     up: &[f64; 16],
     down: &[f64; 16],
-    x2: f64,
-    y2: f64,
-    u2: f64,
-    z2: f64,
+    ep2: f64,
+    sem2: f64,
+    em2: f64,
+    sep2: f64,
     bits2: &[usize; 4],
     n2: usize,
     up2: &[f64; 16],
@@ -135,7 +135,7 @@ fn forward_runs(
         × Rising (now bits2) n2 (h + 1) ⌝ }
     ensures { λ _. ⌜ now (v .exit) ≡ put (now (v .entry)) dst
         (tabulate
-        (halfTwice x y u z x2 y2 u2 z2 (weights (now (bits .entry)) n (now (up .entry))) (weights (now (bits .entry)) n (now (down .entry)))
+        (halfTwice ep sem em sep ep2 sem2 em2 sep2 (weights (now (bits .entry)) n (now (up .entry))) (weights (now (bits .entry)) n (now (down .entry)))
         (endWeights h (now (bits .entry)) n (now (up .entry))) (endWeights h (now (bits .entry)) n (now (down .entry)))
         (weights (now (bits2 .entry)) n2 (now (up2 .entry))) (weights (now (bits2 .entry)) n2 (now (down2 .entry)))
         (entries (now (v .entry)) src) (fromEnd (now (v .entry)) src (2 * 2 ^ h))
@@ -168,14 +168,14 @@ fn forward_runs(
             src + t,
             dst + 4 * k,
             size,
-            x,
-            y,
-            u,
-            z,
-            x2,
-            y2,
-            u2,
-            z2,
+            ep,
+            sem,
+            em,
+            sep,
+            ep2,
+            sem2,
+            em2,
+            sep2,
             p,
             q,
             f,
@@ -191,7 +191,7 @@ pub fn half_stride_forward(
     src: usize,
     dst: usize,
     w: usize,
-    odd: bool,
+    antisymmetric: bool,
     ep: f64,
     em: f64,
     bits: &[usize; 4],
@@ -210,30 +210,30 @@ pub fn half_stride_forward(
         → Tabled s sc (tables count ep em (now (bits .entry)) (now (up .entry)) (now (down .entry)))
         → Tabled s′ sc′ (tables count2 ep2 em2 (now (bits2 .entry)) (now (up2 .entry)) (now (down2 .entry)))
         → now (room .exit) ≡ hold (now (room .entry)) w dst
-        (tabulate (forwardHalf w s′ sc′ (turnOf odd) (forwardHalf w s sc (turnOf odd) (entries (now (room .entry)) (src * 2 ^ w)))) (2 ^ (w - 1)))) ⌝ }
+        (tabulate (forwardHalf w s′ sc′ (negatedIf antisymmetric) (forwardHalf w s sc (negatedIf antisymmetric) (entries (now (room .entry)) (src * 2 ^ w)))) (2 ^ (w - 1)))) ⌝ }
 {
     let size = pow2(w);
-    let y = turned(odd, em);
-    let z = turned(odd, ep);
-    let y2 = turned(odd, em2);
-    let z2 = turned(odd, ep2);
+    let sem = negated_if(antisymmetric, em);
+    let sep = negated_if(antisymmetric, ep);
+    let sem2 = negated_if(antisymmetric, em2);
+    let sep2 = negated_if(antisymmetric, ep2);
     forward_runs(
         room,
         src * size,
         dst * size,
         w - 2,
         ep,
-        y,
+        sem,
         em,
-        z,
+        sep,
         bits,
         count,
         up,
         down,
         ep2,
-        y2,
+        sem2,
         em2,
-        z2,
+        sep2,
         bits2,
         count2,
         up2,

@@ -1,4 +1,4 @@
--- What a turn adds to the sums of a pair, on the way there and on the way back.
+-- What an iteration adds to the sums of a pair, on the way there and on the way back.
 use mathlib.Core.Path.{_≡_, refl, ap, sym, _∙_}
 use mathlib.Core.Bool.{Bool, true, false, not, cond}
 use mathlib.Core.List.{List}
@@ -15,7 +15,7 @@ use Rattle.vector.specs.Power.{pow-double}
 use Rattle.transfer.specs.Arithmetic.{sum, signedSum}
 use Rattle.transfer.specs.Rounded.{ieee}
 use Rattle.sweep.specs.Rule.{entries}
-use Rattle.halves.specs.Half.{turnOf}
+use Rattle.halves.specs.Half.{negatedIf}
 use Rattle.halves.specs.Sign.{add-neg, sub-neg}
 use Rattle.halves.specs.Sums.{differ}
 use Rattle.half_sums.specs.declared.sums.Source.{Source}
@@ -25,34 +25,34 @@ use Rattle.half_sums.specs.Pair.{Within, Summed, Sourced, Begun, SumsOf}
 
 -- ---- two terms more
 
-sum-turn : (f : ℕ → Float) (i : ℕ) (z p q : Float) → z ≡ sum ieee i f → p ≡ f i → q ≡ f (i + 1)
+sum-iteration : (f : ℕ → Float) (i : ℕ) (z p q : Float) → z ≡ sum ieee i f → p ≡ f i → q ≡ f (i + 1)
     → add binary64 (add binary64 z p) q ≡ sum ieee (i + 2) f
 unfolding sum
-sum-turn f i z p q e ep eq =
+sum-iteration f i z p q e ep eq =
     let n : i + 2 ≡ suc (suc i) = omega arith in
     let m : suc i ≡ i + 1 = omega arith in
     rw (n, e, ep, eq, m)
 
--- a term with its sign turned
-added : (m : Bool) (a x : Float) → add binary64 a (turnOf m x) ≡ cond m (sub binary64 a x) (add binary64 a x)
+-- a term with its sign negated-if
+added : (m : Bool) (a x : Float) → add binary64 a (negatedIf m x) ≡ cond m (sub binary64 a x) (add binary64 a x)
 added true a x = add-neg binary64 a x
 added false a x = refl
 
-taken : (m : Bool) (a x : Float) → sub binary64 a (turnOf m x) ≡ cond (not m) (sub binary64 a x) (add binary64 a x)
+taken : (m : Bool) (a x : Float) → sub binary64 a (negatedIf m x) ≡ cond (not m) (sub binary64 a x) (add binary64 a x)
 taken true a x = sub-neg binary64 a x
 taken false a x = refl
 
 -- of two terms with unlike signs, the first subtracted where m is, or the second
 module _ (minus : ℕ → Bool) (f : ℕ → Float) (i : ℕ) (m : Bool) (z p q : Float) (ez : z ≡ signedSum ieee i minus f) (ep : p ≡ f i)
     (eq : q ≡ f (i + 1)) where
-  signed-there : minus i ≡ m → minus (i + 1) ≡ not m → sub binary64 (add binary64 z (turnOf m p)) (turnOf m q) ≡ signedSum ieee (i + 2) minus f
+  signed-there : minus i ≡ m → minus (i + 1) ≡ not m → sub binary64 (add binary64 z (negatedIf m p)) (negatedIf m q) ≡ signedSum ieee (i + 2) minus f
   unfolding signedSum
   signed-there a b =
       let n : i + 2 ≡ suc (suc i) = omega arith in
       let k : suc i ≡ i + 1 = omega arith in
       taken m _ q ∙ rw (n, k, a, b, ← ez, ← ep, ← eq, added m z p)
 
-  signed-back : minus i ≡ not m → minus (i + 1) ≡ m → add binary64 (sub binary64 z (turnOf m p)) (turnOf m q) ≡ signedSum ieee (i + 2) minus f
+  signed-back : minus i ≡ not m → minus (i + 1) ≡ m → add binary64 (sub binary64 z (negatedIf m p)) (negatedIf m q) ≡ signedSum ieee (i + 2) minus f
   unfolding signedSum
   signed-back a b =
       let n : i + 2 ≡ suc (suc i) = omega arith in
@@ -84,7 +84,7 @@ differ-odd d i h e =
     (λ l. let s : i / 2 ^ d % 2 ≡ 0 = omega arith in rw (o, same-bit i d h e, s))
     (λ l. let s : i / 2 ^ d % 2 ≡ 1 = omega arith in rw (o, same-bit i d h e, s))
 
--- ---- the turns
+-- ---- the iterations
 
 pub less-within : (len k : ℕ) (at : Source) → Within len k at → (j : ℕ) → j ≤ k → Within len j at
 less-within len k at g j l =
@@ -128,11 +128,11 @@ one-done v at w s p q one ep eq ez en =
     rw one (record { z-is = ez ∙ rw (ep, f′, b′); n-is = en ∙ rw (eq, g′, b′, e) })
 
 module _ (v : List Float) (at : Source) (i : ℕ) (even : i % 2 ≡ 0) (some : 1 ≤ at .d) where
-  -- the products that a turn reads
+  -- the products that an iteration reads
   abbrev read : ℕ → ℕ → Float
   read a j = mul binary64 (getD v (a + j) nan) (getD v (at .b + j) nan)
 
-  -- whether bit d of the turn's indexes is set
+  -- whether bit d of the iteration's indexes is set
   abbrev minus : Bool
   minus = eqb (i / 2 ^ (at .d) % 2) 1
 
@@ -146,28 +146,28 @@ module _ (v : List Float) (at : Source) (i : ℕ) (even : i % 2 ≡ 0) (some : 1
     on-back : (k j : ℕ) → k + j + 1 ≡ 2 ^ w → j < 2 ^ (w - 1) → min k (2 ^ w - 1 - k) ≡ j
     on-back k j e l = let i : 2 ^ w - 1 - k ≡ j = omega arith in rw i (min-eq-right (omega (arith, whole)))
 
-    pub there-turn : (x y : Float) → x ≡ turnOf minus (read (at .g) i) → y ≡ turnOf minus (read (at .g) (i + 1))
+    pub there-iteration : (x y : Float) → x ≡ negatedIf minus (read (at .g) i) → y ≡ negatedIf minus (read (at .g) (i + 1))
         → r .z ≡ add binary64 (add binary64 (s .z) (read (at .f) i)) (read (at .f) (i + 1)) → r .n ≡ sub binary64 (add binary64 (s .n) x) y
         → Summed v at w i s → Summed v at w (i + 2) r
-    there-turn x y ex ey ez en g =
+    there-iteration x y ex ey ez en g =
         let first = on-there i (omega arith) in
         let second = on-there (i + 1) (omega arith) in
         record {
-          z-is = ez ∙ sum-turn (terms w (entries v (at .f)) (entries v (at .b))) i (s .z) _ _ (g .z-is) (rw first) (rw second);
+          z-is = ez ∙ sum-iteration (terms w (entries v (at .f)) (entries v (at .b))) i (s .z) _ _ (g .z-is) (rw first) (rw second);
           n-is = en ∙ rw (ex, ey) (signed-there (signs w (at .d)) (terms w (entries v (at .g)) (entries v (at .b))) i minus (s .n) _ _ (g .n-is) (rw first) (rw second)
               (rw first (differ-even (at .d) i even)) (rw second (differ-odd (at .d) i some even)));
         }
 
-    pub back-turn : (x y : Float) → x ≡ turnOf minus (read (at .g) (i + 1)) → y ≡ turnOf minus (read (at .g) i)
+    pub back-iteration : (x y : Float) → x ≡ negatedIf minus (read (at .g) (i + 1)) → y ≡ negatedIf minus (read (at .g) i)
         → r .z ≡ add binary64 (add binary64 (s .z) (read (at .f) (i + 1))) (read (at .f) i) → r .n ≡ add binary64 (sub binary64 (s .n) x) y
         → Summed v at w (2 ^ w - (i + 2)) s → Summed v at w (2 ^ w - i) r
-    back-turn x y ex ey ez en g =
+    back-iteration x y ex ey ez en g =
         let k = 2 ^ w - (i + 2) in
         let e : 2 ^ w - i ≡ k + 2 = omega (arith, whole) in
         let first = on-back k (i + 1) (omega (arith, whole)) (omega arith) in
         let second = on-back (k + 1) i (omega (arith, whole)) (omega arith) in
         rw e (record {
-          z-is = ez ∙ sum-turn (terms w (entries v (at .f)) (entries v (at .b))) k (s .z) _ _ (g .z-is) (rw first) (rw second);
+          z-is = ez ∙ sum-iteration (terms w (entries v (at .f)) (entries v (at .b))) k (s .z) _ _ (g .z-is) (rw first) (rw second);
           n-is = en ∙ rw (ex, ey) (signed-back (signs w (at .d)) (terms w (entries v (at .g)) (entries v (at .b))) k minus (s .n) _ _ (g .n-is) (rw first) (rw second)
               (rw first (differ-odd (at .d) i some even)) (rw second (differ-even (at .d) i even)));
         })

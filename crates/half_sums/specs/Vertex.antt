@@ -14,8 +14,8 @@ use Rattle.transfer.specs.Sweep as S
 use Rattle.halves.specs.Alike.{same}
 use Rattle.halves.specs.Terms.{like, signed-same}
 use Rattle.halves.specs.Half.{thereAndBack}
-use Rattle.halves.specs.Even.{Even}
-use Rattle.halves.specs.Odd.{Odd}
+use Rattle.halves.specs.Symmetric.{SymmetricHalf}
+use Rattle.halves.specs.Antisymmetric.{AntisymmetricHalf}
 use Rattle.halves.specs.Sums.{differ, Z-halves, direct-halves, propagated-halves}
 use Rattle.half_sums.specs.Terms.{terms, signs}
 
@@ -33,17 +33,17 @@ signs-window w h k =
     signed-same (2 ^ w) (signs w w) (thereAndBack w (bit 0)) (terms w h k) (terms w h k) (λ j _. mul-fits binary64 (h _) (k _))
     (λ j b. let i = min j (2 ^ w - 1 - j) in rw (high-clear w i (omega (arith, min-le-left j (2 ^ w - 1 - j)))) (like same))
 
-module _ (J : Job Float) (h k : ℕ → Float) (u v : ℕ) (wide : 1 ≤ J .window) (even : Even (J .window) k (S.backward ieee J v)) where
-  pub Z-is : Even (J .window) h (S.forward ieee J v) → sum ieee (2 ^ J .window) (terms (J .window) h k) ≡ S.Z ieee J v
+module _ (J : Job Float) (h k : ℕ → Float) (u v : ℕ) (wide : 1 ≤ J .window) (backward-is : SymmetricHalf (J .window) k (S.backward ieee J v)) where
+  pub Z-is : SymmetricHalf (J .window) h (S.forward ieee J v) → sum ieee (2 ^ J .window) (terms (J .window) h k) ≡ S.Z ieee J v
   unfolding S.Z
-  Z-is e = sym (Z-halves (J .window) wide h k _ _ even e)
+  Z-is e = sym (Z-halves (J .window) wide h k _ _ backward-is e)
 
-  pub direct-is : v - u < J .window → Even (J .window) h (S.forward ieee J v)
+  pub direct-is : v - u < J .window → SymmetricHalf (J .window) h (S.forward ieee J v)
       → signedSum ieee (2 ^ J .window) (signs (J .window) (v - u)) (terms (J .window) h k) ≡ S.directN ieee J u v
   unfolding S.directN
-  direct-is l e = sym (direct-halves (J .window) wide h k _ _ even e (v - u) l)
+  direct-is l e = sym (direct-halves (J .window) wide h k _ _ backward-is e (v - u) l)
 
-  pub propagated-is : Odd (J .window) h (S.propagated ieee J u (v - u))
+  pub propagated-is : AntisymmetricHalf (J .window) h (S.propagated ieee J u (v - u))
       → signedSum ieee (2 ^ J .window) (signs (J .window) (J .window)) (terms (J .window) h k) ≡ S.propagatedN ieee J u v
   unfolding S.propagatedN
-  propagated-is o = signs-window (J .window) h k ∙ sym (propagated-halves (J .window) wide h k _ _ even o)
+  propagated-is o = signs-window (J .window) h k ∙ sym (propagated-halves (J .window) wide h k _ _ backward-is o)

@@ -11,7 +11,7 @@ ghost use Rattle.half_sums.specs.Terms.{halfAt};
 use largest::largest_from;
 use sweep::pow2;
 
-// The largest entry of the half at place p. It is the whole vector's (`largest-even` of the crate halves).
+// The largest entry of the half at place p. It is the whole vector's (`largest-symmetric` of the crate halves).
 pub fn half_largest_at(room: &[f64], p: usize, w: usize) -> f64
     requires { ⌜ Place (length (now room)) w p ⌝ }
     ensures { λ r. ⌜ r ≡ S.largest ieee (ieee .𝟘) (tabulate (halfAt (now (room .entry)) w p) (2 ^ (w - 1))) ⌝ }
@@ -19,18 +19,18 @@ pub fn half_largest_at(room: &[f64], p: usize, w: usize) -> f64
     largest_from(room, p * pow2(w), w - 1)
 }
 
-// Whether the largest entry is taken after the step at t. `each` is the per-element manner: after every step. In the block manner it is
+// Whether the largest entry is taken after the step at t. `per_element` is the per-element manner: after every step. In the block manner it is
 // taken where t % 4 is r.
-pub fn is_due(each: bool, r: usize, t: usize) -> bool
-    ensures { λ b. ⌜ b ≡ due each r t ⌝ }
+pub fn is_due(per_element: bool, r: usize, t: usize) -> bool
+    ensures { λ b. ⌜ b ≡ due «per_element» r t ⌝ }
 {
-    if each {
+    if per_element {
         return true;
     }
     t % 4 == r
 }
 
-// What is stored of the half at place p: its largest entry where that is due, else 1.0. It is the whole vector's (`stored-even`).
+// What is stored of the half at place p: its largest entry where that is due, else 1.0. It is the whole vector's (`stored-symmetric`).
 pub fn half_stored(room: &[f64], p: usize, w: usize, taken: bool) -> f64
     requires { ⌜ Place (length (now room)) w p ⌝ }
     ensures { λ m. ⌜ m ≡ mostIf taken (tabulate (halfAt (now (room .entry)) w p) (2 ^ (w - 1))) ⌝ }

@@ -4,7 +4,7 @@ ghost use mathlib.Core.Path.{_≡_};
 ghost use Prim.Native.Nat.{ℕ, _+_, _*_, _-_, _%_, _^_, _≤_, _<_};
 ghost use lib.ListN.{length};
 ghost use Rattle.half_sums.specs.Pair.{Within, Summed, Sourced, Begun, SumsOf};
-use halves::turned;
+use halves::negated_if;
 use sweep::pow2;
 
 // Where the sums of a pair are read: Z at f and b, N at g and b, subtracted where bits 0 and d of an index differ. For a direct pair g is f
@@ -28,8 +28,8 @@ pub struct Both {
     pub second: Sums,
 }
 
-// One turn there: the terms of the indexes i and i + 1. i is even and d is not 0, so both have one bit d.
-fn turn_there(v: &[f64], at: Source, i: usize, s: Sums) -> Sums
+// One iteration there: the terms of the indexes i and i + 1. i is even and d is not 0, so both have one bit d.
+fn terms_there(v: &[f64], at: Source, i: usize, s: Sums) -> Sums
     requires { ⌜ Within (length (now v)) (i + 2) at × (i % 2 ≡ 0) ⌝ }
     ensures { λ r. ⌜ ((w : ℕ) → 1 ≤ w → i + 2 ≤ 2 ^ (w - 1) → Summed (now (v .entry)) at w i s → Summed (now (v .entry)) at w (i + 2) r) ⌝ }
 {
@@ -38,15 +38,15 @@ fn turn_there(v: &[f64], at: Source, i: usize, s: Sums) -> Sums
     let b0 = v[b + i];
     let b1 = v[b + (i + 1)];
     let z = s.z + v[f + i] * b0;
-    let n = s.n + turned(minus, v[g + i] * b0);
+    let n = s.n + negated_if(minus, v[g + i] * b0);
     Sums {
         z: z + v[f + (i + 1)] * b1,
-        n: n - turned(minus, v[g + (i + 1)] * b1),
+        n: n - negated_if(minus, v[g + (i + 1)] * b1),
     }
 }
 
-// One turn back: the terms of the indexes i + 1 and i.
-fn turn_back(v: &[f64], at: Source, i: usize, s: Sums) -> Sums
+// One iteration back: the terms of the indexes i + 1 and i.
+fn terms_back(v: &[f64], at: Source, i: usize, s: Sums) -> Sums
     requires { ⌜ Within (length (now v)) (i + 2) at × (i % 2 ≡ 0) ⌝ }
     ensures { λ r. ⌜ ((w : ℕ) → 1 ≤ w → i + 2 ≤ 2 ^ (w - 1) → Summed (now (v .entry)) at w (2 ^ w - (i + 2)) s → Summed (now (v .entry)) at w (2 ^ w - i) r) ⌝ }
 {
@@ -55,10 +55,10 @@ fn turn_back(v: &[f64], at: Source, i: usize, s: Sums) -> Sums
     let b0 = v[b + i];
     let b1 = v[b + (i + 1)];
     let z = s.z + v[f + (i + 1)] * b1;
-    let n = s.n - turned(minus, v[g + (i + 1)] * b1);
+    let n = s.n - negated_if(minus, v[g + (i + 1)] * b1);
     Sums {
         z: z + v[f + i] * b0,
-        n: n + turned(minus, v[g + i] * b0),
+        n: n + negated_if(minus, v[g + i] * b0),
     }
 }
 
@@ -86,14 +86,14 @@ fn there_and_back(v: &[f64], x: Source, y: Source, w: usize) -> Both
     let n = pow2(w - 1);
     let mut i = 0usize;
     while i < n {
-        s = turn_there(v, x, i, s);
-        t = turn_there(v, y, i, t);
+        s = terms_there(v, x, i, s);
+        t = terms_there(v, y, i, t);
         i += 2;
     }
     while i > 0 {
         i -= 2;
-        s = turn_back(v, x, i, s);
-        t = turn_back(v, y, i, t);
+        s = terms_back(v, x, i, s);
+        t = terms_back(v, y, i, t);
     }
     Both {
         first: s,

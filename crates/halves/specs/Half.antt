@@ -40,19 +40,19 @@ module _ (w : ℕ) (wide : 1 ≤ w) where
       (λ l. let i : 2 ^ w - 1 - (2 ^ w - 1 - j) ≡ j = omega arith in rw i at (q (2 ^ w - 1 - j) (omega (arith, whole))))
 
 -- Forward, with a from the half's front and b from its end: entry 2k is (ep a + em b) up, entry 2k + 1 is (em a + ep b) down. The coefficients
--- of b are turned: not at all in an even half, to their negatives in an odd one.
+-- of b are as they are in a symmetric half, and negated in an antisymmetric one.
 unfoldable pub forwardHalf : ℕ → Step Float → Float → (Float → Float) → (ℕ → Float) → ℕ → Float
-forwardHalf w s sc turn h j =
+forwardHalf w s sc sign h j =
     let k = j / 2 in
     let a = h k in
     let b = h (2 ^ (w - 1) - 1 - k) in
     cond (bit 0 j)
-    (blend (S.em ieee (s .left)) (turn (S.ep ieee (s .left))) (downs s sc k) a b)
-    (blend (S.ep ieee (s .left)) (turn (S.em ieee (s .left))) (ups s sc k) a b)
+    (blend (S.em ieee (s .left)) (sign (S.ep ieee (s .left))) (downs s sc k) a b)
+    (blend (S.ep ieee (s .left)) (sign (S.em ieee (s .left))) (ups s sc k) a b)
 
--- the turn of an even half's coefficients, and of an odd one's
-abbrev pub turnOf : Bool → Float → Float
-turnOf odd x = cond odd (neg x) x
+-- the sign of a symmetric half's coefficients, and of an antisymmetric one's
+abbrev pub negatedIf : Bool → Float → Float
+negatedIf antisymmetric x = cond antisymmetric (neg x) x
 
 -- Backward, for a window of 2 or more, from entries 2k and 2k + 1: x and y are those times up and down; entry k is ep x + em y, and entry
 -- 2 ^ (w - 1) - 1 - k is em x + ep y.
@@ -63,10 +63,10 @@ backwardHalf w s sc h j =
     (mix (S.ep ieee (s .left)) (S.em ieee (s .left)) (ups s sc k) (downs s sc k) (h (2 * k)) (h (2 * k + 1)))
     (mix (S.em ieee (s .left)) (S.ep ieee (s .left)) (ups s sc k) (downs s sc k) (h (2 * k)) (h (2 * k + 1)))
 
-module _ (w : ℕ) (s : Step Float) (sc : Float) (turn : Float → Float) (h : ℕ → Float) (j k : ℕ) where
+module _ (w : ℕ) (s : Step Float) (sc : Float) (sign : Float → Float) (h : ℕ → Float) (j k : ℕ) where
   -- its even entries
   pub forwardHalf-even : j ≡ 2 * k
-      → forwardHalf w s sc turn h j ≡ blend (S.ep ieee (s .left)) (turn (S.em ieee (s .left))) (ups s sc k) (h k) (h (2 ^ (w - 1) - 1 - k))
+      → forwardHalf w s sc sign h j ≡ blend (S.ep ieee (s .left)) (sign (S.em ieee (s .left))) (ups s sc k) (h k) (h (2 ^ (w - 1) - 1 - k))
   unfolding forwardHalf
   forwardHalf-even e =
       let r : j / 1 % 2 ≡ 0 = omega arith in
@@ -75,7 +75,7 @@ module _ (w : ℕ) (s : Step Float) (sc : Float) (turn : Float → Float) (h : �
 
   -- its odd entries
   pub forwardHalf-odd : j ≡ 2 * k + 1
-      → forwardHalf w s sc turn h j ≡ blend (S.em ieee (s .left)) (turn (S.ep ieee (s .left))) (downs s sc k) (h k) (h (2 ^ (w - 1) - 1 - k))
+      → forwardHalf w s sc sign h j ≡ blend (S.em ieee (s .left)) (sign (S.ep ieee (s .left))) (downs s sc k) (h k) (h (2 ^ (w - 1) - 1 - k))
   unfolding forwardHalf
   forwardHalf-odd e =
       let r : j / 1 % 2 ≡ 1 = omega arith in

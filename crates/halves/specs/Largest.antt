@@ -1,4 +1,4 @@
--- The largest entry of a vector stands in its even half.
+-- The largest entry of a vector stands in its symmetric half.
 use mathlib.Core.Path.{_≡_, refl, sym, ap, _∙_}
 use mathlib.Core.Bool.{Bool, true, false, cond}
 use mathlib.Core.List.{List}
@@ -19,7 +19,7 @@ use Rattle.largest.specs.Larger.{larger}
 use Rattle.largest.specs.Order.{plus, above-plus, not-above-itself, still-not}
 use Rattle.largest.specs.Top.{top, top-none, top-suc}
 use Rattle.halves.specs.Half.{thereAndBack, there, back}
-use Rattle.halves.specs.Even.{Even, even-entry}
+use Rattle.halves.specs.Symmetric.{SymmetricHalf, symmetric-entry}
 
 -- none of the first n numbers of f is above m
 record Bound (f : ℕ → Float) (n : ℕ) (m : Float) : Type 0 where
@@ -56,13 +56,13 @@ top-more f n (suc i) h =
     rw (add-suc n i, top-suc f (n + i), top-more f n i (λ k l. h k (omega arith)), w .2, top-bound f n .bound (w .0) (w .1))
 
 -- the largest entry of the whole is that of the half
-pub largest-even : {w : ℕ} {h : ℕ → Float} {v : List Float} → 1 ≤ w → length v ≡ 2 ^ w → Even w h v
+pub largest-symmetric : {w : ℕ} {h : ℕ → Float} {v : List Float} → 1 ≤ w → length v ≡ 2 ^ w → SymmetricHalf w h v
     → S.largest ieee (ieee .𝟘) v ≡ S.largest ieee (ieee .𝟘) (tabulate h (2 ^ (w - 1)))
-largest-even {w} {h} {v} wide e even =
+largest-symmetric {w} {h} {v} wide e symmetric =
     let n = 2 ^ (w - 1) in
     let f = thereAndBack w h in
     let z : 2 ^ w ≡ n + n = omega (arith, pow-double w wide) in
-    ap (S.largest ieee (ieee .𝟘)) (tabulated (ieee .𝟘) v f (2 ^ w) e (even-entry wide even))
+    ap (S.largest ieee (ieee .𝟘)) (tabulated (ieee .𝟘) v f (2 ^ w) e (symmetric-entry wide symmetric))
     ∙ ap (top f) z
     ∙ top-more f n n (λ k l. (n - 1 - k, omega arith, again k l))
     ∙ ap (S.largest ieee (ieee .𝟘)) (tabulate-ext f h n (there w wide h))
@@ -73,8 +73,8 @@ largest-even {w} {h} {v} wide e even =
         rw i at (back w wide h (2 ^ (w - 1) - 1 - k) (omega arith)) ∙ sym (there w wide h (2 ^ (w - 1) - 1 - k) (omega arith))
 
 -- so the largest entry that a step stores is
-pub stored-even : {w : ℕ} {h : ℕ → Float} {v : List Float} → 1 ≤ w → length v ≡ 2 ^ w → Even w h v → (a : Manner) (r t : ℕ)
+pub stored-symmetric : {w : ℕ} {h : ℕ → Float} {v : List Float} → 1 ≤ w → length v ≡ 2 ^ w → SymmetricHalf w h v → (a : Manner) (r t : ℕ)
     → S.stored ieee a r t v ≡ S.stored ieee a r t (tabulate h (2 ^ (w - 1)))
 unfolding S.stored
-stored-even wide e even perElement r t = largest-even wide e even
-stored-even wide e even block r t = ap (λ x. cond (eqb (t % 4) r) x (ieee .𝟙)) (largest-even wide e even)
+stored-symmetric wide e symmetric perElement r t = largest-symmetric wide e symmetric
+stored-symmetric wide e symmetric block r t = ap (λ x. cond (eqb (t % 4) r) x (ieee .𝟙)) (largest-symmetric wide e symmetric)

@@ -4,7 +4,7 @@ pub mod Alike
 pub mod Running
 pub mod Terms
 pub mod Half
-pub mod Even
-pub mod Odd
+pub mod Symmetric
+pub mod Antisymmetric
 pub mod Sums
 pub mod Largest

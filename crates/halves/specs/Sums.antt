@@ -15,10 +15,10 @@ use Rattle.transfer.specs.Sweep as S
 use Rattle.symmetry.specs.Flip.{bit-flips}
 use Rattle.halves.specs.Sign.{neg-first}
 use Rattle.halves.specs.Alike.{alike-is, alike-mul}
-use Rattle.halves.specs.Terms.{SameTerm, like, turned, signed-same, sum-same}
+use Rattle.halves.specs.Terms.{SameTerm, like, negated, signed-same, sum-same}
 use Rattle.halves.specs.Half.{thereAndBack, there, back, by-halves}
-use Rattle.halves.specs.Even.{Even, even-entry}
-use Rattle.halves.specs.Odd.{Odd}
+use Rattle.halves.specs.Symmetric.{SymmetricHalf, symmetric-entry}
+use Rattle.halves.specs.Antisymmetric.{AntisymmetricHalf}
 
 -- the products of two vectors' entries, and of two halves'
 abbrev pub products : List Float → List Float → ℕ → Float
@@ -57,25 +57,25 @@ module _ (w : ℕ) (wide : 1 ≤ w) where
 
   -- ---- the sums of the vector v, of the half h, and the backward vector b, of the half k
 
-  module _ (h k : ℕ → Float) (v b : List Float) (even : Even w k b) where
+  module _ (h k : ℕ → Float) (v b : List Float) (symmetric : SymmetricHalf w k b) where
     -- Z
-    pub Z-halves : Even w h v → sum ieee (2 ^ w) (products v b) ≡ sum ieee (2 ^ w) (thereAndBack w (halfProducts h k))
-    Z-halves e = sum-same (2 ^ w) (products v b) (thereAndBack w (halfProducts h k)) (λ j l. rw (even-entry wide e j l, even-entry wide even j l))
+    pub Z-halves : SymmetricHalf w h v → sum ieee (2 ^ w) (products v b) ≡ sum ieee (2 ^ w) (thereAndBack w (halfProducts h k))
+    Z-halves e = sum-same (2 ^ w) (products v b) (thereAndBack w (halfProducts h k)) (λ j l. rw (symmetric-entry wide e j l, symmetric-entry wide symmetric j l))
 
     -- N of a direct pair: bits 0 and d differ at 2 ^ w - 1 - j where they do at j
-    pub direct-halves : Even w h v → (d : ℕ) → d < w
+    pub direct-halves : SymmetricHalf w h v → (d : ℕ) → d < w
         → signedSum ieee (2 ^ w) (differ d) (products v b) ≡ signedSum ieee (2 ^ w) (thereAndBack w (differ d)) (thereAndBack w (halfProducts h k))
     direct-halves e d l =
         signed-halves (differ d) (products v b) (halfProducts h k) (λ j. mul-fits binary64 (S.at ieee v j) (S.at ieee b j))
-        (λ j c. like (alike-mul binary64 (alike-is (e .low j c)) (alike-is (even .low j c))))
-        (λ j c. rw (differ-flips w d j l (omega (arith, whole))) (like (alike-mul binary64 (alike-is (e .high j c)) (alike-is (even .high j c)))))
+        (λ j c. like (alike-mul binary64 (alike-is (e .low j c)) (alike-is (symmetric .low j c))))
+        (λ j c. rw (differ-flips w d j l (omega (arith, whole))) (like (alike-mul binary64 (alike-is (e .high j c)) (alike-is (symmetric .high j c)))))
 
-    -- N of a propagated pair: at 2 ^ w - 1 - j both the sign and the propagated entry turn
-    pub propagated-halves : Odd w h v
+    -- N of a propagated pair: at 2 ^ w - 1 - j both the sign and the propagated entry iteration
+    pub propagated-halves : AntisymmetricHalf w h v
         → signedSum ieee (2 ^ w) (bit 0) (products v b) ≡ signedSum ieee (2 ^ w) (thereAndBack w (bit 0)) (thereAndBack w (halfProducts h k))
     propagated-halves o =
         signed-halves (bit 0) (products v b) (halfProducts h k) (λ j. mul-fits binary64 (S.at ieee v j) (S.at ieee b j))
-        (λ j c. like (alike-mul binary64 (o .low j c) (alike-is (even .low j c))))
+        (λ j c. like (alike-mul binary64 (o .low j c) (alike-is (symmetric .low j c))))
         (λ j c.
-        let t = alike-mul binary64 (o .high j c) (alike-is (even .high j c)) in
-        rw (bit-flips w 0 j wide (omega (arith, whole))) (turned (rw (← neg-first binary64 (h j) (k j)) at t)))
+        let t = alike-mul binary64 (o .high j c) (alike-is (symmetric .high j c)) in
+        rw (bit-flips w 0 j wide (omega (arith, whole))) (negated (rw (← neg-first binary64 (h j) (k j)) at t)))

@@ -14,15 +14,15 @@ use Rattle.halves.specs.Running.{Running, add-forgets, sub-forgets, add-
 -- x subtracted where m says so, and y where k does, come to the same but for the sign of a zero
 pub data SameTerm : Bool → Float → Bool → Float → Type 0 where
   like : {m : Bool} {x y : Float} → Alike x y → SameTerm m x m y
-  turned : {m : Bool} {x y : Float} → Alike x (neg y) → SameTerm (not m) x m y
+  negated : {m : Bool} {x y : Float} → Alike x (neg y) → SameTerm (not m) x m y
 
 -- a sum does not tell them apart
 same-next : {a : Float} {m k : Bool} {x y : Float} → Running binary64 a → SameTerm m x k y
     → cond m (sub binary64 a x) (add binary64 a x) ≡ cond k (sub binary64 a y) (add binary64 a y)
 same-next r (like {m = true} h) = sub-forgets binary64 r h
 same-next r (like {m = false} h) = add-forgets binary64 r h
-same-next {a} {y = y} r (turned {m = true} h) = add-forgets binary64 r h ∙ add-neg binary64 a y
-same-next {a} {y = y} r (turned {m = false} h) = sub-forgets binary64 r h ∙ sub-neg binary64 a y
+same-next {a} {y = y} r (negated {m = true} h) = add-forgets binary64 r h ∙ add-neg binary64 a y
+same-next {a} {y = y} r (negated {m = false} h) = sub-forgets binary64 r h ∙ sub-neg binary64 a y
 
 next-running : (m : Bool) {a : Float} (x : Float) → Running binary64 a → T (fits binary64 x)
     → Running binary64 (cond m (sub binary64 a x) (add binary64 a x))

@@ -1,1 +1,1 @@
-mod LargestTurn
+mod LargestIteration

@@ -15,9 +15,9 @@ use Rattle.largest.specs.Top.{top, Top, top-same, top-join, top-none, to
 abbrev pub Fit : (ℕ → Float) → Type 0
 Fit f = (j : ℕ) → T (fits binary64 (f j))
 
--- a turn of a lane
-pub lane-turn : (f : ℕ → Float) (n : ℕ) {a r : Float} → a ≡ top f n → r ≡ larger a (f n) → r ≡ top f (n + 1)
-lane-turn f n e p = rw (add-one n, top-suc f n, ← e) p
+-- an iteration of a lane
+pub lane-iteration : (f : ℕ → Float) (n : ℕ) {a r : Float} → a ≡ top f n → r ≡ larger a (f n) → r ≡ top f (n + 1)
+lane-iteration f n e p = rw (add-one n, top-suc f n, ← e) p
 
 -- m numbers of f and n of g are, in some order, the first k of h
 module _ (f g h : ℕ → Float) (fit-f : Fit f) (fit-g : Fit g) (fit-h : Fit h) (m n k : ℕ) where
@@ -96,17 +96,17 @@ module _ (f g : ℕ → Float) where
   pub lanes-none : {a b c d : Float} → a ≡ ieee .𝟘 → b ≡ ieee .𝟘 → c ≡ ieee .𝟘 → d ≡ ieee .𝟘 → Lanes f g 0 a b c d
   lanes-none a b c d = record { even = a ∙ top-none _; odd = b ∙ top-none _; even′ = c ∙ top-none _; odd′ = d ∙ top-none _ }
 
-  pub lanes-turn : (i : ℕ) {a b c d a′ b′ c′ d′ : Float} → i % 2 ≡ 0 → Lanes f g i a b c d
+  pub lanes-iteration : (i : ℕ) {a b c d a′ b′ c′ d′ : Float} → i % 2 ≡ 0 → Lanes f g i a b c d
       → a′ ≡ larger a (f i) → b′ ≡ larger b (f (i + 1)) → c′ ≡ larger c (g i) → d′ ≡ larger d (g (i + 1)) → Lanes f g (i + 2) a′ b′ c′ d′
-  lanes-turn i {a} {b} {c} {d} e l p q r s =
+  lanes-iteration i {a} {b} {c} {d} e l p q r s =
       let n : (i + 2) / 2 ≡ i / 2 + 1 = omega arith in
       let j : i ≡ 2 * (i / 2) = omega arith in
       let k : i + 1 ≡ 2 * (i / 2) + 1 = omega arith in
       record {
-        even = lane-turn (λ t. f (2 * t)) (i / 2) (l .even) (p ∙ ap (λ (x : ℕ). larger a (f x)) j) ∙ ap (top (λ t. f (2 * t))) (sym n);
-        odd = lane-turn (λ t. f (2 * t + 1)) (i / 2) (l .odd) (q ∙ ap (λ (x : ℕ). larger b (f x)) k) ∙ ap (top (λ t. f (2 * t + 1))) (sym n);
-        even′ = lane-turn (λ t. g (2 * t)) (i / 2) (l .even′) (r ∙ ap (λ (x : ℕ). larger c (g x)) j) ∙ ap (top (λ t. g (2 * t))) (sym n);
-        odd′ = lane-turn (λ t. g (2 * t + 1)) (i / 2) (l .odd′) (s ∙ ap (λ (x : ℕ). larger d (g x)) k) ∙ ap (top (λ t. g (2 * t + 1))) (sym n);
+        even = lane-iteration (λ t. f (2 * t)) (i / 2) (l .even) (p ∙ ap (λ (x : ℕ). larger a (f x)) j) ∙ ap (top (λ t. f (2 * t))) (sym n);
+        odd = lane-iteration (λ t. f (2 * t + 1)) (i / 2) (l .odd) (q ∙ ap (λ (x : ℕ). larger b (f x)) k) ∙ ap (top (λ t. f (2 * t + 1))) (sym n);
+        even′ = lane-iteration (λ t. g (2 * t)) (i / 2) (l .even′) (r ∙ ap (λ (x : ℕ). larger c (g x)) j) ∙ ap (top (λ t. g (2 * t))) (sym n);
+        odd′ = lane-iteration (λ t. g (2 * t + 1)) (i / 2) (l .odd′) (s ∙ ap (λ (x : ℕ). larger d (g x)) k) ∙ ap (top (λ t. g (2 * t + 1))) (sym n);
       }
 
   pub lanes-done : (n : ℕ) {a b c d : Float} → Fit f → Fit g → n % 2 ≡ 0 → Lanes f g n a b c d

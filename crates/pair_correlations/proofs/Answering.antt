@@ -115,8 +115,8 @@ pub record Answering (plan us vs order : List ℕ) (r₀ r results : List Float)
   pub long : length results ≡ length us
   pub moving : current .place < 2
   pub still : Still r₀ r w scales
-  pub known : (J : Job Float) (each : Bool) → Passed J plan r₀ n w scales each → CurrentKnown J r n w current
-  pub done : (J : Job Float) (each : Bool) → Passed J plan r₀ n w scales each → (k : ℕ) → Done directs direct other k
+  pub known : (J : Job Float) (per-element : Bool) → Passed J plan r₀ n w scales per-element → CurrentKnown J r n w current
+  pub done : (J : Job Float) (per-element : Bool) → Passed J plan r₀ n w scales per-element → (k : ℕ) → Done directs direct other k
       → Answered J us vs results (getD order k 0)
 
 pub answering-none : (plan us vs order : List ℕ) (r results : List Float) (n w scales : ℕ) (current : CurrentVector) (directs : ℕ) → directs ≤ length order
@@ -129,8 +129,8 @@ answering-none plan us vs order r results n w scales current directs d l e low =
       long = l;
       moving = low;
       still = still-none r w scales;
-      known = λ J each passed. record { reached = λ b. absurd (omega arith) };
-      done = λ J each passed k b. absurd (nothing k b);
+      known = λ J per-element passed. record { reached = λ b. absurd (omega arith) };
+      done = λ J per-element passed k b. absurd (nothing k b);
     }
   where
     nothing : (k : ℕ) → Done directs 0 directs k → ⊥
@@ -140,16 +140,16 @@ answering-none plan us vs order r results n w scales current directs d l e low =
 module _ (plan us vs order : List ℕ) (r₀ r results : List Float) (n w scales : ℕ) (current : CurrentVector) (directs direct other : ℕ)
     (g : Answering plan us vs order r₀ r results n w scales current directs direct other) (ordered : Ordered order (length us)) where
   -- all pairs are answered
-  pub all-answered : directs + length us ≤ direct + other → (J : Job Float) (each : Bool) → PlanOf J plan (drop (scales + n) r₀) n w each
+  pub all-answered : directs + length us ≤ direct + other → (J : Job Float) (per-element : Bool) → PlanOf J plan (drop (scales + n) r₀) n w per-element
       → Swept J plan r₀ n w scales → Outcome J us vs results true
-  all-answered l J each of swept =
-      let passed : Passed J plan r₀ n w scales each = record { of = of; swept = swept } in
+  all-answered l J per-element of swept =
+      let passed : Passed J plan r₀ n w scales per-element = record { of = of; swept = swept } in
       let each-number : (k : ℕ) → k < length us → Done directs direct other k =
       λ k b. dite (decLt k directs) (λ c. inl (omega (arith, g .below, g .inside, ordered .long)))
       (λ c. inr (omega arith, omega (arith, g .below, g .inside, ordered .long))) in
       let each-pair : (i : ℕ) → i < length us → Answered J us vs results i =
       λ i b. let o = ordered .onto i b in
-      subst (λ (p : ℕ). Answered J us vs results p) (o .2) (g .done J each passed (o .0) (each-number (o .0) (o .1))) in
+      subst (λ (p : ℕ). Answered J us vs results p) (o .2) (g .done J per-element passed (o .0) (each-number (o .0) (o .1))) in
       record {
         told = sym (ap not (unsound-is J us vs ∙ none-of _ (length us) (λ i b. ap not (each-pair i b .sound))));
         values = λ e. tabulated nan results _ (length us) (g .long) (λ i b. each-pair i b .value) ∙ sym (answers-is J us vs);
@@ -158,19 +158,19 @@ module _ (plan us vs order : List ℕ) (r₀ r results : List Float) (n w scales
   -- the next two
   module _ (t : Pairing) (s : Step) (r₂ results₂ : List Float) (pairing : NextPairing directs (length order) direct other t) (ready : Ready plan (length r₀) n w scales)
       (two : AnsweredTwo plan us vs r r₂ results results₂ n w scales (getD order (t .first) 0) (getD order (t .second) 0) current s) where
-    now : (J : Job Float) (each : Bool) → Passed J plan r₀ n w scales each → Passed J plan r n w scales each
-    now J each passed = still-passed J plan r₀ r n w scales each ready (g .still) passed
+    now : (J : Job Float) (per-element : Bool) → Passed J plan r₀ n w scales per-element → Passed J plan r n w scales per-element
+    now J per-element passed = still-passed J plan r₀ r n w scales per-element ready (g .still) passed
 
     pub still-next : Still r₀ r₂ w scales
     still-next = still-then r₀ r r₂ w scales (g .still) (two .still)
 
     -- some Z is not sound
-    pub two-unsound : s .sound ≡ false → (J : Job Float) (each : Bool) → PlanOf J plan (drop (scales + n) r₀) n w each
+    pub two-unsound : s .sound ≡ false → (J : Job Float) (per-element : Bool) → PlanOf J plan (drop (scales + n) r₀) n w per-element
         → Swept J plan r₀ n w scales → Outcome J us vs results₂ false
-    two-unsound e J each of swept =
-        let passed : Passed J plan r₀ n w scales each = record { of = of; swept = swept } in
+    two-unsound e J per-element of swept =
+        let passed : Passed J plan r₀ n w scales per-element = record { of = of; swept = swept } in
         record {
-          told = sym (ap not (two .unanswered J each (now J each passed) (g .known J each passed) e));
+          told = sym (ap not (two .unanswered J per-element (now J per-element passed) (g .known J per-element passed) e));
           values = λ f. absurd (true≢false (sym f));
         }
 
@@ -184,25 +184,25 @@ module _ (plan us vs order : List ℕ) (r₀ r results : List Float) (n w scales
           long = two .long ∙ g .long;
           moving = two .moving;
           still = still-next;
-          known = λ J each passed. two .answered J each (now J each passed) (g .known J each passed) e .0;
-          done = λ J each passed k b. more J each passed k (pairing .covered k b);
+          known = λ J per-element passed. two .answered J per-element (now J per-element passed) (g .known J per-element passed) e .0;
+          done = λ J per-element passed k b. more J per-element passed k (pairing .covered k b);
         }
       where
         within : (k : ℕ) → k < length order → getD order k 0 < length results
         within k b = rw (g .long) (ordered .inside k (rw (← ordered .long) b))
 
-        known : (J : Job Float) (each : Bool) → Passed J plan r₀ n w scales each → (k : ℕ)
+        known : (J : Job Float) (per-element : Bool) → Passed J plan r₀ n w scales per-element → (k : ℕ)
             → (Done directs direct other k ⊎ ((k ≡ t .first) ⊎ (k ≡ t .second)))
             → Answered J us vs results (getD order k 0) ⊎ ((getD order k 0 ≡ getD order (t .first) 0) ⊎ (getD order k 0 ≡ getD order (t .second) 0))
-        known J each passed k (inl b) = inl (g .done J each passed k b)
-        known J each passed k (inr (inl x)) = inr (inl (ap (λ (j : ℕ). getD order j 0) x))
-        known J each passed k (inr (inr x)) = inr (inr (ap (λ (j : ℕ). getD order j 0) x))
+        known J per-element passed k (inl b) = inl (g .done J per-element passed k b)
+        known J per-element passed k (inr (inl x)) = inr (inl (ap (λ (j : ℕ). getD order j 0) x))
+        known J per-element passed k (inr (inr x)) = inr (inr (ap (λ (j : ℕ). getD order j 0) x))
 
-        more : (J : Job Float) (each : Bool) → Passed J plan r₀ n w scales each → (k : ℕ)
+        more : (J : Job Float) (per-element : Bool) → Passed J plan r₀ n w scales per-element → (k : ℕ)
             → (Done directs direct other k ⊎ ((k ≡ t .first) ⊎ (k ≡ t .second))) → Answered J us vs results₂ (getD order k 0)
-        more J each passed k c =
+        more J per-element passed k c =
             both-answered J us vs results results₂ _ _ (within (t .first) (pairing .first)) (within (t .second) (pairing .second))
-            (two .answered J each (now J each passed) (g .known J each passed) e .1) _ (known J each passed k c)
+            (two .answered J per-element (now J per-element passed) (g .known J per-element passed) e .1) _ (known J per-element passed k c)
 
 -- the second pair of a pairing is the first or a direct one
 pub second-of-pairing : (us vs order : List ℕ) (w directs : ℕ) → Directs us vs order w directs → (i j : ℕ) → ((j ≡ i) ⊎ (j < directs))

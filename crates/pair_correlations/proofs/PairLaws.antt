@@ -13,8 +13,8 @@ use Rattle.transfer.specs.Rounded.{ieee}
 use Rattle.transfer.specs.Sweep as S
 use Rattle.plan.specs.Layout.{forwardPlace, backwardPlace}
 use Rattle.sweep.specs.Place.{Place}
-use Rattle.halves.specs.Even.{Even}
-use Rattle.halves.specs.Odd.{Odd}
+use Rattle.halves.specs.Symmetric.{SymmetricHalf}
+use Rattle.halves.specs.Antisymmetric.{AntisymmetricHalf}
 use Rattle.half_sums.specs.Terms.{halfAt, terms, signs}
 use Rattle.half_sums.specs.declared.sums.Source.{Source}
 use Rattle.half_sums.specs.Pair.{Sourced, SumsOf}
@@ -44,27 +44,27 @@ module _ (J : Job Float) (w u v : ℕ) (window : J .window ≡ w) where
   unfolding S.N
   far l = rw (le-ltb (v - u) (J .window) (omega arith))
 
-  module _ (h k : ℕ → Float) (wide : 1 ≤ w) (even : Even w k (S.backward ieee J v)) where
-    z-sum : Even w h (S.forward ieee J v) → sum ieee (2 ^ w) (terms w h k) ≡ S.Z ieee J v
+  module _ (h k : ℕ → Float) (wide : 1 ≤ w) (backward-is : SymmetricHalf w k (S.backward ieee J v)) where
+    z-sum : SymmetricHalf w h (S.forward ieee J v) → sum ieee (2 ^ w) (terms w h k) ≡ S.Z ieee J v
     z-sum =
         subst
-        (λ (m : ℕ). 1 ≤ m → Even m k (S.backward ieee J v) → Even m h (S.forward ieee J v) → sum ieee (2 ^ m) (terms m h k) ≡ S.Z ieee J v) window
-        (λ a b c. Z-is J h k u v a b c) wide even
+        (λ (m : ℕ). 1 ≤ m → SymmetricHalf m k (S.backward ieee J v) → SymmetricHalf m h (S.forward ieee J v) → sum ieee (2 ^ m) (terms m h k) ≡ S.Z ieee J v) window
+        (λ a b c. Z-is J h k u v a b c) wide backward-is
 
-    direct-sum : v - u < w → Even w h (S.forward ieee J v) → signedSum ieee (2 ^ w) (signs w (v - u)) (terms w h k) ≡ S.N ieee J u v
+    direct-sum : v - u < w → SymmetricHalf w h (S.forward ieee J v) → signedSum ieee (2 ^ w) (signs w (v - u)) (terms w h k) ≡ S.N ieee J u v
     direct-sum l e =
         subst
-        (λ (m : ℕ). 1 ≤ m → Even m k (S.backward ieee J v) → v - u < m → Even m h (S.forward ieee J v)
+        (λ (m : ℕ). 1 ≤ m → SymmetricHalf m k (S.backward ieee J v) → v - u < m → SymmetricHalf m h (S.forward ieee J v)
         → signedSum ieee (2 ^ m) (signs m (v - u)) (terms m h k) ≡ S.directN ieee J u v) window
-        (λ a b c d. direct-is J h k u v a b c d) wide even l e
+        (λ a b c d. direct-is J h k u v a b c d) wide backward-is l e
         ∙ sym (nearer l)
 
-    propagated-sum : w ≤ v - u → Odd w h (S.propagated ieee J u (v - u)) → signedSum ieee (2 ^ w) (signs w w) (terms w h k) ≡ S.N ieee J u v
+    propagated-sum : w ≤ v - u → AntisymmetricHalf w h (S.propagated ieee J u (v - u)) → signedSum ieee (2 ^ w) (signs w w) (terms w h k) ≡ S.N ieee J u v
     propagated-sum l o =
         subst
-        (λ (m : ℕ). 1 ≤ m → Even m k (S.backward ieee J v) → Odd m h (S.propagated ieee J u (v - u))
+        (λ (m : ℕ). 1 ≤ m → SymmetricHalf m k (S.backward ieee J v) → AntisymmetricHalf m h (S.propagated ieee J u (v - u))
         → signedSum ieee (2 ^ m) (signs m m) (terms m h k) ≡ S.propagatedN ieee J u v) window
-        (λ a b c. propagated-is J h k u v a b c) wide even o
+        (λ a b c. propagated-is J h k u v a b c) wide backward-is o
         ∙ sym (far l)
 
 -- ---- the places of v
@@ -80,12 +80,12 @@ module _ (plan : List ℕ) (len n w scales u v : ℕ) (ready : Ready plan len n 
       let fits = ready .backward .fits v (pair .inside) (pair .backward) in
       record { wide = ready .wide; narrow = ready .narrow; inside = omega (arith, ready .ends) }
 
-module _ (J : Job Float) (plan : List ℕ) (r : List Float) (n w scales u v : ℕ) (each : Bool) (pair : PairPlaces plan n w u v)
-    (passed : Passed J plan r n w scales each) where
-  forward-half : Even w (halfAt r w (forwardPlace plan v)) (S.forward ieee J v)
+module _ (J : Job Float) (plan : List ℕ) (r : List Float) (n w scales u v : ℕ) (per-element : Bool) (pair : PairPlaces plan n w u v)
+    (passed : Passed J plan r n w scales per-element) where
+  forward-half : SymmetricHalf w (halfAt r w (forwardPlace plan v)) (S.forward ieee J v)
   forward-half = passed .swept .forward .vectors v (pair .inside) (pair .forward)
 
-  backward-half : Even w (halfAt r w (backwardPlace plan v)) (S.backward ieee J v)
+  backward-half : SymmetricHalf w (halfAt r w (backwardPlace plan v)) (S.backward ieee J v)
   backward-half = passed .swept .backward .vectors v (omega arith) (pair .inside) (pair .backward)
 
   z-at : 1 ≤ w → zAt r w (forwardPlace plan v) (backwardPlace plan v) ≡ S.Z ieee J v
@@ -104,12 +104,12 @@ module _ (plan : List ℕ) (r : List Float) (n w scales u v : ℕ) (s : Source) 
     small = rw (d .bit) (omega (arith, ready .narrow));
   }
 
-  pub direct-of : (J : Job Float) (each : Bool) → Passed J plan r n w scales each → SourceOf J r w u v s
-  direct-of J each passed = record {
-    z-of = λ t g. rw (d .forward, d .backward) at (g .z-is) ∙ z-at J plan r n w scales u v each pair passed (ready .wide);
+  pub direct-of : (J : Job Float) (per-element : Bool) → Passed J plan r n w scales per-element → SourceOf J r w u v s
+  direct-of J per-element passed = record {
+    z-of = λ t g. rw (d .forward, d .backward) at (g .z-is) ∙ z-at J plan r n w scales u v per-element pair passed (ready .wide);
     n-of = λ t g. rw (d .other, d .backward, d .bit) at (g .n-is)
-        ∙ direct-sum J w u v (passed .of .window) _ _ (ready .wide) (backward-half J plan r n w scales u v each pair passed) near
-        (forward-half J plan r n w scales u v each pair passed);
+        ∙ direct-sum J w u v (passed .of .window) _ _ (ready .wide) (backward-half J plan r n w scales u v per-element pair passed) near
+        (forward-half J plan r n w scales u v per-element pair passed);
   }
 
 -- ---- what the code returns
@@ -122,8 +122,8 @@ module _ (plan : List ℕ) (r₀ : List Float) (n w scales u v : ℕ) (current :
         moving = rw eh low;
         still = still-none r₀ w scales;
         sourced = rw es (direct-sourced plan r₀ n w scales u v s ready pair l d);
-        known = λ J each passed known. rw eh known;
-        source-of = λ J each passed known. rw es (direct-of plan r₀ n w scales u v s ready pair l d J each passed);
+        known = λ J per-element passed known. rw eh known;
+        source-of = λ J per-element passed known. rw es (direct-of plan r₀ n w scales u v s ready pair l d J per-element passed);
       }
 
   -- the propagated vector is read in place of the forward one, with the window's bit
@@ -132,8 +132,8 @@ module _ (plan : List ℕ) (r₀ : List Float) (n w scales u v : ℕ) (current :
       → Aimed plan r₀ r n w scales u v current a
   aimed-far r on l g a es eh =
       let p = still-ready plan r₀ r n w scales (g .still) ready in
-      let now : (J : Job Float) (each : Bool) → Passed J plan r₀ n w scales each → Passed J plan r n w scales each =
-      λ J each passed. still-passed J plan r₀ r n w scales each ready (g .still) passed in
+      let now : (J : Job Float) (per-element : Bool) → Passed J plan r₀ n w scales per-element → Passed J plan r n w scales per-element =
+      λ J per-element passed. still-passed J plan r₀ r n w scales per-element ready (g .still) passed in
       record {
         moving = rw eh (g .moving);
         still = g .still;
@@ -144,11 +144,11 @@ module _ (plan : List ℕ) (r₀ : List Float) (n w scales u v : ℕ) (current :
           some = ready .wide;
           small = omega (arith, ready .narrow);
         });
-        known = λ J each passed known. rw eh (record { reached = λ _. g .reached J each passed known });
-        source-of = λ J each passed known. rw es (record {
-          z-of = λ t h. rw (d .forward, d .backward) at (h .z-is) ∙ z-at J plan r n w scales u v each pair (now J each passed) (ready .wide);
+        known = λ J per-element passed known. rw eh (record { reached = λ _. g .reached J per-element passed known });
+        source-of = λ J per-element passed known. rw es (record {
+          z-of = λ t h. rw (d .forward, d .backward) at (h .z-is) ∙ z-at J plan r n w scales u v per-element pair (now J per-element passed) (ready .wide);
           n-of = λ t h. rw (d .backward) at (h .n-is)
               ∙ propagated-sum J w u v (passed .of .window) _ _ (ready .wide)
-              (backward-half J plan r n w scales u v each pair (now J each passed)) l (g .reached J each passed known .vector);
+              (backward-half J plan r n w scales u v per-element pair (now J per-element passed)) l (g .reached J per-element passed known .vector);
         });
       }

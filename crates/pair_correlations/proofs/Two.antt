@@ -43,15 +43,15 @@ module _ (plan us vs : List ℕ) (r₀ r : List Float) (n w scales p q : ℕ) (c
       go (inl e) = rw (e .1) (aimed .sourced)
       go (inr d) = direct-sourced plan r n w scales _ _ other ready-now (pair-places plan us vs n w q served bq) (near (d .0)) (d .1)
 
-  second-of : (J : Job Float) (each : Bool) → Passed J plan r₀ n w scales each → CurrentKnown J r₀ n w current
+  second-of : (J : Job Float) (per-element : Bool) → Passed J plan r₀ n w scales per-element → CurrentKnown J r₀ n w current
       → SourceOf J r w (earlier us vs q) (later us vs q) other
-  second-of J each passed known = go at
+  second-of J per-element passed known = go at
     where
       go : SecondSource plan us vs p q (aim .source) other → SourceOf J r w (earlier us vs q) (later us vs q) other
-      go (inl e) = rw (e .1, e .0) (aimed .source-of J each passed known)
+      go (inl e) = rw (e .1, e .0) (aimed .source-of J per-element passed known)
       go (inr d) =
-          direct-of plan r n w scales _ _ other ready-now (pair-places plan us vs n w q served bq) (near (d .0)) (d .1) J each
-          (still-passed J plan r₀ r n w scales each ready (aimed .still) passed)
+          direct-of plan r n w scales _ _ other ready-now (pair-places plan us vs n w q served bq) (near (d .0)) (d .1) J per-element
+          (still-passed J plan r₀ r n w scales per-element ready (aimed .still) passed)
 
   module _ (x y : Sums) (gx : SumsOf r w (aim .source) x) (gy : SumsOf r w other y) (results : List Float) where
     -- one of the two Z is not sound
@@ -62,14 +62,14 @@ module _ (plan us vs : List ℕ) (r₀ r : List Float) (n w scales p q : ℕ) (c
           moving = low;
           long = refl;
           still = aimed .still;
-          answered = λ J each passed known t. absurd (true≢false (sym t));
-          unanswered = λ J each passed known t. go J each passed known e;
+          answered = λ J per-element passed known t. absurd (true≢false (sym t));
+          unanswered = λ J per-element passed known t. go J per-element passed known e;
         }
       where
-        go : (J : Job Float) (each : Bool) → Passed J plan r₀ n w scales each → CurrentKnown J r₀ n w current
+        go : (J : Job Float) (per-element : Bool) → Passed J plan r₀ n w scales per-element → CurrentKnown J r₀ n w current
             → ((soundly (x .z) ≡ false) ⊎ (soundly (y .z) ≡ false)) → unsound J us vs ≡ true
-        go J each passed known (inl e) = none-of-it J us vs r w p (aim .source) x (aimed .source-of J each passed known) gx bp e
-        go J each passed known (inr e) = none-of-it J us vs r w q other y (second-of J each passed known) gy bq e
+        go J per-element passed known (inl e) = none-of-it J us vs r w p (aim .source) x (aimed .source-of J per-element passed known) gx bp e
+        go J per-element passed known (inr e) = none-of-it J us vs r w q other y (second-of J per-element passed known) gy bq e
 
     -- both are
     pub two-written : soundly (x .z) ≡ true → soundly (y .z) ≡ true
@@ -80,15 +80,15 @@ module _ (plan us vs : List ℕ) (r₀ r : List Float) (n w scales p q : ℕ) (c
           moving = aimed .moving;
           long = length-set (set results p (div binary64 (x .n) (x .z))) q (div binary64 (y .n) (y .z)) ∙ length-set results p (div binary64 (x .n) (x .z));
           still = aimed .still;
-          answered = λ J each passed known t. (
-            aimed .known J each passed known,
+          answered = λ J per-element passed known t. (
+            aimed .known J per-element passed known,
             record {
               x = div binary64 (x .n) (x .z);
               y = div binary64 (y .n) (y .z);
               set-both = refl;
-              first = answer-of J us vs r w p (aim .source) x (aimed .source-of J each passed known) gx e;
-              second = answer-of J us vs r w q other y (second-of J each passed known) gy f;
+              first = answer-of J us vs r w p (aim .source) x (aimed .source-of J per-element passed known) gx e;
+              second = answer-of J us vs r w q other y (second-of J per-element passed known) gy f;
             },
           );
-          unanswered = λ J each passed known t. absurd (true≢false t);
+          unanswered = λ J per-element passed known t. absurd (true≢false t);
         }

@@ -44,8 +44,8 @@ pub record Aimed (plan : List ℕ) (r₀ r : List Float) (n w scales u v : ℕ) 
   pub moving : a .current .place < 2
   pub still : Still r₀ r w scales
   pub sourced : Sourced (length r) w (a .source)
-  pub known : (J : Job Float) (each : Bool) → Passed J plan r₀ n w scales each → CurrentKnown J r₀ n w current → CurrentKnown J r n w (a .current)
-  pub source-of : (J : Job Float) (each : Bool) → Passed J plan r₀ n w scales each → CurrentKnown J r₀ n w current → SourceOf J r w u v (a .source)
+  pub known : (J : Job Float) (per-element : Bool) → Passed J plan r₀ n w scales per-element → CurrentKnown J r₀ n w current → CurrentKnown J r n w (a .current)
+  pub source-of : (J : Job Float) (per-element : Bool) → Passed J plan r₀ n w scales per-element → CurrentKnown J r₀ n w current → SourceOf J r w u v (a .source)
 
 -- Pair q is pair p, or a direct one.
 abbrev pub Second : (us vs : List ℕ) (w p q : ℕ) → Type 0

@@ -49,9 +49,9 @@ module _ (plan early late us vs : List ℕ) (n w places scales factors end : ℕ
       }
 
   -- the plan is that of the job, whatever the factors and the manner
-  pub plan-of : 1 ≤ n → (x : List Float) (each : Bool) → PlanOf (jobOf nan n w early late x (cond each perElement block)) plan x n w each
-  plan-of some x each =
-      record { vertices = omega arith; window = refl; manner = refl; step = λ t b. g .steps .step x (cond each perElement block) t b }
+  pub plan-of : 1 ≤ n → (x : List Float) (per-element : Bool) → PlanOf (jobOf nan n w early late x (cond per-element perElement block)) plan x n w per-element
+  plan-of some x per-element =
+      record { vertices = omega arith; window = refl; manner = refl; step = λ t b. g .steps .step x (cond per-element perElement block) t b }
 
 -- ---- of a job that a plan can be made of
 

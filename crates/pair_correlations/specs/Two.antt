@@ -33,6 +33,6 @@ pub record AnsweredTwo (plan us vs : List ℕ) (r₀ r results₀ results : List
   pub moving : s .current .place < 2
   pub long : length results ≡ length results₀
   pub still : Still r₀ r w scales
-  pub answered : (J : Job Float) (each : Bool) → Passed J plan r₀ n w scales each → CurrentKnown J r₀ n w current → s .sound ≡ true
+  pub answered : (J : Job Float) (per-element : Bool) → Passed J plan r₀ n w scales per-element → CurrentKnown J r₀ n w current → s .sound ≡ true
       → CurrentKnown J r n w (s .current) × Written J us vs results₀ results p q
-  pub unanswered : (J : Job Float) (each : Bool) → Passed J plan r₀ n w scales each → CurrentKnown J r₀ n w current → s .sound ≡ false → unsound J us vs ≡ true
+  pub unanswered : (J : Job Float) (per-element : Bool) → Passed J plan r₀ n w scales per-element → CurrentKnown J r₀ n w current → s .sound ≡ false → unsound J us vs ≡ true

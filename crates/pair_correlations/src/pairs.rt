@@ -125,7 +125,7 @@ pub fn answer_pairs(
     requires { ⌜ Ready (now plan) (length (now room)) n w scales × Served (now plan) (now us) (now vs) n w
         × Ordered (now order) (length (now us)) × (length (now results) ≡ length (now us)) ⌝ }
     ensures { λ _. ⌜ Still (now (room .entry)) (now (room .exit)) w scales ⌝ }
-    ensures { λ r. ⌜ ((J : Job Float) (each : Bool) → PlanOf J (now (plan .entry)) (drop (scales + n) (now (room .entry))) n w each
+    ensures { λ r. ⌜ ((J : Job Float) (per-element : Bool) → PlanOf J (now (plan .entry)) (drop (scales + n) (now (room .entry))) n w per-element
         → Swept J (now (plan .entry)) (now (room .entry)) n w scales
         → Outcome J (now (us .entry)) (now (vs .entry)) (now (results .exit)) r) ⌝ }
 {

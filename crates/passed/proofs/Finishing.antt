@@ -38,9 +38,9 @@ module _ (plan early late us vs : List ℕ) (factors : List Float) (n w places s
   factors-fit = omega (arith, g .laid .ends, p .factored)
 
   -- what the run says of any job that the plan is of, it says of this one
-  module _ (memory room₁ room₂ results′ : List Float) (each sound : Bool) (long : length memory ≡ work)
+  module _ (memory room₁ room₂ results′ : List Float) (per-element sound : Bool) (long : length memory ≡ work)
       (laid : room₁ ≡ put (take end memory) at factors) (cleared : room₂ ≡ zeros (length room₁))
-      (said : (J : Job Float) → PlanOf J plan (drop (scales + n) room₁) n w each
+      (said : (J : Job Float) → PlanOf J plan (drop (scales + n) room₁) n w per-element
       → (sound ≡ not (unsound J us vs)) × (results′ ≡ cond sound (S.answers ieee J us vs) (zeros (length us)))) where
     taken : length (take end memory) ≡ end
     taken = length-take-le end memory (omega (arith, end-fits plan early late us vs n w places scales at end work (p .job) g))
@@ -58,11 +58,11 @@ module _ (plan early late us vs : List ℕ) (factors : List Float) (n w places s
         let f = factors-fit in
         ap length laid ∙ put-length (take end memory) at factors (omega arith) ∙ t
 
-    pub finished : Finished (jobOf nan n w early late factors (cond each perElement block)) n (length early) us vs sound results′ memory (room₂ ++ drop end memory)
+    pub finished : Finished (jobOf nan n w early late factors (cond per-element perElement block)) n (length early) us vs sound results′ memory (room₂ ++ drop end memory)
     finished =
-        let J = jobOf nan n w early late factors (cond each perElement block) in
-        let of : PlanOf J plan (drop (scales + n) room₁) n w each =
-        rw in-room (plan-of plan early late us vs n w places scales at end g (p .job .some) factors each) in
+        let J = jobOf nan n w early late factors (cond per-element perElement block) in
+        let of : PlanOf J plan (drop (scales + n) room₁) n w per-element =
+        rw in-room (plan-of plan early late us vs n w places scales at end g (p .job .some) factors per-element) in
         let s = said J of in
         let z : room₂ ≡ zeros (room n w (length early) us vs) = cleared ∙ ap zeros (same ∙ g .ends) in
         let k : length (zeros (room n w (length early) us vs)) ≡ end = length-replicate _ _ ∙ sym (g .ends) in

@@ -28,13 +28,13 @@ fn plan_and_run(
     us: &[usize],
     vs: &[usize],
     factors: &[f64],
-    each: bool,
+    per_element: bool,
     results: &mut [f64],
     work: &mut [f64],
 ) -> bool
     requires { ⌜ Passed n w (now early) (now late) (now us) (now vs) (now factors) (length (now results)) (length (now work)) ⌝ }
     requires { ⌜ Holds (now plan) n × (256 ≤ length (now order)) ⌝ }
-    ensures { λ r. ⌜ Finished (jobOf nan n w (now (early .entry)) (now (late .entry)) (now (factors .entry)) (cond each perElement block))
+    ensures { λ r. ⌜ Finished (jobOf nan n w (now (early .entry)) (now (late .entry)) (now (factors .entry)) (cond «per_element» perElement block))
         n (length (now (early .entry))) (now (us .entry)) (now (vs .entry)) r (now (results .exit)) (now (work .entry)) (now (work .exit)) ⌝ }
 {
     let layout = make_plan(plan, n, w, early, late, us, vs);
@@ -50,7 +50,7 @@ fn plan_and_run(
         n,
         w,
         layout.scales,
-        each,
+        per_element,
         us,
         vs,
         first,
@@ -58,7 +58,7 @@ fn plan_and_run(
     )
 }
 
-// The answers of the pairs, with the room at +0.0 after. Answers whether every pair's Z is finite and above zero; where one is not, all
+// The answers of the pairs, with the room at +0.0 after. Returns whether every pair's Z is finite and above zero; where one is not, all
 // results are +0.0.
 pub fn answer_job(
     n: usize,
@@ -68,12 +68,12 @@ pub fn answer_job(
     us: &[usize],
     vs: &[usize],
     factors: &[f64],
-    each: bool,
+    per_element: bool,
     results: &mut [f64],
     work: &mut [f64],
 ) -> bool
     requires { ⌜ Passed n w (now early) (now late) (now us) (now vs) (now factors) (length (now results)) (length (now work)) ⌝ }
-    ensures { λ r. ⌜ Finished (jobOf nan n w (now (early .entry)) (now (late .entry)) (now (factors .entry)) (cond each perElement block))
+    ensures { λ r. ⌜ Finished (jobOf nan n w (now (early .entry)) (now (late .entry)) (now (factors .entry)) (cond «per_element» perElement block))
         n (length (now (early .entry))) (now (us .entry)) (now (vs .entry)) r (now (results .exit)) (now (work .entry)) (now (work .exit)) ⌝ }
 {
     let mut plan = [0usize; PLAN];
@@ -88,7 +88,7 @@ pub fn answer_job(
         us,
         vs,
         factors,
-        each,
+        per_element,
         results,
         work,
     )

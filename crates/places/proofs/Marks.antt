@@ -61,12 +61,12 @@ module _ (marks marks′ : List Bool) (us vs : List ℕ) (i v : ℕ) (ev : v ≡
   at-later : (t : ℕ) → getD marks′ t false ≡ (getD marks t false || eqb (later us vs i) t)
   at-later t = marked .at t ∙ ap (λ (x : Bool). getD marks t false || x) (and-true (eqb v t) ∙ ap (λ (x : ℕ). eqb x t) ev)
 
-  pub backward-turn : Asked marks (asksBackward us vs) i → Asked marks′ (asksBackward us vs) (i + 1)
-  backward-turn h = one-more marks marks′ (asksBackward us vs) i h at-later
+  pub backward-iteration : Asked marks (asksBackward us vs) i → Asked marks′ (asksBackward us vs) (i + 1)
+  backward-iteration h = one-more marks marks′ (asksBackward us vs) i h at-later
 
-  pub forward-turn : (w u : ℕ) (kept : Bool) (marks″ : List Bool) → u ≡ earlier us vs i → kept ≡ isPropagated w us vs i
+  pub forward-iteration : (w u : ℕ) (kept : Bool) (marks″ : List Bool) → u ≡ earlier us vs i → kept ≡ isPropagated w us vs i
       → MarkedToo marks′ marks″ u kept → Asked marks (asksForward w us vs) i → Asked marks″ (asksForward w us vs) (i + 1)
-  forward-turn w u kept marks″ eu ek f h =
+  forward-iteration w u kept marks″ eu ek f h =
       one-more marks marks″ (asksForward w us vs) i h
       (λ t.
       let a = getD marks t false in

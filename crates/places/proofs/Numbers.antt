@@ -23,11 +23,11 @@ unfolding count
 numbered-start plan test k from = record { given = λ u b. absurd (omega arith); others = λ u i b ne. refl; free = omega arith }
 
 -- one vertex more
-pub numbered-turn : (plan₀ plan plan′ : List ℕ) (test : ℕ → Bool) (k from t next next′ : ℕ) → Numbered plan₀ plan test k from t next → k < numbers
+pub numbered-iteration : (plan₀ plan plan′ : List ℕ) (test : ℕ → Bool) (k from t next next′ : ℕ) → Numbered plan₀ plan test k from t next → k < numbers
     → Holds plan (t + 1) → next′ ≡ next + cond (test t) 1 0 → plan′ ≡ set plan (indexOf t k) (cond (test t) next 0)
     → Numbered plan₀ plan′ test k from (t + 1) next′
 unfolding placeAt
-numbered-turn plan₀ plan plan′ test k from t next next′ g l fits en ep =
+numbered-iteration plan₀ plan plan′ test k from t next next′ g l fits en ep =
     rw ep (record {
       given = λ u b.
           dite (decLt u t)

@@ -44,8 +44,8 @@ module _ (plan : List ℕ) (t : ℕ) (fits : Holds plan (t + 1)) where
       getD-set-other left (indexOf t nearCountAt) (indexOf u k) 0 0 (λ e. omega arith)
       ∙ getD-set-other plan (indexOf t leftEdgeAt) (indexOf u k) 0 0 (λ e. omega arith)
 
-  pub cleared-turn : Cleared plan t → Cleared (set (set plan (indexOf t leftEdgeAt) 0) (indexOf t nearCountAt) 0) (t + 1)
-  cleared-turn before u b =
+  pub cleared-iteration : Cleared plan t → Cleared (set (set plan (indexOf t leftEdgeAt) 0) (indexOf t nearCountAt) 0) (t + 1)
+  cleared-iteration before u b =
       dite (decLt u t)
       (λ l. (off u l leftEdgeAt (omega arith) ∙ before u l .0, off u l nearCountAt (omega arith) ∙ before u l .1))
       (λ l. let e : u ≡ t = omega arith in rw e here)
@@ -236,8 +236,8 @@ module _ (early late : List ℕ) (n w e : ℕ) (g : Edges early late n w) (b : e
         same : (k : ℕ) → k < forwardPlaceAt → number plan′ u k ≡ number plan u k
         same k q = dite (decLt u t) (λ x. only (indexOf u k) (inl (omega arith))) (λ x. only (indexOf u k) (inr (omega (arith, ne))))
 
-    pub rows-turn : (r : Bool) → r ≡ true → Entered plan plan′ w t d (e + 1) r → (u : ℕ) → u < n → Row plan′ early late w (e + 1) u
-    rows-turn r y h u l = go (ℕ-discrete u t)
+    pub rows-iteration : (r : Bool) → r ≡ true → Entered plan plan′ w t d (e + 1) r → (u : ℕ) → u < n → Row plan′ early late w (e + 1) u
+    rows-iteration r y h u l = go (ℕ-discrete u t)
       where
         go : Dec (u ≡ t) → Row plan′ early late w (e + 1) u
         go (yes p) = rw p (row-here r y h)

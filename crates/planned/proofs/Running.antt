@@ -12,19 +12,19 @@ use Rattle.vertex.specs.Ready.{PlanOf, Swept}
 use Rattle.sweeps.specs.Kept.{SameFrom}
 use Rattle.pair_correlations.specs.Sound.{unsound, Outcome}
 
-module _ (plan us vs : List ℕ) (e r results : List Float) (n w scales : ℕ) (each sound : Bool)
+module _ (plan us vs : List ℕ) (e r results : List Float) (n w scales : ℕ) (per-element sound : Bool)
     (same : SameFrom e r (scales + n))
-    (swept : (J : Job Float) → PlanOf J plan (drop (scales + n) e) n w each → Swept J plan r n w scales)
-    (told : (J : Job Float) (each : Bool) → PlanOf J plan (drop (scales + n) r) n w each → Swept J plan r n w scales → Outcome J us vs results sound) where
-  outcome : (J : Job Float) → PlanOf J plan (drop (scales + n) e) n w each → Outcome J us vs results sound
-  outcome J of = told J each (rw (same .tail) of) (swept J of)
+    (swept : (J : Job Float) → PlanOf J plan (drop (scales + n) e) n w per-element → Swept J plan r n w scales)
+    (told : (J : Job Float) (per-element : Bool) → PlanOf J plan (drop (scales + n) r) n w per-element → Swept J plan r n w scales → Outcome J us vs results sound) where
+  outcome : (J : Job Float) → PlanOf J plan (drop (scales + n) e) n w per-element → Outcome J us vs results sound
+  outcome J of = told J per-element (rw (same .tail) of) (swept J of)
 
   -- every Z is sound: the results are the answers
-  pub all-sound : (z : List Float) → sound ≡ true → (J : Job Float) → PlanOf J plan (drop (scales + n) e) n w each
+  pub all-sound : (z : List Float) → sound ≡ true → (J : Job Float) → PlanOf J plan (drop (scales + n) e) n w per-element
       → (sound ≡ not (unsound J us vs)) × (results ≡ cond sound (S.answers ieee J us vs) z)
   all-sound z t J of = let o = outcome J of in (o .told, o .values t ∙ rw t)
 
   -- one is not: the results are what they were set to
-  pub one-unsound : (results′ z : List Float) → sound ≡ false → results′ ≡ z → (J : Job Float) → PlanOf J plan (drop (scales + n) e) n w each
+  pub one-unsound : (results′ z : List Float) → sound ≡ false → results′ ≡ z → (J : Job Float) → PlanOf J plan (drop (scales + n) e) n w per-element
       → (sound ≡ not (unsound J us vs)) × (results′ ≡ cond sound (S.answers ieee J us vs) z)
   one-unsound results′ z f q J of = (outcome J of .told, rw f q)

@@ -37,7 +37,7 @@ pub fn clear(list: &mut [f64])
     fill(list, 0, len, 0.0);
 }
 
-// Sweeps, answers the pairs, and clears the room. Answers whether every pair's Z is finite and above zero; where one is not, all results
+// Sweeps, answers the pairs, and clears the room. Returns whether every pair's Z is finite and above zero; where one is not, all results
 // are +0.0.
 pub fn run(
     room: &mut [f64],
@@ -45,7 +45,7 @@ pub fn run(
     n: usize,
     w: usize,
     scales: usize,
-    each: bool,
+    per_element: bool,
     us: &[usize],
     vs: &[usize],
     order: &[usize],
@@ -54,11 +54,11 @@ pub fn run(
     requires { ⌜ (1 ≤ n) × Ready (now plan) (length (now room)) n w scales × Served (now plan) (now us) (now vs) n w
         × Ordered (now order) (length (now us)) × (length (now results) ≡ length (now us)) ⌝ }
     ensures { λ _. ⌜ now (room .exit) ≡ zeros (length (now (room .entry))) ⌝ }
-    ensures { λ r. ⌜ ((J : Job Float) → PlanOf J (now (plan .entry)) (drop (scales + n) (now (room .entry))) n w each
+    ensures { λ r. ⌜ ((J : Job Float) → PlanOf J (now (plan .entry)) (drop (scales + n) (now (room .entry))) n w «per_element»
         → (r ≡ not (unsound J (now (us .entry)) (now (vs .entry))))
         × (now (results .exit) ≡ cond r (S.answers ieee J (now (us .entry)) (now (vs .entry))) (zeros (length (now (us .entry)))))) ⌝ }
 {
-    sweep(room, plan, n, w, scales, each, n);
+    sweep(room, plan, n, w, scales, per_element, n);
     let sound = answer_pairs(room, plan, n, w, scales, us, vs, order, results);
     clear(room);
     if !sound {

@@ -13,9 +13,9 @@ use Rattle.transfer.specs.Rounded.{ieee}
 use Rattle.transfer.specs.Sweep as S
 use Rattle.plan.specs.Layout.{stepIn, forwardPlace}
 use Rattle.sweep.specs.Place.{Places, hold}
-use Rattle.halves.specs.Odd.{Odd, alternateHalf, alternate-odd, forward-odd}
+use Rattle.halves.specs.Antisymmetric.{AntisymmetricHalf, alternateHalf, alternate-antisymmetric, forward-antisymmetric}
 use Rattle.half_sums.specs.Terms.{halfAt}
-use Rattle.vertex.specs.Same.{odd-ext}
+use Rattle.vertex.specs.Same.{antisymmetric-ext}
 use Rattle.vertex.specs.Frame.{Wrote, wrote-half}
 use Rattle.vertex.specs.Ready.{Ready, Readable, Stepping, Still, still-none, still-then, still-wrote, still-ready, moving-place, tail-factors, tail-scale}
 use Rattle.vertex.specs.Through.{Through, forwardBy, through, through-one, through-two}
@@ -52,7 +52,7 @@ step-same w w′ s s′ x x′ v a b c = cc
 -- ---- on by no step, and by an iteration of one or two: from place src to the other moving place
 
 pub advance-none : (plan : List ℕ) (r : List Float) (n w scales from at : ℕ) → at < 2 → Advanced plan r r n w scales from at from at
-advance-none plan r n w scales from at l = record { moving = l; still = still-none r w scales; reached = λ J each u passed before. before }
+advance-none plan r n w scales from at l = record { moving = l; still = still-none r w scales; reached = λ J per-element u passed before. before }
 
 pub steps-inside : {w t to last : ℕ} → AdvanceSteps w t to last → t ≤ to → (t ≤ last) × (last ≤ to)
 steps-inside (inl e) b = omega arith
@@ -103,31 +103,31 @@ module _ (plan : List ℕ) (r₀ r : List Float) (n w scales from at t src : ℕ
     abbrev stepped : Wrote r r′ w (1 - src)
     stepped = record { vector = tabulate (gone scale then) (2 ^ (w - 1)); full = tabulate-length (gone scale then) (2 ^ (w - 1)); done = made }
 
-    module _ (J : Job Float) (each : Bool) (u : ℕ) (passed : Passed J plan r₀ n w scales each) (before : Reached J r₀ w u from at) where
+    module _ (J : Job Float) (per-element : Bool) (u : ℕ) (passed : Passed J plan r₀ n w scales per-element) (before : Reached J r₀ w u from at) where
       now : Reached J r w u t src
-      now = g .reached J each u passed before
+      now = g .reached J per-element u passed before
 
       -- a step from what is propagated to v on to v + 1
       step-on : (v : ℕ) (x : Float) (h : ℕ → Float) → u ≤ v → v + 1 < n → x ≡ getD r (scales + (v + 1)) nan
-          → Odd w h (S.propagated ieee J u (v - u)) → Odd w (onward (v + 1) x h) (S.propagated ieee J u (v + 1 - u))
+          → AntisymmetricHalf w h (S.propagated ieee J u (v - u)) → AntisymmetricHalf w (onward (v + 1) x h) (S.propagated ieee J u (v + 1 - u))
       step-on v x h order b e o =
           let s = stepIn plan (drop (scales + n) r) (v + 1) in
           let same =
           step-same w (J .window) s (stepOf J (v + 1)) x (S.scale ieee J (v + 1)) (S.propagated ieee J u (v - u)) (sym (passed .of .window))
           (ap (λ (y : List Float). stepIn plan y (v + 1)) (tail-factors r₀ r scales n (g .still .tail)) ∙ passed .of .step (v + 1) b)
           (e ∙ tail-scale r₀ r scales (v + 1) (g .still .tail) ∙ passed .swept .forward .scaled (v + 1) b) in
-          subst (Odd w (onward (v + 1) x h)) (same ∙ sym (propagated-step J u v order))
-          (forward-odd w s x h (S.propagated ieee J u (v - u)) (ready .wide) (step-below (drop (scales + n) r) (ready .vertex (v + 1) b)) o)
+          subst (AntisymmetricHalf w (onward (v + 1) x h)) (same ∙ sym (propagated-step J u v order))
+          (forward-antisymmetric w s x h (S.propagated ieee J u (v - u)) (ready .wide) (step-below (drop (scales + n) r) (ready .vertex (v + 1) b)) o)
 
-      first : Odd w (onward (t + 1) scale (halfAt r w src)) (S.propagated ieee J u (t + 1 - u))
+      first : AntisymmetricHalf w (onward (t + 1) scale (halfAt r w src)) (S.propagated ieee J u (t + 1 - u))
       first = step-on t scale (halfAt r w src) (now .order) next-inside es (now .vector)
 
-      gone-odd : Odd w (gone scale then) (S.propagated ieee J u (last - u))
-      gone-odd =
+      gone-antisymmetric : AntisymmetricHalf w (gone scale then) (S.propagated ieee J u (last - u))
+      gone-antisymmetric =
           ⊎-elim (λ e. rw (through-one onward (t + 1) last scale then (halfAt r w src) e, e) first)
           (λ p. rw (through-two onward (t + 1) last scale then (halfAt r w src) (λ e. omega (arith, p .next))) (second (p .next))) steps
         where
-          second : last ≡ t + 1 + 1 → Odd w (onward last then (onward (t + 1) scale (halfAt r w src))) (S.propagated ieee J u (last - u))
+          second : last ≡ t + 1 + 1 → AntisymmetricHalf w (onward last then (onward (t + 1) scale (halfAt r w src))) (S.propagated ieee J u (last - u))
           second e =
               let b : t + 1 + 1 < n = omega (arith, last-inside) in
               rw e (step-on (t + 1) then _ (omega (arith, now .order)) b (rw e at et) first)
@@ -139,10 +139,10 @@ module _ (plan : List ℕ) (r₀ r : List Float) (n w scales from at t src : ℕ
         record {
           moving = other;
           still = still-then r₀ r r′ w scales (g .still) (still-wrote plan r r′ n w scales (1 - src) p other stepped);
-          reached = λ J each u passed before.
+          reached = λ J per-element u passed before.
               record {
-                order = omega (arith, now J each u passed before .order, steps-inside steps order);
-                vector = odd-ext (gone-odd J each u passed before) (wrote-half r r′ w (1 - src) stepped fits (gone scale then) refl);
+                order = omega (arith, now J per-element u passed before .order, steps-inside steps order);
+                vector = antisymmetric-ext (gone-antisymmetric J per-element u passed before) (wrote-half r r′ w (1 - src) stepped fits (gone scale then) refl);
               };
         }
 
@@ -154,7 +154,7 @@ propagated-on plan r₀ r n w scales u v on current b e g =
     record {
       moving = g .moving;
       still = g .still;
-      reached = λ J each passed known. g .reached J each u passed (rw e at (known .reached (omega arith)));
+      reached = λ J per-element passed known. g .reached J per-element u passed (rw e at (known .reached (omega arith)));
     }
 
 -- ---- anew
@@ -182,14 +182,14 @@ module _ (plan : List ℕ) (r₀ : List Float) (n w scales u : ℕ) (ready : Rea
     still-start : Still r₀ r₁ w scales
     still-start = still-wrote plan r₀ r₁ n w scales 0 ready (omega arith) wrote
 
-    started : (J : Job Float) (each : Bool) → Passed J plan r₀ n w scales each → Reached J r₁ w u u 0
-    started J each passed =
+    started : (J : Job Float) (per-element : Bool) → Passed J plan r₀ n w scales per-element → Reached J r₁ w u u 0
+    started J per-element passed =
         let is : S.alternate ieee w (S.forward ieee J u) ≡ S.propagated ieee J u (u - u) =
         ap (λ (k : ℕ). S.alternate ieee k (S.forward ieee J u)) (sym (passed .of .window)) ∙ sym (propagated-start J u (u - u) (omega arith)) in
-        let odd = alternate-odd w (halfAt r₀ w (forwardPlace plan u)) (S.forward ieee J u) (ready .wide) (passed .swept .forward .vectors u inside kept) in
+        let start = alternate-antisymmetric w (halfAt r₀ w (forwardPlace plan u)) (S.forward ieee J u) (ready .wide) (passed .swept .forward .vectors u inside kept) in
         record {
           order = omega arith;
-          vector = subst (Odd w (halfAt r₁ w 0)) is (odd-ext odd (wrote-half r₀ r₁ w 0 wrote (start-places .to .inside) negated refl));
+          vector = subst (AntisymmetricHalf w (halfAt r₁ w 0)) is (antisymmetric-ext start (wrote-half r₀ r₁ w 0 wrote (start-places .to .inside) negated refl));
         }
 
     pub propagated-anew : (r : List Float) (v on : ℕ) (current : CurrentVector) → Advanced plan r₁ r n w scales u 0 v on
@@ -198,6 +198,6 @@ module _ (plan : List ℕ) (r₀ : List Float) (n w scales u : ℕ) (ready : Rea
         record {
           moving = g .moving;
           still = still-then r₀ r₁ r w scales still-start (g .still);
-          reached = λ J each passed known.
-              g .reached J each u (still-passed J plan r₀ r₁ n w scales each ready still-start passed) (started J each passed);
+          reached = λ J per-element passed known.
+              g .reached J per-element u (still-passed J plan r₀ r₁ n w scales per-element ready still-start passed) (started J per-element passed);
         }

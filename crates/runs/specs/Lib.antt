@@ -3,7 +3,7 @@ pub mod Quarter
 pub mod Rule
 pub mod InFour
 pub mod Fours
-pub mod Turn
+pub mod Iteration
 pub mod Patterns
 pub mod Picks
 pub mod AtRun

@@ -1,4 +1,4 @@
--- The weights that a run takes by turns are those of its places.
+-- The weights that a run takes alternately are those of its places.
 use mathlib.Core.Path.{_≡_, _∙_}
 use mathlib.Core.List.{List}
 use Prim.Native.Nat.{ℕ, zero, suc, _+_, _*_, _/_, _%_, _^_, _≤_, _<_}
@@ -7,8 +7,8 @@ use lib.Pow.{pow-add}
 use lib.ListN.{getD}
 use lib.Ieee.{Float, nan}
 use Rattle.sweep.specs.Step.{patternBy}
-use Rattle.sweep.specs.Rule.{weights, inTurn}
-use Rattle.sweep.specs.Rules.{turn-pick}
+use Rattle.sweep.specs.Rule.{weights, alternating}
+use Rattle.sweep.specs.Rules.{alternating-pick}
 use Rattle.runs.specs.Rule.{Sparse, inFour}
 use Rattle.runs.specs.Patterns.{pattern-add, pattern-zero, pattern-one, pattern-two}
 
@@ -27,8 +27,8 @@ module _ {l : List ℕ} {n e k m : ℕ} (number one : ℕ) (s : Sparse l n 1 e) 
       let y : patternBy l n (i % 2) ≡ patternBy l n 1 * (i % 2) = rw c at (digit l n 1 (i % 2) (omega arith)) in
       rw (at, odd, begins) (pattern-add l n number e i b ∙ rw (pattern-one i s some b, y))
 
-  pub pick-lower : (table : List Float) (i : ℕ) → i < 2 ^ e → inTurn (getD table m nan) (getD table (m + one) nan) i ≡ weights l n table (k + i)
-  pick-lower table i b = rw (turn-pick table m one i, run-one i b)
+  pub pick-lower : (table : List Float) (i : ℕ) → i < 2 ^ e → alternating (getD table m nan) (getD table (m + one) nan) i ≡ weights l n table (k + i)
+  pick-lower table i b = rw (alternating-pick table m one i, run-one i b)
 
 -- a run of the second step
 module _ {l : List ℕ} {n e k m : ℕ} (number low two : ℕ) (s : Sparse l n 2 (e + 1)) (some : 1 ≤ e) (begins : k ≡ number * 2 ^ e)
@@ -51,4 +51,4 @@ module _ {l : List ℕ} {n e k m : ℕ} (number low two : ℕ) (s : Sparse l n 2
   unfolding inFour
   pick-two table j b =
       let c : m + low + two * (j / 2 % 2) ≡ m + two * (j / 2 % 2) + low = omega arith in
-      rw (turn-pick table m two (j / 2), turn-pick table (m + low) two (j / 2), c, turn-pick table (m + two * (j / 2 % 2)) low j, run-two j b)
+      rw (alternating-pick table m two (j / 2), alternating-pick table (m + low) two (j / 2), c, alternating-pick table (m + two * (j / 2 % 2)) low j, run-two j b)

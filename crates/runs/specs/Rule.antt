@@ -1,16 +1,16 @@
--- The weights of two steps at once: by turns within a run, and by the patterns of its places.
+-- The weights of two steps at once: alternately within a run, and by the patterns of its places.
 use mathlib.Core.Path.{_≡_}
 use mathlib.Core.List.{List}
 use mathlib.Core.Logic.{_⊎_}
 use Prim.Native.Nat.{ℕ, _+_, _/_, _^_, _≤_, _<_}
 use lib.ListN.{getD}
 use lib.Ieee.{Float, nan}
-use Rattle.sweep.specs.Rule.{inTurn}
+use Rattle.sweep.specs.Rule.{alternating}
 use Rattle.runs.specs.declared.Four.{Four}
 
--- p₀, p₁, p₂ and p₃ by turns
+-- p₀, p₁, p₂ and p₃ alternately
 unfoldable pub inFour : (p₀ p₁ p₂ p₃ : Float) → ℕ → Float
-inFour p₀ p₁ p₂ p₃ k = inTurn (inTurn p₀ p₂ (k / 2)) (inTurn p₁ p₃ (k / 2)) k
+inFour p₀ p₁ p₂ p₃ k = alternating (alternating p₀ p₂ (k / 2)) (alternating p₁ p₃ (k / 2)) k
 
 -- none of the first n bits is from b up to e: within 2 ^ e indexes the pattern sees the lowest b bits alone
 pub record Sparse (l : List ℕ) (n b e : ℕ) : Type 0 where

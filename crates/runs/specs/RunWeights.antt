@@ -1,11 +1,11 @@
--- The weights that a run takes by turns are those of the step's places.
+-- The weights that a run takes alternately are those of the step's places.
 use mathlib.Core.Path.{_≡_}
 use mathlib.Core.List.{List}
 use Prim.Native.Nat.{ℕ, _+_, _*_, _<_}
 use lib.ListN.{getD}
 use lib.Ieee.{Float, nan}
 use Rattle.sweep.specs.Step.{patternBy}
-use Rattle.sweep.specs.Rule.{weights, inTurn}
+use Rattle.sweep.specs.Rule.{weights, alternating}
 use Rattle.runs.specs.declared.Four.{Four}
 use Rattle.runs.specs.Rule.{inFour, Picked}
 use Rattle.runs.specs.Picks.{pick-lower, pick-two}
@@ -13,7 +13,7 @@ use Rattle.runs.specs.AtRun.{Runs, TwoRuns, AtRun}
 
 module _ {l : List ℕ} {n g e end size one k : ℕ} (r : Runs l n g e end size one) (a : AtRun e end k) where
   pub run-weight : (m : ℕ) → m ≡ patternBy l n k → (table : List Float) (i : ℕ) → i < size
-      → inTurn (getD table m nan) (getD table (m + one) nan) i ≡ weights l n table (k + i)
+      → alternating (getD table m nan) (getD table (m + one) nan) i ≡ weights l n table (k + i)
   run-weight m p table i b = pick-lower (a .number) one (r .sparse) (r .some) (a .begins) p (r .odd) table i (rw (r .length) at b)
 
 -- and of the second step's

@@ -1,1 +1,1 @@
-mod TableTurn
+mod TableIteration

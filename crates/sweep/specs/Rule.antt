@@ -20,16 +20,16 @@ abbrev pub weights : List ℕ → ℕ → List Float → ℕ → Float
 weights bits n table k = getD table (patternBy bits n k) nan
 
 -- p at even places, q at odd ones
-unfoldable pub inTurn : Float → Float → ℕ → Float
-inTurn p q i = cond (bit 0 i) q p
+unfoldable pub alternating : Float → Float → ℕ → Float
+alternating p q i = cond (bit 0 i) q p
 
 -- (x a + y b) p, each operation rounded once
 unfoldable pub blend : (x y p a b : Float) → Float
 blend x y p a b = mul binary64 (add binary64 (mul binary64 x a) (mul binary64 y b)) p
 
--- Forward: from the entries a and b, at even places with the coefficients x and y and the weights p, at odd ones with u, z and q.
-unfoldable pub forwardRule : (x y u z : Float) (p q a b : ℕ → Float) → ℕ → Float
-forwardRule x y u z p q a b j = let k = j / 2 in cond (bit 0 j) (blend u z (q k) (a k) (b k)) (blend x y (p k) (a k) (b k))
+-- Forward: from the entries a and b, at even places with the coefficients ep and sem and the weights p, at odd ones with em, sep and q.
+unfoldable pub forwardRule : (ep sem em sep : Float) (p q a b : ℕ → Float) → ℕ → Float
+forwardRule ep sem em sep p q a b j = let k = j / 2 in cond (bit 0 j) (blend em sep (q k) (a k) (b k)) (blend ep sem (p k) (a k) (b k))
 
 -- x (s p) + y (t q), each operation rounded once
 unfoldable pub mix : (x y p q s t : Float) → Float

@@ -8,7 +8,7 @@ use lib.Ieee.{Float}
 use Rattle.transfer.specs.Job.{Job}
 use Rattle.plan.specs.Layout.{forwardPlace, backwardPlace}
 use Rattle.sweep.specs.Place.{Place}
-use Rattle.vertex.specs.Same.{even-ext}
+use Rattle.vertex.specs.Same.{symmetric-ext}
 use Rattle.vertex.specs.Frame.{Fits, half-held, Wrote, wrote-length, wrote-other, wrote-drop}
 use Rattle.vertex.specs.Ready.{Ready, Own, Stepping, Forward, Backward, tail-scale}
 use Rattle.sweeps.specs.Kept.{Since}
@@ -50,7 +50,7 @@ pub since-forward : {plan : List ℕ} {r₀ r : List Float} {n w scales : ℕ} �
     → Forward J plan r₀ w scales n → Forward J plan r w scales n
 since-forward {plan} {r₀} {r} {n} {w} {scales} s J k =
     record {
-      vectors = λ u b p. even-ext (k .vectors u b p) (half-held r₀ r w (forwardPlace plan u) (s .vectors u b p));
+      vectors = λ u b p. symmetric-ext (k .vectors u b p) (half-held r₀ r w (forwardPlace plan u) (s .vectors u b p));
       scaled = λ u b. tail-scale r₀ r scales u (s .tail) ∙ k .scaled u b;
     }
 
@@ -58,4 +58,4 @@ since-forward {plan} {r₀} {r} {n} {w} {scales} s J k =
 pub since-backward : {plan : List ℕ} {r₀ r : List Float} {n w k : ℕ} → Since (backwardPlace plan) r₀ r n w k → (J : Job Float) (c : ℕ)
     → Backward J plan r₀ n w c → Backward J plan r n w c
 since-backward {plan} {r₀} {r} {n} {w} s J c k =
-    record { vectors = λ u a b p. even-ext (k .vectors u a b p) (half-held r₀ r w (backwardPlace plan u) (s .vectors u b p)) }
+    record { vectors = λ u a b p. symmetric-ext (k .vectors u a b p) (half-held r₀ r w (backwardPlace plan u) (s .vectors u b p)) }

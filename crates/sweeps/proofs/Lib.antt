@@ -2,5 +2,5 @@
 mod Targets
 mod Frames
 mod Unscaled
-mod ForwardTurn
-mod BackwardTurn
+mod ForwardIteration
+mod BackwardIteration

@@ -17,9 +17,9 @@ not-due : (r t : ℕ) (v : List Float) → (t % 4 ≡ r → ⊥) → S.stored ie
 unfolding S.stored
 not-due r t v d = rw (ne-eqb (t % 4) r d)
 
-pub unscaled : (m : Manner) (each : Bool) (r t : ℕ) (v : List Float) → m ≡ cond each perElement block → each ≡ false → (t % 4 ≡ r → ⊥)
+pub unscaled : (m : Manner) (per-element : Bool) (r t : ℕ) (v : List Float) → m ≡ cond per-element perElement block → per-element ≡ false → (t % 4 ≡ r → ⊥)
     → div binary64 (ieee .𝟙) (S.stored ieee m r t v) ≡ ieee .𝟙
-unscaled m each r t v h e d =
+unscaled m per-element r t v h e d =
     ap (div binary64 (ieee .𝟙))
     (ap (λ (k : Manner). S.stored ieee k r t v) (h ∙ ap (λ (b : Bool). cond b perElement block) e) ∙ not-due r t v d)
     ∙ one-over-one

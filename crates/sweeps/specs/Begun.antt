@@ -31,10 +31,10 @@ pub record Started (r₀ r : List Float) (n w t src : ℕ) (most : Float) : Type
   pub one : most ≡ ieee .𝟙
 
 -- Elsewhere the vector at src stays, and `most` is what the step that gave it stored.
-pub record Resumed (r₀ r : List Float) (n w : ℕ) (each : Bool) (t src : ℕ) (most : Float) : Type 0 where
+pub record Resumed (r₀ r : List Float) (n w : ℕ) (per-element : Bool) (t src : ℕ) (most : Float) : Type 0 where
   pub early : t + 1 < n
   pub same : r ≡ r₀
-  pub taken : most ≡ S.stored ieee (cond each perElement block) 0 (t + 1) (tabulate (halfAt r₀ w src) (2 ^ (w - 1)))
+  pub taken : most ≡ S.stored ieee (cond per-element perElement block) 0 (t + 1) (tabulate (halfAt r₀ w src) (2 ^ (w - 1)))
 
 abbrev pub Begun : (r₀ r : List Float) (n w : ℕ) → Bool → (t src : ℕ) → Float → Type 0
-Begun r₀ r n w each t src most = Started r₀ r n w t src most ⊎ Resumed r₀ r n w each t src most
+Begun r₀ r n w per-element t src most = Started r₀ r n w t src most ⊎ Resumed r₀ r n w per-element t src most

@@ -1,8 +1,8 @@
 -- The definitions that the contracts cite, and what the loops keep.
 pub mod Target
 pub mod Kept
-pub mod Turn
+pub mod Steps
 pub mod Begun
-pub mod Going
-pub mod Coming
+pub mod ForwardInvariant
+pub mod BackwardInvariant
 pub mod Reuse

@@ -14,7 +14,7 @@ use Rattle.transfer.specs.Job.{Job, stepOf}
 use Rattle.transfer.specs.Rounded.{ieee}
 use Rattle.transfer.specs.Sweep as S
 use Rattle.plan.specs.Layout.{Vertex, leftEdge, nearCount, nearEdge, named, nearFrom, stepIn}
-use Rattle.vertex.specs.Same.{even-as}
+use Rattle.vertex.specs.Same.{symmetric-as}
 use Rattle.vertex.specs.Ready.{PlanOf, Backward}
 
 -- P holds of every edge that the step at t reads.
@@ -65,15 +65,15 @@ module _ (J J′ : Job Float) (c : ℕ) (last : J .last ≡ J′ .last) (window 
   backward-same u b =
       ap (λ (s : List Float × Float). s .0) (steps-same (J .last - u) (omega arith)) ∙ ap (λ (k : ℕ). S.afterSteps ieee J′ (k - u) .0) last
 
-pub backward-stands : (J J′ : Job Float) (plan : List ℕ) (x x′ r : List Float) (n w : ℕ) (each : Bool) (c : ℕ) → PlanOf J plan x n w each
-    → PlanOf J′ plan x′ n w each → ((t : ℕ) → c < t → t < n → Reads plan t (λ e. getD x e nan ≡ getD x′ e nan)) → Backward J plan r n w 0
+pub backward-stands : (J J′ : Job Float) (plan : List ℕ) (x x′ r : List Float) (n w : ℕ) (per-element : Bool) (c : ℕ) → PlanOf J plan x n w per-element
+    → PlanOf J′ plan x′ n w per-element → ((t : ℕ) → c < t → t < n → Reads plan t (λ e. getD x e nan ≡ getD x′ e nan)) → Backward J plan r n w 0
     → Backward J′ plan r n w c
-backward-stands J J′ plan x x′ r n w each c of of′ same g =
+backward-stands J J′ plan x x′ r n w per-element c of of′ same g =
     let vertices = of .vertices in
     let steps : (t : ℕ) → c < t → t ≤ J .last → stepOf J t ≡ stepOf J′ t =
     λ t b d. sym (of .step t (omega arith)) ∙ step-same plan x x′ t (same t b (omega arith)) ∙ of′ .step t (omega arith) in
     record {
       vectors = λ u a b p.
-          even-as (g .vectors u (omega arith) b p)
+          symmetric-as (g .vectors u (omega arith) b p)
           (backward-same J J′ c (omega (arith, of′ .vertices)) (of .window ∙ sym (of′ .window)) (of .manner ∙ sym (of′ .manner)) steps u a);
     }

@@ -22,14 +22,14 @@ pub fn sweep(
     n: usize,
     w: usize,
     scales: usize,
-    each: bool,
+    per_element: bool,
     changed: usize,
 )
     requires { ⌜ (1 ≤ n) × Ready (now plan) (length (now room)) n w scales ⌝ }
     ensures { λ _. ⌜ SameFrom (now (room .entry)) (now (room .exit)) (scales + n) ⌝ }
-    ensures { λ _. ⌜ ((J : Job Float) → PlanOf J (now (plan .entry)) (drop (scales + n) (now (room .entry))) n w each
+    ensures { λ _. ⌜ ((J : Job Float) → PlanOf J (now (plan .entry)) (drop (scales + n) (now (room .entry))) n w «per_element»
         → Stands J (now (plan .entry)) (now (room .entry)) n w changed → Swept J (now (plan .entry)) (now (room .exit)) n w scales) ⌝ }
 {
-    sweep_forward(room, plan, n, w, scales, each);
-    sweep_backward(room, plan, n, w, scales, each, changed);
+    sweep_forward(room, plan, n, w, scales, per_element);
+    sweep_backward(room, plan, n, w, scales, per_element, changed);
 }

@@ -37,14 +37,14 @@ flip-bit h c k l b =
     )
     (omega arith)
 
-bit-turns : (x : ℕ) → x < 2 → eqb (1 - x) 1 ≡ not (eqb x 1)
-bit-turns zero b = refl
-bit-turns (suc zero) b = refl
-bit-turns (suc (suc x)) b = absurd (omega arith)
+bit-negated : (x : ℕ) → x < 2 → eqb (1 - x) 1 ≡ not (eqb x 1)
+bit-negated zero b = refl
+bit-negated (suc zero) b = refl
+bit-negated (suc (suc x)) b = absurd (omega arith)
 
 -- a bit of the index
 pub bit-flips : (h c k : ℕ) → c < h → k < 2 ^ h → bit c (2 ^ h - 1 - k) ≡ not (bit c k)
-bit-flips h c k l b = rw (flip-bit h c k l b) (bit-turns (k / 2 ^ c % 2) (mod-lt (k / 2 ^ c) (omega arith)))
+bit-flips h c k l b = rw (flip-bit h c k l b) (bit-negated (k / 2 ^ c % 2) (mod-lt (k / 2 ^ c) (omega arith)))
 
 pattern-below : (bs : List (Back Float)) (k : ℕ) → pattern bs k < 2 ^ length bs
 unfolding pattern

@@ -12,10 +12,10 @@ use Rattle.transfer.specs.Rounded.{ieee}
 use Rattle.transfer.specs.Sweep as S
 use Rattle.plan.specs.Layout.{Holds, Vertex, stepIn, forwardPlace, backwardPlace}
 use Rattle.sweep.specs.Place.{held, Place, Places}
-use Rattle.halves.specs.Even.{Even}
+use Rattle.halves.specs.Symmetric.{SymmetricHalf}
 use Rattle.half_sums.specs.Terms.{halfAt}
 use Rattle.vertex.specs.Frame.{Fits, moving-fits, half-held, Wrote, wrote-length, wrote-other, wrote-drop}
-use Rattle.vertex.specs.Same.{even-ext}
+use Rattle.vertex.specs.Same.{symmetric-ext}
 
 -- Places of n vertices below `end`: none (0), or one behind the moving ones that no other vertex has.
 pub record Own (place : ℕ → ℕ) (n w end : ℕ) : Type 0 where
@@ -51,23 +51,23 @@ pub moving-place : (plan : List ℕ) (len n w scales p : ℕ) → Ready plan len
 moving-place plan len n w scales p g l =
     record { wide = g .wide; narrow = g .narrow; inside = omega (arith, g .ends, moving-fits w scales p l (g .moving)) }
 
--- The plan, with the factors x, is of job J. `each` is the per-element manner.
-pub record PlanOf (J : Job Float) (plan : List ℕ) (x : List Float) (n w : ℕ) (each : Bool) : Type 0 where
+-- The plan, with the factors x, is of job J. `per-element` says whether its manner is per element.
+pub record PlanOf (J : Job Float) (plan : List ℕ) (x : List Float) (n w : ℕ) (per-element : Bool) : Type 0 where
   pub vertices : J .last + 1 ≡ n
   pub window : J .window ≡ w
-  pub manner : J .manner ≡ cond each perElement block
+  pub manner : J .manner ≡ cond per-element perElement block
   pub step : (t : ℕ) → t < n → stepIn plan x t ≡ stepOf J t
 
 -- ---- what is in the room
 
 -- The lower halves of the first t vertices' forward vectors are kept where they have a place, and their scales are stored.
 pub record Forward (J : Job Float) (plan : List ℕ) (r : List Float) (w scales t : ℕ) : Type 0 where
-  pub vectors : (u : ℕ) → u < t → 0 < forwardPlace plan u → Even w (halfAt r w (forwardPlace plan u)) (S.forward ieee J u)
+  pub vectors : (u : ℕ) → u < t → 0 < forwardPlace plan u → SymmetricHalf w (halfAt r w (forwardPlace plan u)) (S.forward ieee J u)
   pub scaled : (u : ℕ) → u < t → getD r (scales + u) nan ≡ S.scale ieee J u
 
 -- The lower halves of the backward vectors from vertex t on are kept where they have a place.
 pub record Backward (J : Job Float) (plan : List ℕ) (r : List Float) (n w t : ℕ) : Type 0 where
-  pub vectors : (u : ℕ) → t ≤ u → u < n → 0 < backwardPlace plan u → Even w (halfAt r w (backwardPlace plan u)) (S.backward ieee J u)
+  pub vectors : (u : ℕ) → t ≤ u → u < n → 0 < backwardPlace plan u → SymmetricHalf w (halfAt r w (backwardPlace plan u)) (S.backward ieee J u)
 
 -- What both sweeps leave.
 pub record Swept (J : Job Float) (plan : List ℕ) (r : List Float) (n w scales : ℕ) : Type 0 where
@@ -103,8 +103,8 @@ tail-scale r₀ r scales u e = sym (getD-drop scales r u nan) ∙ ap (λ (l : Li
 
 -- so is the half of a place behind the moving ones
 still-half : (r₀ r : List Float) (w scales p : ℕ) → Still r₀ r w scales → 2 ≤ p → Fits w scales p → (v : List Float)
-    → Even w (halfAt r₀ w p) v → Even w (halfAt r w p) v
-still-half r₀ r w scales p s h f v e = even-ext e (half-held r₀ r w p (s .places p h f))
+    → SymmetricHalf w (halfAt r₀ w p) v → SymmetricHalf w (halfAt r w p) v
+still-half r₀ r w scales p s h f v e = symmetric-ext e (half-held r₀ r w p (s .places p h f))
 
 pub still-swept : (J : Job Float) (plan : List ℕ) (r₀ r : List Float) (n w scales : ℕ) → Ready plan (length r₀) n w scales → Still r₀ r w scales
     → Swept J plan r₀ n w scales → Swept J plan r n w scales

@@ -8,7 +8,7 @@ use lib.Dec.{eqb}
 use lib.Ieee.{Float}
 use borrow.Author.Tests.{eq-eqb, ne-eqb}
 use Rattle.plan.specs.Layout.{stepIn}
-use Rattle.halves.specs.Half.{forwardHalf, turnOf}
+use Rattle.halves.specs.Half.{forwardHalf, negatedIf}
 use Rattle.half_backward.specs.Fold.{backwardFold}
 use Rattle.vertex.specs.Ready.{Readable}
 
@@ -24,9 +24,9 @@ pub second-of : {plan : List ℕ} {len w factors t last : ℕ} → Through plan 
 second-of (inl e) ne = absurd (ne e)
 second-of (inr s) ne = s
 
--- the steps that the plan says, with the factors x, from an even half or from an odd one
-abbrev pub forwardBy : (plan : List ℕ) (x : List Float) (w : ℕ) (odd : Bool) → ℕ → Float → (ℕ → Float) → ℕ → Float
-forwardBy plan x w odd u scale h = forwardHalf w (stepIn plan x u) scale (turnOf odd) h
+-- the steps that the plan says, with the factors x, from a symmetric half or from an antisymmetric one
+abbrev pub forwardBy : (plan : List ℕ) (x : List Float) (w : ℕ) (antisymmetric : Bool) → ℕ → Float → (ℕ → Float) → ℕ → Float
+forwardBy plan x w antisymmetric u scale h = forwardHalf w (stepIn plan x u) scale (negatedIf antisymmetric) h
 
 abbrev pub backwardBy : (plan : List ℕ) (x : List Float) (w : ℕ) → ℕ → Float → (ℕ → Float) → ℕ → Float
 backwardBy plan x w u scale h = backwardFold w (stepIn plan x u) scale h

@@ -16,7 +16,7 @@ use half_stride_forward::half_stride_forward;
 use half_sums::half_stored;
 use plan::near_count;
 
-// The forward step at t with the scale, and then the one at `last` with the other scale, from an even half or from an odd one.
+// The forward step at t with the scale, and then the one at `last` with the other scale, from a symmetric half or from an antisymmetric one.
 fn forward_two_at(
     room: &mut [f64],
     factors: usize,
@@ -26,7 +26,7 @@ fn forward_two_at(
     last: usize,
     scale: f64,
     then: f64,
-    odd: bool,
+    antisymmetric: bool,
     src: usize,
     dst: usize,
     bits: &mut [usize; 4],
@@ -39,8 +39,8 @@ fn forward_two_at(
     requires { ⌜ Stepping (now plan) (length (now room)) w factors t src dst × Second (now plan) (length (now room)) w factors last ⌝ }
     ensures { λ _. ⌜ now (room .exit) ≡ hold (now (room .entry)) w dst
         (tabulate
-        (forwardBy (now (plan .entry)) (drop factors (now (room .entry))) w odd last then
-        (forwardBy (now (plan .entry)) (drop factors (now (room .entry))) w odd t scale (halfAt (now (room .entry)) w src))) (2 ^ (w - 1))) ⌝ }
+        (forwardBy (now (plan .entry)) (drop factors (now (room .entry))) w antisymmetric last then
+        (forwardBy (now (plan .entry)) (drop factors (now (room .entry))) w antisymmetric t scale (halfAt (now (room .entry)) w src))) (2 ^ (w - 1))) ⌝ }
 {
     let ep = tables_at(room, factors, plan, w, t, scale, bits, up, down);
     let ep2 = tables_at(room, factors, plan, w, last, then, bits2, up2, down2);
@@ -51,7 +51,7 @@ fn forward_two_at(
         src,
         dst,
         w,
-        odd,
+        antisymmetric,
         ep,
         1.0 / ep,
         bits,
@@ -67,8 +67,8 @@ fn forward_two_at(
     );
 }
 
-// The forward steps at t and at `last`, or the one at t alone where `last` is t: the first with the scale, the second with the other. `odd`
-// says of which kind the half is. Answers the largest entry of what they wrote where it is due, else 1.0: one step has it at hand, and after
+// The forward steps at t and at `last`, or the one at t alone where `last` is t: the first with the scale, the second with the other. `antisymmetric`
+// says of which kind the half is. Returns the largest entry of what they wrote where it is due, else 1.0: one step knows it already, and after
 // two, whose pass is bound by its arithmetic, a pass of its own is as quick.
 pub fn forward_through(
     room: &mut [f64],
@@ -79,7 +79,7 @@ pub fn forward_through(
     last: usize,
     scale: f64,
     then: f64,
-    odd: bool,
+    antisymmetric: bool,
     src: usize,
     dst: usize,
     taken: bool,
@@ -93,7 +93,7 @@ pub fn forward_through(
     requires { ⌜ Stepping (now plan) (length (now room)) w factors t src dst × Through (now plan) (length (now room)) w factors t last ⌝ }
     ensures { λ _. ⌜ now (room .exit) ≡ hold (now (room .entry)) w dst
         (tabulate
-        (through (forwardBy (now (plan .entry)) (drop factors (now (room .entry))) w odd) t last scale then (halfAt (now (room .entry)) w src))
+        (through (forwardBy (now (plan .entry)) (drop factors (now (room .entry))) w antisymmetric) t last scale then (halfAt (now (room .entry)) w src))
         (2 ^ (w - 1))) ⌝ }
     ensures { λ r. ⌜ r ≡ mostIf taken (tabulate (halfAt (now (room .exit)) w dst) (2 ^ (w - 1))) ⌝ }
 {
@@ -105,7 +105,7 @@ pub fn forward_through(
             w,
             t,
             scale,
-            odd,
+            antisymmetric,
             src,
             dst,
             bits,
@@ -123,7 +123,7 @@ pub fn forward_through(
         last,
         scale,
         then,
-        odd,
+        antisymmetric,
         src,
         dst,
         bits,
@@ -136,7 +136,7 @@ pub fn forward_through(
     half_stored(room, dst, w, taken)
 }
 
-// The backward steps likewise, from an even half. The tables of `last`, whose step is the second, come first.
+// The backward steps likewise, from a symmetric half. The tables of `last`, whose step is the second, come first.
 fn backward_two_at(
     room: &mut [f64],
     factors: usize,
@@ -185,7 +185,7 @@ fn backward_two_at(
     );
 }
 
-// The backward steps at t and at `last`, or the one at t alone where `last` is t, from an even half; answers likewise.
+// The backward steps at t and at `last`, or the one at t alone where `last` is t, from a symmetric half; returns likewise.
 pub fn backward_through(
     room: &mut [f64],
     factors: usize,

@@ -14,8 +14,8 @@ use half_backward::half_backward;
 use half_forward::half_forward;
 use plan::near_count;
 
-// The forward step at t, with the scale, from the half at place src, which is even or odd, to place dst. Its tables stand in the lists,
-// which are lent so that they are not cleared for each step. Answers the largest entry of what it wrote.
+// The forward step at t, with the scale, from the half at place src, which is symmetric or antisymmetric, to place dst. Its tables stand in the lists,
+// which are lent so that they are not cleared for each step. Returns the largest entry of what it wrote.
 pub(crate) fn forward_at(
     room: &mut [f64],
     factors: usize,
@@ -23,7 +23,7 @@ pub(crate) fn forward_at(
     w: usize,
     t: usize,
     scale: f64,
-    odd: bool,
+    antisymmetric: bool,
     src: usize,
     dst: usize,
     bits: &mut [usize; 4],
@@ -32,15 +32,27 @@ pub(crate) fn forward_at(
 ) -> f64
     requires { ⌜ Stepping (now plan) (length (now room)) w factors t src dst ⌝ }
     ensures { λ _. ⌜ now (room .exit) ≡ hold (now (room .entry)) w dst
-        (tabulate (forwardBy (now (plan .entry)) (drop factors (now (room .entry))) w odd t scale (halfAt (now (room .entry)) w src)) (2 ^ (w - 1))) ⌝ }
+        (tabulate (forwardBy (now (plan .entry)) (drop factors (now (room .entry))) w antisymmetric t scale (halfAt (now (room .entry)) w src)) (2 ^ (w - 1))) ⌝ }
     ensures { λ r. ⌜ r ≡ S.largest ieee (ieee .𝟘) (tabulate (halfAt (now (room .exit)) w dst) (2 ^ (w - 1))) ⌝ }
 {
     let ep = tables_at(room, factors, plan, w, t, scale, bits, up, down);
     let count = near_count(plan, t);
-    half_forward(room, src, dst, w, ep, 1.0 / ep, odd, bits, count, up, down)
+    half_forward(
+        room,
+        src,
+        dst,
+        w,
+        ep,
+        1.0 / ep,
+        antisymmetric,
+        bits,
+        count,
+        up,
+        down,
+    )
 }
 
-// The backward step at t likewise, from an even half.
+// The backward step at t likewise, from a symmetric half.
 pub(crate) fn backward_at(
     room: &mut [f64],
     factors: usize,

@@ -50,7 +50,7 @@ fn factor_of(room: &[f64], factors: usize, k: usize) -> f64
     room[factors + (k - 1)]
 }
 
-// The tables of the step at t with the scale, written where the step reads them. Answers the left edge's factor, 1.0 where there is none.
+// The tables of the step at t with the scale, written where the step reads them. Returns the left edge's factor, 1.0 where there is none.
 pub fn tables_at(
     room: &[f64],
     factors: usize,

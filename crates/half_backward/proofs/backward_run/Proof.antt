@@ -1,27 +1,27 @@
--- The first i entries from both ends are filled, and have passed the lanes; a turn fills two more of each.
+-- The first i entries from both ends are filled, and have passed the lanes; an iteration fills two more of each.
 use mathlib.Core.Path.{_≡_, refl}
 use Prim.Native.Nat.{_+_, _-_, _%_, _≤_, _<_}
 use lib.ListN.{length, length-set}
-use Rattle.sweep.specs.Rule.{entries, inTurn, mix, backwardRule}
+use Rattle.sweep.specs.Rule.{entries, alternating, mix, backwardRule}
 use Rattle.largest.specs.Lanes.{Lanes, lanes-none}
 use Rattle.half_backward.specs.Ends.{ends, ends-none}
-use Rattle.half_backward.proofs.BackwardTurn.{run-turn, run-lanes, run-most}
+use Rattle.half_backward.proofs.BackwardIteration.{run-iteration, run-lanes, run-most}
 use native.Mathlib.Omega.{arith}
 use Rattle.half_backward.proofs.backward_run.Statement.{statement}
 use Rattle.half_backward.proofs.backward_run.Tie as tie
 
 abbrev Inv-loop : tie.InvT-loop
-Inv-loop v₀ s lo hi n x y p0 q0 p1 q1 m₀ i₀ v m i =
+Inv-loop v₀ s lo hi n ep em p0 q0 p1 q1 m₀ i₀ v m i =
     (length v ≡ length v₀) × (i % 2 ≡ 0) × (i ≤ n)
-    × (v ≡ ends v₀ lo hi (backwardRule x y (inTurn p0 p1) (inTurn q0 q1) (entries v₀ s))
-    (backwardRule y x (inTurn p0 p1) (inTurn q0 q1) (entries v₀ s)) i)
-    × Lanes (backwardRule x y (inTurn p0 p1) (inTurn q0 q1) (entries v₀ s)) (backwardRule y x (inTurn p0 p1) (inTurn q0 q1) (entries v₀ s)) i
+    × (v ≡ ends v₀ lo hi (backwardRule ep em (alternating p0 p1) (alternating q0 q1) (entries v₀ s))
+    (backwardRule em ep (alternating p0 p1) (alternating q0 q1) (entries v₀ s)) i)
+    × Lanes (backwardRule ep em (alternating p0 p1) (alternating q0 q1) (entries v₀ s)) (backwardRule em ep (alternating p0 p1) (alternating q0 q1) (entries v₀ s)) i
     (m .a) (m .b) (m .d) (m .c)
 
 abbrev μ-loop : tie.MeasureT-loop
-μ-loop v₀ s lo hi n x y p0 q0 p1 q1 m₀ i₀ v m i = n - i
+μ-loop v₀ s lo hi n ep em p0 q0 p1 q1 m₀ i₀ v m i = n - i
 
--- both counts are even, so a turn has two pairs
+-- both counts are even, so an iteration has two pairs
 next : (c : tie.In-loop Inv-loop μ-loop) → c .before .loop .i + 1 < c .before .before .before .before .args .n
 next c = omega arith
 
@@ -147,14 +147,14 @@ loop-less c = omega arith
 loop-again : tie.Need-loop-again Inv-loop μ-loop
 unfolding mix
 loop-again c =
-    let turn = c .before .before .before .before .before in
-    let at = turn .before in
+    let iteration = c .before .before .before .before .before in
+    let at = iteration .before in
     let pre = at .before .before .before .pre in (
       simp length-set (at .loop .inv .0),
       omega arith,
-      omega (arith, next turn),
-      run-turn _ _ _ _ _ _ _ _ _ _ _ _ _ (pre .1) (pre .2) (pre .3) (at .loop .inv .3) (next turn) (at .loop .inv .1),
-      run-lanes _ _ _ _ _ _ _ _ _ _ _ _ _ (pre .1) (pre .2) (pre .3) (at .loop .inv .3) (next turn) (at .loop .inv .1) (at .loop .inv .4) (c .joined .ensures),
+      omega (arith, next iteration),
+      run-iteration _ _ _ _ _ _ _ _ _ _ _ _ _ (pre .1) (pre .2) (pre .3) (at .loop .inv .3) (next iteration) (at .loop .inv .1),
+      run-lanes _ _ _ _ _ _ _ _ _ _ _ _ _ (pre .1) (pre .2) (pre .3) (at .loop .inv .3) (next iteration) (at .loop .inv .1) (at .loop .inv .4) (c .joined .ensures),
     )
 
 larger-of-requires : tie.Need-larger-of-requires Inv-loop μ-loop
@@ -176,7 +176,7 @@ returns c =
     let g = s .args in
     let e : at .loop .i ≡ g .n = omega arith in (
       rw e at (at .loop .inv .3),
-      run-most (g .x) (g .y) (g .p0) (g .q0) (g .p1) (g .q1) (g .s) (g .lo) (g .hi) (g .n) (g .v .now) (at .loop .v) (at .loop .i) (s .pre .1) (s .pre .2) (s .pre .3) (s .pre .0)
+      run-most (g .ep) (g .em) (g .p0) (g .q0) (g .p1) (g .q1) (g .s) (g .lo) (g .hi) (g .n) (g .v .now) (at .loop .v) (at .loop .i) (s .pre .1) (s .pre .2) (s .pre .3) (s .pre .0)
           (rw e at (at .loop .inv .4)) (c .before .before .larger-of .ensures) (c .before .larger-of2 .ensures) (c .larger-of3 .ensures),
     )
 

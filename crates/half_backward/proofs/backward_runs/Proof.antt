@@ -1,4 +1,4 @@
--- The entries up to the run at k are filled, from both ends, and their largest is known; a turn fills those of a run.
+-- The entries up to the run at k are filled, from both ends, and their largest is known; an iteration fills those of a run.
 use mathlib.Core.Path.{_≡_, refl, _∙_}
 use Prim.Native.Nat.{_+_, _*_, _-_, _^_}
 use lib.ListN.{length}
@@ -9,7 +9,7 @@ use Rattle.sweep.specs.Constants.{zero-is}
 use Rattle.largest.specs.Larger.{larger}
 use Rattle.largest.specs.Top.{top, tops-none}
 use Rattle.half_backward.specs.Ends.{ends, ends-none}
-use Rattle.half_backward.proofs.BackwardTurn.{backward-fit, run-apart, runs-turn, runs-most, ends-most}
+use Rattle.half_backward.proofs.BackwardIteration.{backward-fit, run-apart, runs-iteration, runs-most, ends-most}
 use native.Mathlib.Omega.{arith}
 use Rattle.half_backward.proofs.backward_runs.Statement.{statement}
 use Rattle.half_backward.proofs.backward_runs.Tie as tie
@@ -107,9 +107,9 @@ sub-backward-run c = omega arith
 
 backward-run-requires : tie.Need-backward-run-requires Inv-loop μ-loop
 backward-run-requires c κs =
-    let turn = c .before .before .before .before .before .before in
-    let i = turn .before .loop .inv in
-    let f = run-apart (i .2) (i .3) (turn .loop-test .taken) _ _ _ (i .1) in
+    let iteration = c .before .before .before .before .before .before in
+    let i = iteration .before .loop .inv in
+    let f = run-apart (i .2) (i .3) (iteration .loop-test .taken) _ _ _ (i .1) in
     (run-even (i .2), f .0, rw (i .0) (f .1), rw (i .0) (f .2))
 
 larger-of-requires : tie.Need-larger-of-requires Inv-loop μ-loop
@@ -117,20 +117,20 @@ larger-of-requires c κs = tt
 
 add-k : tie.Need-add-k Inv-loop μ-loop
 add-k c =
-    let turn = c .before .before .before .before .before .before .before .before .before .before in
-    omega (arith, run-ends (turn .before .loop .inv .2) (turn .before .loop .inv .3) (turn .loop-test .taken))
+    let iteration = c .before .before .before .before .before .before .before .before .before .before in
+    omega (arith, run-ends (iteration .before .loop .inv .2) (iteration .before .loop .inv .3) (iteration .loop-test .taken))
 
 loop-less : tie.Need-loop-less Inv-loop μ-loop
 loop-less c =
-    let turn = c .before .before .before .before .before .before .before .before .before .before in
-    omega (arith, run-size (turn .before .loop .inv .2), turn .loop-test .taken)
+    let iteration = c .before .before .before .before .before .before .before .before .before .before in
+    omega (arith, run-size (iteration .before .loop .inv .2), iteration .loop-test .taken)
 
 loop-again : tie.Need-loop-again Inv-loop μ-loop
 loop-again c =
     let m = c .before .before .before .before .before .before .before .before .before .pattern-of2 .ensures .0 in
-    let turn = c .before .before .before .before .before .before .before .before .before .before in
-    let under = turn .loop-test .taken in
-    let at = turn .before in
+    let iteration = c .before .before .before .before .before .before .before .before .before .before in
+    let under = iteration .loop-test .taken in
+    let at = iteration .before in
     let i = at .loop .inv in
     let a = at .before .before .before .before .before .before .args in
     let run = c .before .before .before .backward-run in (
@@ -138,7 +138,7 @@ loop-again c =
       i .1,
       i .2,
       next-run (i .2) (i .3) under,
-      runs-turn (i .2) (i .3) under _ _ (a .up .now) (a .down .now) _ _ _ (a .v .now) (at .loop .v) (i .1) m (i .4) _ (run .ensures .0),
+      runs-iteration (i .2) (i .3) under _ _ (a .up .now) (a .down .now) _ _ _ (a .v .now) (at .loop .v) (i .1) m (i .4) _ (run .ensures .0),
       runs-most (i .2) (i .3) under _ _ (a .up .now) (a .down .now) _ _ _ (a .v .now) (at .loop .v) (i .1) m (i .4) (i .5) (run .ensures .1) (c .larger-of .ensures),
     )
 

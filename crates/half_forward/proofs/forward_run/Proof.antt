@@ -1,27 +1,27 @@
--- The first 2 i entries of the rule are filled, and have passed the lanes; a turn fills four more.
+-- The first 2 i entries of the rule are filled, and have passed the lanes; an iteration fills four more.
 use mathlib.Core.Path.{_≡_, refl, _∙_}
 use Prim.Native.Nat.{_+_, _*_, _-_, _%_, _≤_, _<_}
 use lib.ListN.{length, length-set}
 use Rattle.vector.specs.Part.{put, fill-none}
 use Rattle.vector.specs.Tabulate.{tabulate}
-use Rattle.sweep.specs.Rule.{entries, fromEnd, inTurn, blend, forwardRule}
+use Rattle.sweep.specs.Rule.{entries, fromEnd, alternating, blend, forwardRule}
 use Rattle.largest.specs.Lanes.{Lanes, lanes-none}
-use Rattle.half_forward.proofs.ForwardTurn.{run-turn, run-lanes, run-most}
+use Rattle.half_forward.proofs.ForwardIteration.{run-iteration, run-lanes, run-most}
 use native.Mathlib.Omega.{arith}
 use Rattle.half_forward.proofs.forward_run.Statement.{statement}
 use Rattle.half_forward.proofs.forward_run.Tie as tie
 
 abbrev Inv-loop : tie.InvT-loop
-Inv-loop v₀ a b o n x y z u p0 q0 p1 q1 m₀ i₀ v m i =
+Inv-loop v₀ a b o n ep sem em sep p0 q0 p1 q1 m₀ i₀ v m i =
     (length v ≡ length v₀) × (i % 2 ≡ 0) × (i ≤ n)
-    × (v ≡ put v₀ o (tabulate (forwardRule x y z u (inTurn p0 p1) (inTurn q0 q1) (entries v₀ a) (fromEnd v₀ (b + 1 - n) n)) (2 * i)))
-    × Lanes (λ k. forwardRule x y z u (inTurn p0 p1) (inTurn q0 q1) (entries v₀ a) (fromEnd v₀ (b + 1 - n) n) (2 * k))
-    (λ k. forwardRule x y z u (inTurn p0 p1) (inTurn q0 q1) (entries v₀ a) (fromEnd v₀ (b + 1 - n) n) (2 * k + 1)) i (m .a) (m .c) (m .b) (m .d)
+    × (v ≡ put v₀ o (tabulate (forwardRule ep sem em sep (alternating p0 p1) (alternating q0 q1) (entries v₀ a) (fromEnd v₀ (b + 1 - n) n)) (2 * i)))
+    × Lanes (λ k. forwardRule ep sem em sep (alternating p0 p1) (alternating q0 q1) (entries v₀ a) (fromEnd v₀ (b + 1 - n) n) (2 * k))
+    (λ k. forwardRule ep sem em sep (alternating p0 p1) (alternating q0 q1) (entries v₀ a) (fromEnd v₀ (b + 1 - n) n) (2 * k + 1)) i (m .a) (m .c) (m .b) (m .d)
 
 abbrev μ-loop : tie.MeasureT-loop
-μ-loop v₀ a b o n x y z u p0 q0 p1 q1 m₀ i₀ v m i = n - i
+μ-loop v₀ a b o n ep sem em sep p0 q0 p1 q1 m₀ i₀ v m i = n - i
 
--- both counts are even, so a turn has two pairs
+-- both counts are even, so an iteration has two pairs
 next : (c : tie.In-loop Inv-loop μ-loop) → c .before .loop .i + 1 < c .before .before .before .before .args .n
 next c = omega arith
 
@@ -142,14 +142,14 @@ loop-less c = omega arith
 loop-again : tie.Need-loop-again Inv-loop μ-loop
 unfolding blend
 loop-again c =
-    let turn = c .before .before .before .before .before in
-    let at = turn .before in
+    let iteration = c .before .before .before .before .before in
+    let at = iteration .before in
     let pre = at .before .before .before .pre in (
       simp length-set (at .loop .inv .0),
       omega arith,
-      omega (arith, next turn),
-      run-turn _ _ _ _ _ _ _ _ _ _ _ _ _ _ _ (pre .1) (pre .2) (pre .3) (at .loop .inv .3) (next turn) (at .loop .inv .1),
-      run-lanes _ _ _ _ _ _ _ _ _ _ _ _ _ _ _ (pre .1) (pre .2) (pre .3) (at .loop .inv .3) (next turn) (at .loop .inv .1) (at .loop .inv .4) (c .joined .ensures),
+      omega (arith, next iteration),
+      run-iteration _ _ _ _ _ _ _ _ _ _ _ _ _ _ _ (pre .1) (pre .2) (pre .3) (at .loop .inv .3) (next iteration) (at .loop .inv .1),
+      run-lanes _ _ _ _ _ _ _ _ _ _ _ _ _ _ _ (pre .1) (pre .2) (pre .3) (at .loop .inv .3) (next iteration) (at .loop .inv .1) (at .loop .inv .4) (c .joined .ensures),
     )
 
 larger-of-requires : tie.Need-larger-of-requires Inv-loop μ-loop

@@ -1,4 +1,4 @@
--- The entries up to the run at k are filled, and their largest is known; a turn fills those of a run.
+-- The entries up to the run at k are filled, and their largest is known; an iteration fills those of a run.
 use mathlib.Core.Path.{_≡_, refl, _∙_}
 use Prim.Native.Nat.{_+_, _*_, _-_, _^_}
 use lib.ListN.{length}
@@ -9,20 +9,20 @@ use Rattle.sweep.specs.Rule.{entries, fromEnd, weights, forwardRule}
 use Rattle.runs.specs.AtRun.{Runs, AtRun, readable, first-run, run-size, run-even, run-ends, run-16, next-run}
 use Rattle.sweep.specs.Constants.{zero-is}
 use Rattle.largest.specs.Top.{top, top-none}
-use Rattle.half_forward.proofs.ForwardTurn.{run-apart, runs-turn, runs-most}
+use Rattle.half_forward.proofs.ForwardIteration.{run-apart, runs-iteration, runs-most}
 use Rattle.largest.specs.Filled.{filled-top}
 use native.Mathlib.Omega.{arith}
 use Rattle.half_forward.proofs.forward_runs.Statement.{statement}
 use Rattle.half_forward.proofs.forward_runs.Tie as tie
 
 abbrev Inv-loop : tie.InvT-loop
-Inv-loop v₀ src dst g x y z u bits n up down end e size one last most₀ k₀ v most k =
+Inv-loop v₀ src dst g ep sem em sep bits n up down end e size one last most₀ k₀ v most k =
     (length v ≡ length v₀) × Apart (length v₀) src (2 * 2 ^ g) dst (2 * 2 ^ g) × Runs bits n g e end size one × AtRun e end k
-    × (v ≡ put v₀ dst (tabulate (forwardRule x y z u (weights bits n up) (weights bits n down) (entries v₀ src) (fromEnd v₀ src (2 * 2 ^ g))) (2 * k)))
-    × (most ≡ top (forwardRule x y z u (weights bits n up) (weights bits n down) (entries v₀ src) (fromEnd v₀ src (2 * 2 ^ g))) (2 * k))
+    × (v ≡ put v₀ dst (tabulate (forwardRule ep sem em sep (weights bits n up) (weights bits n down) (entries v₀ src) (fromEnd v₀ src (2 * 2 ^ g))) (2 * k)))
+    × (most ≡ top (forwardRule ep sem em sep (weights bits n up) (weights bits n down) (entries v₀ src) (fromEnd v₀ src (2 * 2 ^ g))) (2 * k))
 
 abbrev μ-loop : tie.MeasureT-loop
-μ-loop v₀ src dst g x y z u bits n up down end e size one last most₀ k₀ v most k = end - k
+μ-loop v₀ src dst g ep sem em sep bits n up down end e size one last most₀ k₀ v most k = end - k
 
 pow2-requires : tie.Need-pow2-requires Inv-loop μ-loop
 pow2-requires c κs = omega arith
@@ -109,9 +109,9 @@ add-forward-run-2 c = omega arith
 
 forward-run-requires : tie.Need-forward-run-requires Inv-loop μ-loop
 forward-run-requires c κs =
-    let turn = c .before .before .before .before .before .before in
-    let i = turn .before .loop .inv in
-    let f = run-apart (i .2) (i .3) (turn .loop-test .taken) _ _ _ (run-size (i .2)) (i .1) in
+    let iteration = c .before .before .before .before .before .before in
+    let i = iteration .before .loop .inv in
+    let f = run-apart (i .2) (i .3) (iteration .loop-test .taken) _ _ _ (run-size (i .2)) (i .1) in
     (run-even (i .2), f .0, rw (i .0) (f .1), rw (i .0) (f .2))
 
 larger-of-requires : tie.Need-larger-of-requires Inv-loop μ-loop
@@ -119,20 +119,20 @@ larger-of-requires c κs = tt
 
 add-k : tie.Need-add-k Inv-loop μ-loop
 add-k c =
-    let turn = c .before .before .before .before .before .before .before .before .before .before in
-    omega (arith, run-ends (turn .before .loop .inv .2) (turn .before .loop .inv .3) (turn .loop-test .taken))
+    let iteration = c .before .before .before .before .before .before .before .before .before .before in
+    omega (arith, run-ends (iteration .before .loop .inv .2) (iteration .before .loop .inv .3) (iteration .loop-test .taken))
 
 loop-less : tie.Need-loop-less Inv-loop μ-loop
 loop-less c =
-    let turn = c .before .before .before .before .before .before .before .before .before .before in
-    omega (arith, run-size (turn .before .loop .inv .2), turn .loop-test .taken)
+    let iteration = c .before .before .before .before .before .before .before .before .before .before in
+    omega (arith, run-size (iteration .before .loop .inv .2), iteration .loop-test .taken)
 
 loop-again : tie.Need-loop-again Inv-loop μ-loop
 loop-again c =
     let m = c .before .before .before .before .before .before .before .before .before .pattern-of2 .ensures .0 in
-    let turn = c .before .before .before .before .before .before .before .before .before .before in
-    let under = turn .loop-test .taken in
-    let at = turn .before in
+    let iteration = c .before .before .before .before .before .before .before .before .before .before in
+    let under = iteration .loop-test .taken in
+    let at = iteration .before in
     let i = at .loop .inv in
     let a = at .before .before .before .before .before .before .args in
     let run = c .before .before .before .forward-run in (
@@ -140,7 +140,7 @@ loop-again c =
       i .1,
       i .2,
       next-run (i .2) (i .3) under,
-      runs-turn (i .2) (i .3) under _ _ _ _ (a .up .now) (a .down .now) _ _ _ (a .v .now) (at .loop .v) (i .1) m (i .4) _ (run .ensures .0),
+      runs-iteration (i .2) (i .3) under _ _ _ _ (a .up .now) (a .down .now) _ _ _ (a .v .now) (at .loop .v) (i .1) m (i .4) _ (run .ensures .0),
       runs-most (i .2) (i .3) under _ _ _ _ (a .up .now) (a .down .now) _ _ _ (a .v .now) (at .loop .v) (i .1) m (i .4) (i .5) (run .ensures .1) (c .larger-of .ensures),
     )
 

@@ -5,7 +5,7 @@ use lib.Pow.{pow-pos}
 use Rattle.vector.specs.Part.{put}
 use Rattle.sweep.specs.Rule.{blend}
 use Rattle.runs.specs.Quarter.{half-is}
-use Rattle.halves.specs.Half.{turnOf}
+use Rattle.halves.specs.Half.{negatedIf}
 use Rattle.half_forward.specs.ForwardIs.{forward-filled, few-is}
 use Rattle.half_steps.specs.Halves.{halves-apart, short-half}
 use native.Mathlib.Omega.{arith}
@@ -22,11 +22,11 @@ mul-s c = rw (c .pow2 .ensures) (omega (arith, c .before .before .pre .0 .from .
 mul-o : tie.Need-mul-o
 mul-o c = rw (c .pow2 .ensures) (omega (arith, c .before .before .pre .0 .to .inside))
 
-turned-requires : tie.Need-turned-requires
-turned-requires c κs = search needs
+negated-if-requires : tie.Need-negated-if-requires
+negated-if-requires c κs = search needs
 
-turned-requires-2 : tie.Need-turned-requires-2
-turned-requires-2 c κs = search needs
+negated-if-requires-2 : tie.Need-negated-if-requires-2
+negated-if-requires-2 c κs = search needs
 
 sub-forward-runs : tie.Need-sub-forward-runs
 sub-forward-runs c = search needs
@@ -52,8 +52,8 @@ returns c =
     let half : 2 * 2 ^ (w - 2) ≡ 2 ^ (w - 1) = sym (half-is w (omega arith)) in
     let runs = c .before .before .forward-runs .ensures in (
       λ l sc t.
-          forward-filled l sc _ t _ (turnOf (s .args .odd)) room _ _ _
-          (rw (size, c .before .before .before .before .before .before .turned .ensures, c .before .before .before .before .before .turned2 .ensures, half) at (runs .0)),
+          forward-filled l sc _ t _ (negatedIf (s .args .antisymmetric)) room _ _ _
+          (rw (size, c .before .before .before .before .before .before .negated-if .ensures, c .before .before .before .before .before .negated-if2 .ensures, half) at (runs .0)),
       rw (size, half) at (runs .1),
     )
 
@@ -104,14 +104,14 @@ unfolding blend
 returns-2 c =
     let s = c .before .before .before .before .before .before .before .before .before .before .before .before .before .before in
     let room = s .args .room .now in
-    let turned = c .before .before .before .before .before .before .before .before .before .before .before .turned .ensures in
-    let turned2 = c .before .before .before .before .before .before .before .before .before .before .turned2 .ensures in
+    let negated-if = c .before .before .before .before .before .before .before .before .before .before .before .negated-if .ensures in
+    let negated-if2 = c .before .before .before .before .before .before .before .before .before .before .negated-if2 .ensures in
     let size = c .before .before .before .before .before .before .before .before .before .before .before .before .pow2 .ensures in
     let half = c .before .before .before .before .before .before .before .before .pow22 .ensures in
     let few = c .before .before .store-few .ensures in (
       λ l sc t.
           rw (size, half) at (few .0)
-          ∙ ap (put room _) (few-is l sc _ t _ (turnOf (s .args .odd)) room _ _ _ turned turned2 (short-half (s .args .w) (omega arith))),
+          ∙ ap (put room _) (few-is l sc _ t _ (negatedIf (s .args .antisymmetric)) room _ _ _ negated-if negated-if2 (short-half (s .args .w) (omega arith))),
       rw (size, half) at (few .1),
     )
 
@@ -122,8 +122,8 @@ half-forward-spec =
     pow2-requires
     mul-s
     mul-o
-    turned-requires
-    turned-requires-2
+    negated-if-requires
+    negated-if-requires-2
     sub-forward-runs
     forward-runs-requires
     same-length

@@ -13,17 +13,17 @@ use Rattle.half_stride_forward.proofs.half_stride_forward.Tie as tie
 pow2-requires : tie.Need-pow2-requires
 pow2-requires c κs = search needs
 
-turned-requires : tie.Need-turned-requires
-turned-requires c κs = search needs
+negated-if-requires : tie.Need-negated-if-requires
+negated-if-requires c κs = search needs
 
-turned-requires-2 : tie.Need-turned-requires-2
-turned-requires-2 c κs = search needs
+negated-if-requires-2 : tie.Need-negated-if-requires-2
+negated-if-requires-2 c κs = search needs
 
-turned-requires-3 : tie.Need-turned-requires-3
-turned-requires-3 c κs = search needs
+negated-if-requires-3 : tie.Need-negated-if-requires-3
+negated-if-requires-3 c κs = search needs
 
-turned-requires-4 : tie.Need-turned-requires-4
-turned-requires-4 c κs = search needs
+negated-if-requires-4 : tie.Need-negated-if-requires-4
+negated-if-requires-4 c κs = search needs
 
 mul-forward-runs : tie.Need-mul-forward-runs
 mul-forward-runs c = rw (c .before .before .before .before .before .pow2 .ensures) (omega (arith, c .before .before .before .before .before .before .before .pre .1 .from .inside))
@@ -57,7 +57,7 @@ returns c = λ s sc s′ sc′ a a′.
     let start = c .before .before .before .before .before .before .before .before .before .before in
     let room = start .args .room .now in
     forward-twice-filled s sc _ a s′ sc′ _ a′ _ _ room _ (omega (arith, start .pre .0)) _ _
-    (rw (c .before .before .before .before .before .before .before .before .pow2 .ensures, c .before .before .before .before .before .before .before .turned .ensures, c .before .before .before .before .before .before .turned2 .ensures, c .before .before .before .before .before .turned3 .ensures, c .before .before .before .before .turned4 .ensures) at
+    (rw (c .before .before .before .before .before .before .before .before .pow2 .ensures, c .before .before .before .before .before .before .before .negated-if .ensures, c .before .before .before .before .before .before .negated-if2 .ensures, c .before .before .before .before .before .negated-if3 .ensures, c .before .before .before .before .negated-if4 .ensures) at
     (c .before .before .forward-runs .ensures))
 
 pub half-stride-forward-spec : {M : Type 1} → statement M
@@ -65,10 +65,10 @@ half-stride-forward-spec =
     tie.close
     (tie.spec
     pow2-requires
-    turned-requires
-    turned-requires-2
-    turned-requires-3
-    turned-requires-4
+    negated-if-requires
+    negated-if-requires-2
+    negated-if-requires-3
+    negated-if-requires-4
     mul-forward-runs
     mul-forward-runs-2
     sub-forward-runs

@@ -1,7 +1,7 @@
 -- A few entries go through one lane; more fill the sixteen evenly.
 use native.Mathlib.Omega.{arith}
 use borrow.Author.Needs.{needs}
-use Rattle.largest.proofs.LargestTurn.{sixteenths}
+use Rattle.largest.proofs.LargestIteration.{sixteenths}
 use Rattle.largest.proofs.largest_from.Statement.{statement}
 use Rattle.largest.proofs.largest_from.Tie as tie
 

@@ -1,12 +1,12 @@
--- The largest of the first i entries, one entry more a turn.
+-- The largest of the first i entries, one entry more an iteration.
 use mathlib.Core.Path.{_≡_, _∙_}
 use Prim.Native.Nat.{_+_, _-_, _≤_}
 use lib.Ieee.{nan}
 use lib.ListN.{getD}
 use Rattle.sweep.specs.Constants.{zero-is}
 use Rattle.largest.specs.Top.{top, top-none}
-use Rattle.largest.specs.Lanes.{lane-turn}
-use Rattle.largest.proofs.LargestTurn.{largest-is}
+use Rattle.largest.specs.Lanes.{lane-iteration}
+use Rattle.largest.proofs.LargestIteration.{largest-is}
 use native.Mathlib.Omega.{arith}
 use Rattle.largest.proofs.one_lane.Statement.{statement}
 use Rattle.largest.proofs.one_lane.Tie as tie
@@ -40,7 +40,7 @@ loop-less c = omega arith
 
 loop-again : tie.Need-loop-again Inv-loop μ-loop
 loop-again c =
-    (omega arith, lane-turn _ _ (c .before .before .before .loop .inv .1) (c .larger-of .ensures))
+    (omega arith, lane-iteration _ _ (c .before .before .before .loop .inv .1) (c .larger-of .ensures))
 
 returns : tie.Need-returns Inv-loop μ-loop
 returns c =

@@ -1,7 +1,7 @@
 -- Each lane has the largest of its first t entries; joined, they have the largest of all.
 use mathlib.Core.Path.{_≡_}
 use Prim.Native.Nat.{_+_, _*_, _-_, _≤_}
-use Rattle.largest.proofs.LargestTurn.{Passed, passed-none, passed-turn, lane-done, lanes-done}
+use Rattle.largest.proofs.LargestIteration.{Passed, passed-none, passed-iteration, lane-done, lanes-done}
 use native.Mathlib.Omega.{arith}
 use Rattle.largest.proofs.sixteen_lanes.Statement.{statement}
 use Rattle.largest.proofs.sixteen_lanes.Tie as tie
@@ -80,10 +80,10 @@ loop-again c =
     let at = c1 .before .before .before in
     let i = at .loop .inv in (
       omega (arith, c1 .before .before .loop-test),
-      passed-turn _ _ _ _ _ _ _ _ _ _ _ _ _ _ _ (i .1) (c1 .before .four-at .ensures) (c1 .joined .ensures),
-      passed-turn _ _ _ _ _ _ _ _ _ _ _ _ _ _ _ (i .2) (c2 .before .four-at2 .ensures) (c2 .joined2 .ensures),
-      passed-turn _ _ _ _ _ _ _ _ _ _ _ _ _ _ _ (i .3) (c3 .before .four-at3 .ensures) (c3 .joined3 .ensures),
-      passed-turn _ _ _ _ _ _ _ _ _ _ _ _ _ _ _ (i .4) (c4 .before .four-at4 .ensures) (c4 .joined4 .ensures),
+      passed-iteration _ _ _ _ _ _ _ _ _ _ _ _ _ _ _ (i .1) (c1 .before .four-at .ensures) (c1 .joined .ensures),
+      passed-iteration _ _ _ _ _ _ _ _ _ _ _ _ _ _ _ (i .2) (c2 .before .four-at2 .ensures) (c2 .joined2 .ensures),
+      passed-iteration _ _ _ _ _ _ _ _ _ _ _ _ _ _ _ (i .3) (c3 .before .four-at3 .ensures) (c3 .joined3 .ensures),
+      passed-iteration _ _ _ _ _ _ _ _ _ _ _ _ _ _ _ (i .4) (c4 .before .four-at4 .ensures) (c4 .joined4 .ensures),
     )
 
 joined-requires-5 : tie.Need-joined-requires-5 Inv-loop μ-loop

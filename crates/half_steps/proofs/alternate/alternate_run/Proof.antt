@@ -1,12 +1,12 @@
--- The first j entries are filled; a turn fills two more.
+-- The first j entries are filled; an iteration fills two more.
 use mathlib.Core.Path.{_≡_, refl}
 use Prim.Native.Nat.{_+_, _-_, _%_, _≤_, _<_}
 use lib.ListN.{length, length-set}
 use Rattle.vector.specs.Part.{put, fill-none}
 use Rattle.vector.specs.Tabulate.{tabulate}
 use Rattle.sweep.specs.Rule.{entries}
-use Rattle.halves.specs.Odd.{alternateHalf}
-use Rattle.half_steps.proofs.AlternateTurn.{alternate-turn}
+use Rattle.halves.specs.Antisymmetric.{alternateHalf}
+use Rattle.half_steps.proofs.AlternateIteration.{alternate-iteration}
 use native.Mathlib.Omega.{arith}
 use Rattle.half_steps.proofs.alternate.alternate_run.Statement.{statement}
 use Rattle.half_steps.proofs.alternate.alternate_run.Tie as tie
@@ -18,7 +18,7 @@ Inv-loop v₀ s o n j₀ v j =
 abbrev μ-loop : tie.MeasureT-loop
 μ-loop v₀ s o n j₀ v j = n - j
 
--- both counts are even, so a turn has two entries
+-- both counts are even, so an iteration has two entries
 next : (c : tie.In-loop Inv-loop μ-loop) → c .before .loop .j + 1 < c .before .before .args .n
 next c = omega arith
 
@@ -78,7 +78,7 @@ loop-again c =
     let at = c .before .before .before in
     let i = at .loop .inv in
     let l = next (c .before .before) in
-    (simp length-set (i .0), omega arith, omega (arith, l), alternate-turn _ _ _ _ _ _ (at .before .pre .1) l (i .1) (i .3))
+    (simp length-set (i .0), omega arith, omega (arith, l), alternate-iteration _ _ _ _ _ _ (at .before .pre .1) l (i .1) (i .3))
 
 same-length : tie.Need-same-length Inv-loop μ-loop
 same-length c = omega arith

@@ -1,10 +1,10 @@
--- Two entries a turn, or the only one.
+-- Two entries an iteration, or the only one.
 use mathlib.Core.Path.{_≡_}
 use Prim.Native.Nat.{_-_, _^_}
 use lib.Pow.{pow-pos}
 use Rattle.vector.specs.Power.{pow-even}
 use Rattle.half_steps.specs.Halves.{halves-apart}
-use Rattle.half_steps.proofs.AlternateTurn.{alternate-one}
+use Rattle.half_steps.proofs.AlternateIteration.{alternate-one}
 use native.Mathlib.Omega.{arith}
 use borrow.Author.Needs.{needs}
 use Rattle.half_steps.proofs.alternate.half_alternate.Statement.{statement}

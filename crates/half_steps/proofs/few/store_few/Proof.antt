@@ -3,9 +3,9 @@ use mathlib.Core.Path.{_≡_, ap, _∙_}
 use lib.ListN.{length-set}
 use Rattle.transfer.specs.Rounded.{ieee}
 use Rattle.sweep.specs.Constants.{zero-is}
-use Rattle.sweep.specs.Rule.{inTurn}
+use Rattle.sweep.specs.Rule.{alternating}
 use Rattle.largest.specs.Larger.{larger}
-use Rattle.half_steps.proofs.FewTurn.{few-one, few-two, most-one, most-two}
+use Rattle.half_steps.proofs.FewIteration.{few-one, few-two, most-one, most-two}
 use Rattle.largest.specs.Filled.{filled-top}
 use native.Mathlib.Omega.{arith}
 use borrow.Author.Needs.{needs}
@@ -44,7 +44,7 @@ returns c =
     let first = c .before .before .larger-of .ensures ∙ ap (λ z. larger z (a .a)) zero-is in (
       put-is,
       most-two (a .v .now) (a .dst) (a .half) (a .a) (a .b) (s .pre .2) (c .before .if1 .taken) first (c .larger-of2 .ensures)
-          ∙ filled-top _ _ _ (inTurn (a .a) (a .b)) _ (s .pre .2) put-is,
+          ∙ filled-top _ _ _ (alternating (a .a) (a .b)) _ (s .pre .2) put-is,
     )
 
 same-length-2 : tie.Need-same-length-2
@@ -58,7 +58,7 @@ returns-2 c =
     let put-is = few-one _ _ _ _ _ (s .pre .2) one in
     let first = c .before .larger-of .ensures ∙ ap (λ z. larger z (a .a)) zero-is in (
       put-is,
-      most-one (a .v .now) (a .dst) (a .half) (a .a) (a .b) (s .pre .2) one first ∙ filled-top _ _ _ (inTurn (a .a) (a .b)) _ (s .pre .2) put-is,
+      most-one (a .v .now) (a .dst) (a .half) (a .a) (a .b) (s .pre .2) one first ∙ filled-top _ _ _ (alternating (a .a) (a .b)) _ (s .pre .2) put-is,
     )
 
 pub store-few-spec : {M : Type 1} → statement M

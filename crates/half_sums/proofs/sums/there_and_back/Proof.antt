@@ -31,15 +31,15 @@ pow2-requires c κs = search needs
 loop-holds : tie.Need-loop-holds Inv-loop μ-loop Inv-loop2 μ-loop2
 loop-holds c = (omega arith, omega arith, summed-none _ _ _ _ zero-is zero-is, summed-none _ _ _ _ zero-is zero-is)
 
-turn-there-requires : tie.Need-turn-there-requires Inv-loop μ-loop Inv-loop2 μ-loop2
-turn-there-requires c κs =
+terms-there-requires : tie.Need-terms-there-requires Inv-loop μ-loop Inv-loop2 μ-loop2
+terms-there-requires c κs =
     let at = c .before in
     let s = at .before .before .before in
     let l : at .loop .i + 2 ≤ 2 ^ (s .args .w - 1) = omega (arith, at .loop .inv .1, pow-even (s .args .w - 1) (omega arith)) in
     (less-within _ _ _ (s .pre .2) _ l, at .loop .inv .1)
 
-turn-there-requires-2 : tie.Need-turn-there-requires-2 Inv-loop μ-loop Inv-loop2 μ-loop2
-turn-there-requires-2 c κs =
+terms-there-requires-2 : tie.Need-terms-there-requires-2 Inv-loop μ-loop Inv-loop2 μ-loop2
+terms-there-requires-2 c κs =
     let at = c .before .before in
     let s = at .before .before .before in
     let l : at .loop .i + 2 ≤ 2 ^ (s .args .w - 1) = omega (arith, at .loop .inv .1, pow-even (s .args .w - 1) (omega arith)) in
@@ -59,8 +59,8 @@ loop-again c =
     let l : at .loop .i + 2 ≤ 2 ^ (w - 1) = omega (arith, at .loop .inv .1, pow-even (w - 1) (omega arith)) in (
       l,
       omega (arith, at .loop .inv .1),
-      c .before .turn-there .ensures w (omega arith) l (at .loop .inv .2),
-      c .turn-there2 .ensures w (omega arith) l (at .loop .inv .3),
+      c .before .terms-there .ensures w (omega arith) l (at .loop .inv .2),
+      c .terms-there2 .ensures w (omega arith) l (at .loop .inv .3),
     )
 
 loop2-holds : tie.Need-loop2-holds Inv-loop μ-loop Inv-loop2 μ-loop2
@@ -73,15 +73,15 @@ loop2-holds c =
 sub-i : tie.Need-sub-i Inv-loop μ-loop Inv-loop2 μ-loop2
 sub-i c = search needs
 
-turn-back-requires : tie.Need-turn-back-requires Inv-loop μ-loop Inv-loop2 μ-loop2
-turn-back-requires c κs =
+terms-back-requires : tie.Need-terms-back-requires Inv-loop μ-loop Inv-loop2 μ-loop2
+terms-back-requires c κs =
     let at = c .before in
     let s = at .before .before .before .before .before in
     let e : at .loop2 .i - 2 + 2 ≡ at .loop2 .i = omega (arith, at .loop2 .inv .1) in
     (rw e (less-within _ _ _ (s .pre .2) _ (at .loop2 .inv .0)), omega (arith, at .loop2 .inv .1))
 
-turn-back-requires-2 : tie.Need-turn-back-requires-2 Inv-loop μ-loop Inv-loop2 μ-loop2
-turn-back-requires-2 c κs =
+terms-back-requires-2 : tie.Need-terms-back-requires-2 Inv-loop μ-loop Inv-loop2 μ-loop2
+terms-back-requires-2 c κs =
     let at = c .before .before in
     let s = at .before .before .before .before .before in
     let e : at .loop2 .i - 2 + 2 ≡ at .loop2 .i = omega (arith, at .loop2 .inv .1) in
@@ -98,8 +98,8 @@ loop2-again c =
     let l : at .loop2 .i - 2 + 2 ≤ 2 ^ (w - 1) = omega (arith, e, at .loop2 .inv .0) in (
       omega (arith, at .loop2 .inv .0),
       omega (arith, at .loop2 .inv .1),
-      c .before .turn-back .ensures w (omega arith) l (rw e (at .loop2 .inv .2)),
-      c .turn-back2 .ensures w (omega arith) l (rw e (at .loop2 .inv .3)),
+      c .before .terms-back .ensures w (omega arith) l (rw e (at .loop2 .inv .2)),
+      c .terms-back2 .ensures w (omega arith) l (rw e (at .loop2 .inv .3)),
     )
 
 returns : tie.Need-returns Inv-loop μ-loop Inv-loop2 μ-loop2
@@ -120,15 +120,15 @@ there-and-back-spec =
     sub-pow2
     pow2-requires
     loop-holds
-    turn-there-requires
-    turn-there-requires-2
+    terms-there-requires
+    terms-there-requires-2
     add-i
     loop-less
     loop-again
     loop2-holds
     sub-i
-    turn-back-requires
-    turn-back-requires-2
+    terms-back-requires
+    terms-back-requires-2
     loop2-less
     loop2-again
     returns)

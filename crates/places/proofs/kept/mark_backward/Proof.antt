@@ -4,7 +4,7 @@ use Prim.Native.Nat.{_-_, _≤_, _<_}
 use native.Mathlib.Omega.{arith}
 use lib.ListN.{length}
 use Rattle.places.specs.Places.{later-inside}
-use Rattle.places.proofs.Marks.{backward-turn, backward-end, asksBackward, Asked, asked-start}
+use Rattle.places.proofs.Marks.{backward-iteration, backward-end, asksBackward, Asked, asked-start}
 use Rattle.places.proofs.kept.mark_backward.Statement.{statement}
 use Rattle.places.proofs.kept.mark_backward.Tie as tie
 
@@ -53,7 +53,7 @@ loop-again c =
     let s = at .before .before .before .before in (
       omega arith,
       mark .kept .0 ∙ at .loop .inv .1,
-      backward-turn _ _ (s .args .us .now) (s .args .vs .now) _ _ (later .ensures) (mark .ensures) (at .loop .inv .2),
+      backward-iteration _ _ (s .args .us .now) (s .args .vs .now) _ _ (later .ensures) (mark .ensures) (at .loop .inv .2),
     )
 
 same-length : tie.Need-same-length Inv-loop μ-loop

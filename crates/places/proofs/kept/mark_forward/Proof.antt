@@ -4,7 +4,7 @@ use Prim.Native.Nat.{_-_, _≤_, _<_}
 use native.Mathlib.Omega.{arith}
 use lib.ListN.{length}
 use Rattle.places.specs.Places.{later-inside, earlier-inside}
-use Rattle.places.proofs.Marks.{forward-turn, forward-end, asksForward, Asked, asked-start}
+use Rattle.places.proofs.Marks.{forward-iteration, forward-end, asksForward, Asked, asked-start}
 use Rattle.places.proofs.kept.mark_forward.Statement.{statement}
 use Rattle.places.proofs.kept.mark_forward.Tie as tie
 
@@ -66,12 +66,12 @@ loop-again c =
     let earlier = c .before .before .before .before .earlier in
     let mark = c .before .before .before .before .before .before .before .before .mark in
     let later = c .before .before .before .before .before .before .before .before .before .later in
-    let turn = c .before .before .before .before .before .before .before .before .before .before .before .before .before in
-    let at = turn .before in
+    let iteration = c .before .before .before .before .before .before .before .before .before .before .before .before .before in
+    let at = iteration .before in
     let s = at .before .before .before .before in (
-      omega (arith, turn .loop-test .taken),
+      omega (arith, iteration .loop-test .taken),
       mark2 .kept .0 ∙ mark .kept .0 ∙ at .loop .inv .1,
-      forward-turn _ _ (s .args .us .now) (s .args .vs .now) _ _ (later .ensures) (mark .ensures)
+      forward-iteration _ _ (s .args .us .now) (s .args .vs .now) _ _ (later .ensures) (mark .ensures)
           (s .args .w) _ _ _ (earlier .ensures) (is-propagated .ensures) (mark2 .ensures) (at .loop .inv .2),
     )
 

@@ -6,7 +6,7 @@ use native.Mathlib.Omega.{arith}
 use lib.ListN.{length, getD}
 use Rattle.vector.specs.Count.{count-most}
 use Rattle.places.specs.Places.{Numbered}
-use Rattle.places.proofs.Numbers.{numbered-start, numbered-turn}
+use Rattle.places.proofs.Numbers.{numbered-start, numbered-iteration}
 use Rattle.places.proofs.kept.number_places.Statement.{statement}
 use Rattle.places.proofs.kept.number_places.Tie as tie
 
@@ -45,7 +45,7 @@ loop-again c =
     let i = at .loop .inv in (
       omega arith,
       give-place .kept .0 ∙ i .1,
-      numbered-turn _ _ _ _ _ _ _ _ _ (i .2) (s .pre .3) (omega (arith, s .pre .0, i .1)) (give-place .ensures .0) (give-place .ensures .1),
+      numbered-iteration _ _ _ _ _ _ _ _ _ (i .2) (s .pre .3) (omega (arith, s .pre .0, i .1)) (give-place .ensures .0) (give-place .ensures .1),
     )
 
 same-length : tie.Need-same-length Inv-loop μ-loop

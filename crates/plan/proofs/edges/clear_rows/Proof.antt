@@ -3,7 +3,7 @@ use mathlib.Core.Path.{_≡_, refl}
 use Prim.Native.Nat.{_-_, _≤_}
 use native.Mathlib.Omega.{arith}
 use lib.ListN.{length, length-set}
-use Rattle.plan.proofs.Entering.{Cleared, cleared-turn}
+use Rattle.plan.proofs.Entering.{Cleared, cleared-iteration}
 use Rattle.plan.proofs.edges.clear_rows.Statement.{statement}
 use Rattle.plan.proofs.edges.clear_rows.Tie as tie
 
@@ -49,7 +49,7 @@ loop-less c = omega arith
 loop-again : tie.Need-loop-again Inv-loop μ-loop
 loop-again c =
     let at = c .before in
-    (omega arith, simp length-set (at .loop .inv .1), cleared-turn (at .loop .plan) (at .loop .t) (omega arith) (at .loop .inv .2))
+    (omega arith, simp length-set (at .loop .inv .1), cleared-iteration (at .loop .plan) (at .loop .t) (omega arith) (at .loop .inv .2))
 
 same-length : tie.Need-same-length Inv-loop μ-loop
 same-length c = c .before .loop .inv .1

@@ -4,7 +4,7 @@ use Prim.Native.Nat.{ℕ, _-_, _≤_, _<_}
 use native.Mathlib.Omega.{arith}
 use lib.ListN.{length}
 use Rattle.plan.specs.Rows.{Row}
-use Rattle.plan.proofs.Entering.{was-true, was-false, rows-start, row-rising, rows-turn, too-many, not-too-many}
+use Rattle.plan.proofs.Entering.{was-true, was-false, rows-start, row-rising, rows-iteration, too-many, not-too-many}
 use Rattle.plan.proofs.Steps.{steps-of}
 use borrow.Author.Needs.{needs}
 use Rattle.plan.proofs.edges.enter_all.Statement.{statement}
@@ -79,7 +79,7 @@ loop-again c =
     let b = c .before .before .before .before .before .before .before .loop-test .taken in (
       omega (arith, b),
       c .before .before .before .enter .kept .0 ∙ at .loop .inv .1,
-      rows-turn _ _ _ _ _ (s .pre .0) b _ _ (at .loop .inv .2) _ (was-true _ (c .if1 .left)) (c .before .before .before .enter .ensures),
+      rows-iteration _ _ _ _ _ (s .pre .0) b _ _ (at .loop .inv .2) _ (was-true _ (c .if1 .left)) (c .before .before .before .enter .ensures),
     )
 
 same-length-2 : tie.Need-same-length-2 Inv-loop μ-loop

@@ -9,7 +9,7 @@ use lib.Pow.{pow-mono}
 use Rattle.transfer.specs.Rounded.{ieee}
 use Rattle.transfer.specs.Sweep as S
 use Rattle.sweep.specs.Step.{nearEdges}
-use Rattle.sweep.proofs.TableTurn.{front-turn, mirror-turn, up-is, filled}
+use Rattle.sweep.proofs.TableIteration.{front-iteration, mirror-iteration, up-is, filled}
 use Rattle.sweep.proofs.tables.fill_tables.Statement.{statement}
 use Rattle.sweep.proofs.tables.fill_tables.Tie as tie
 
@@ -67,9 +67,9 @@ loop-again c =
       i .2,
       simp length-set (i .3),
       simp length-set (i .4),
-      (λ bits. front-turn (at .loop .up) (S.up ieee (nearEdges (a .factors .now) bits 0 (a .count)) (a .scale)) _ _ (omega arith)
+      (λ bits. front-iteration (at .loop .up) (S.up ieee (nearEdges (a .factors .now) bits 0 (a .count)) (a .scale)) _ _ (omega arith)
           (up-is _ _ _ _ (c .product .ensures bits)) (i .5 bits)),
-      λ bits. mirror-turn (at .loop .down) (S.up ieee (nearEdges (a .factors .now) bits 0 (a .count)) (a .scale)) _ _ _ (omega arith) (omega arith)
+      λ bits. mirror-iteration (at .loop .down) (S.up ieee (nearEdges (a .factors .now) bits 0 (a .count)) (a .scale)) _ _ _ (omega arith) (omega arith)
           (up-is _ _ _ _ (c .product .ensures bits)) (i .6 bits),
     )
 

@@ -1,5 +1,5 @@
 -- The left edge's factor, by cases.
-use Rattle.sweep.proofs.TableTurn.{left-some, left-none}
+use Rattle.sweep.proofs.TableIteration.{left-some, left-none}
 use Rattle.sweep.proofs.tables.left_factor.Statement.{statement}
 use Rattle.sweep.proofs.tables.left_factor.Tie as tie
 

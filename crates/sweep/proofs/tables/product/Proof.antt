@@ -8,7 +8,7 @@ use Rattle.transfer.specs.Rounded.{ieee}
 use Rattle.transfer.specs.Sweep as S
 use Rattle.sweep.specs.Constants.{one-is}
 use Rattle.sweep.specs.Step.{nearEdges}
-use Rattle.sweep.proofs.TableTurn.{product-turn, product-done}
+use Rattle.sweep.proofs.TableIteration.{product-iteration, product-done}
 use Rattle.sweep.proofs.tables.product.Statement.{statement}
 use Rattle.sweep.proofs.tables.product.Tie as tie
 
@@ -41,7 +41,7 @@ loop-less c = omega arith
 loop-again : tie.Need-loop-again Inv-loop μ-loop
 loop-again c =
     let i = c .before .before .before .loop .inv in
-    (omega arith, λ bits. product-turn _ bits _ _ _ _ _ _ (omega arith) (c .weighed .ensures) (i .1 bits))
+    (omega arith, λ bits. product-iteration _ bits _ _ _ _ _ _ (omega arith) (c .weighed .ensures) (i .1 bits))
 
 returns : tie.Need-returns Inv-loop μ-loop
 returns c = λ bits. product-done _ bits _ _ _ _ _ (omega arith) (c .before .loop .inv .1 bits)

@@ -1,4 +1,4 @@
--- Each turn takes the step from the newest vector and keeps what it gave.
+-- Each steps takes the step from the newest vector and keeps what it gave.
 use mathlib.Core.Path.{_≡_, _∙_}
 use Prim.Native.Nat.{_+_, _-_, _≤_}
 use native.Mathlib.Omega.{arith}
@@ -8,17 +8,17 @@ use Rattle.sweep.specs.Constants.{one-is}
 use Rattle.half_sums.specs.Stored.{stored-if}
 use Rattle.vertex.specs.Ready.{tail-factors}
 use Rattle.sweeps.specs.Target.{Target}
-use Rattle.sweeps.specs.Coming.{Coming}
+use Rattle.sweeps.specs.BackwardInvariant.{BackwardInvariant}
 use Rattle.sweeps.proofs.Frames.{place-of, since-then}
-use Rattle.sweeps.proofs.BackwardTurn.{written-fits, begun-since, begun-coming, begun-stands, turn-inside, coming-fits, coming-step, coming-through, coming-turn}
+use Rattle.sweeps.proofs.BackwardIteration.{written-fits, begun-since, begun-coming, begun-stands, steps-inside, coming-fits, coming-step, coming-through, backward-iteration}
 use Rattle.sweeps.proofs.backward.sweep_backward.Statement.{statement}
 use Rattle.sweeps.proofs.backward.sweep_backward.Tie as tie
 
 abbrev Inv-loop : tie.InvT-loop
-Inv-loop room₀ plan n w scales each changed factors bits₀ up₀ down₀ bits2₀ up2₀ down2₀ t₀ src₀ most₀ room bits up down bits2 up2 down2 t src most = Coming plan room₀ room n w scales each t₀ t src most
+Inv-loop room₀ plan n w scales per-element changed factors bits₀ up₀ down₀ bits2₀ up2₀ down2₀ t₀ src₀ most₀ room bits up down bits2 up2 down2 t src most = BackwardInvariant plan room₀ room n w scales per-element t₀ t src most
 
 abbrev μ-loop : tie.MeasureT-loop
-μ-loop room₀ plan n w scales each changed factors bits₀ up₀ down₀ bits2₀ up2₀ down2₀ t₀ src₀ most₀ room bits up down bits2 up2 down2 t src most = t
+μ-loop room₀ plan n w scales per-element changed factors bits₀ up₀ down₀ bits2₀ up2₀ down2₀ t₀ src₀ most₀ room bits up down bits2 up2 down2 t src most = t
 
 -- the place of the vertex where the sweep begins
 first : (c : tie.After-place-for Inv-loop μ-loop)
@@ -26,9 +26,9 @@ first : (c : tie.After-place-for Inv-loop μ-loop)
     Target (backwardPlace (a .plan .now) (c .before .before .kept-from .result)) 1 (c .place-for .result)
 first c = rw (c .before .backward-place .ensures) at (c .place-for .ensures)
 
--- the last vertex of a turn
+-- the last vertex of an iteration
 ends : (c : tie.After-backward-last Inv-loop μ-loop) → let l = c .before .before .loop in (c .backward-last .result ≤ l .t) × (1 ≤ c .backward-last .result)
-ends c = turn-inside (c .backward-last .ensures) (c .before .loop-test .taken)
+ends c = steps-inside (c .backward-last .ensures) (c .before .loop-test .taken)
 
 -- the target of its step, and its vertex
 target : (c : tie.After-place-for2 Inv-loop μ-loop)
@@ -82,8 +82,8 @@ backward-through-requires : tie.Need-backward-through-requires Inv-loop μ-loop
 backward-through-requires c κs =
     let placed = c .before .before .before .before .before .before .before .before in
     let g = placed .before .before .before .before .loop .inv in
-    let turn = placed .before .before .backward-last .ensures in
-    (coming-step _ g turn (next placed) (target placed), coming-through _ g turn (next placed) (target placed))
+    let steps = placed .before .before .backward-last .ensures in
+    (coming-step _ g steps (next placed) (target placed), coming-through _ g steps (next placed) (target placed))
 
 loop-less : tie.Need-loop-less Inv-loop μ-loop
 loop-less c = omega (arith, ends (c .before .before .before .before .before .before .before .before .before .before .before .before .before))
@@ -94,7 +94,7 @@ loop-again c =
     let due = c .before .before .before .before .before .before .before .before .before .before .is-due .ensures in
     let placed = c .before .before .before .before .before .before .before .before .before .before .before in
     let g = placed .before .before .before .before .loop .inv in
-    coming-turn _ g (placed .before .before .backward-last .ensures) (next placed) (target placed) one-is (rw one-is) (stepped .0) (stored-if _ 0 _ _ due (stepped .1))
+    backward-iteration _ g (placed .before .before .backward-last .ensures) (next placed) (target placed) one-is (rw one-is) (stepped .0) (stored-if _ 0 _ _ due (stepped .1))
 
 same-length : tie.Need-same-length Inv-loop μ-loop
 same-length c = c .before .loop .inv .since .same ∙ c .before .before .before .before .begin-at .kept .0

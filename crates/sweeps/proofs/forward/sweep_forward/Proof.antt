@@ -1,4 +1,4 @@
--- Each turn stores a scale, takes the step from the newest vector, and keeps what it gave.
+-- Each steps stores a scale, takes the step from the newest vector, and keeps what it gave.
 use mathlib.Core.Path.{_≡_, _∙_}
 use Prim.Native.Nat.{_-_, _≤_, _<_}
 use native.Mathlib.Omega.{arith}
@@ -9,23 +9,23 @@ use Rattle.sweep.specs.Constants.{one-is}
 use Rattle.half_sums.specs.Stored.{stored-if}
 use Rattle.vertex.specs.Frame.{moving-fits}
 use Rattle.sweeps.specs.Target.{Target}
-use Rattle.sweeps.specs.Going.{Going}
+use Rattle.sweeps.specs.ForwardInvariant.{ForwardInvariant}
 use Rattle.sweeps.proofs.Frames.{place-of, since-then}
-use Rattle.sweeps.proofs.ForwardTurn.{start-same, going-start, turn-inside, going-fits, going-step, going-through, going-turn}
+use Rattle.sweeps.proofs.ForwardIteration.{start-same, going-start, steps-inside, going-fits, going-step, going-through, forward-iteration}
 use Rattle.sweeps.proofs.forward.sweep_forward.Statement.{statement}
 use Rattle.sweeps.proofs.forward.sweep_forward.Tie as tie
 
 abbrev Inv-loop : tie.InvT-loop
-Inv-loop room₀ plan n w scales each factors bits₀ up₀ down₀ bits2₀ up2₀ down2₀ src₀ most₀ t₀ room bits up down bits2 up2 down2 src most t = Going plan room₀ room n w scales each t src most
+Inv-loop room₀ plan n w scales per-element factors bits₀ up₀ down₀ bits2₀ up2₀ down2₀ src₀ most₀ t₀ room bits up down bits2 up2 down2 src most t = ForwardInvariant plan room₀ room n w scales per-element t src most
 
 abbrev μ-loop : tie.MeasureT-loop
-μ-loop room₀ plan n w scales each factors bits₀ up₀ down₀ bits2₀ up2₀ down2₀ src₀ most₀ t₀ room bits up down bits2 up2 down2 src most t = n - t
+μ-loop room₀ plan n w scales per-element factors bits₀ up₀ down₀ bits2₀ up2₀ down2₀ src₀ most₀ t₀ room bits up down bits2 up2 down2 src most t = n - t
 
--- the last vertex of the turn
+-- the last vertex of the iteration
 ends : (c : tie.After-forward-last Inv-loop μ-loop)
     → let l = c .before .before .loop in
     (l .t ≤ c .forward-last .result) × (c .forward-last .result < c .before .before .before .before .before .before .before .before .before .args .n)
-ends c = turn-inside (c .forward-last .ensures) (c .before .loop-test .taken)
+ends c = steps-inside (c .forward-last .ensures) (c .before .loop-test .taken)
 
 -- the target of its step
 target : (c : tie.After-place-for Inv-loop μ-loop)
@@ -42,7 +42,7 @@ start-at-requires c κs = let p = c .before .before .before .pre in place-of p 0
 loop-holds : tie.Need-loop-holds Inv-loop μ-loop
 loop-holds c =
     let s = c .before .before .before .before .before .before in
-    going-start (s .args .room .now) (s .pre) (c .before .before .start-at .ensures) (s .args .each) one-is
+    going-start (s .args .room .now) (s .pre) (c .before .before .start-at .ensures) (s .args .per-element) one-is
 
 forward-last-requires : tie.Need-forward-last-requires Inv-loop μ-loop
 forward-last-requires c κs = (omega (arith, c .before .loop .inv .ready .holds), c .loop-test .taken)
@@ -80,8 +80,8 @@ forward-through-requires c κs =
     let in-loop = placed .before .before .before in
     let g = in-loop .before .loop .inv in
     let b = in-loop .loop-test .taken in
-    let turn = placed .before .before .forward-last .ensures in
-    (going-step g b turn (target placed) _ _, going-through g b turn (target placed) _ _)
+    let steps = placed .before .before .forward-last .ensures in
+    (going-step g b steps (target placed) _ _, going-through g b steps (target placed) _ _)
 
 add-t : tie.Need-add-t Inv-loop μ-loop
 add-t c = omega (arith, ends (c .before .before .before .before .before .before .before .before .before .before .before .before .before), c .before .before .before .before .before .before .before .before .before .before .before .before .before .before .before .before .before .before .before .before .before .before .fits)
@@ -95,7 +95,7 @@ loop-again c =
     let due = c .before .before .before .before .before .before .before .before .before .before .is-due .ensures in
     let placed = c .before .before .before .before .before .before .before .before .before .before .before in
     let in-loop = placed .before .before .before in
-    going-turn (in-loop .before .loop .inv) (in-loop .loop-test .taken) (placed .before .before .forward-last .ensures) (target placed) _ _ one-is (rw one-is) (stepped .0)
+    forward-iteration (in-loop .before .loop .inv) (in-loop .loop-test .taken) (placed .before .before .forward-last .ensures) (target placed) _ _ one-is (rw one-is) (stepped .0)
     (stored-if _ 3 _ _ due (stepped .1))
 
 same-length : tie.Need-same-length Inv-loop μ-loop

@@ -1,4 +1,4 @@
--- The indexes of a turn of a run that goes down: within the slice, and held by a machine word.
+-- The indexes of an iteration of a run that goes down: within the slice, and held by a machine word.
 use Prim.Native.Nat.{ℕ, _+_, _*_, _-_, _^_, _≤_, _<_}
 use native.Mathlib.Omega.{arith}
 use mir.Syntax.{w64}

@@ -1,4 +1,4 @@
--- The forward sweep: its start, and a turn.
+-- The forward sweep: its start, and an iteration.
 use mathlib.Core.Path.{_≡_, refl, sym, ap, _∙_, subst}
 use mathlib.Core.Bool.{Bool, false, cond}
 use mathlib.Core.List.{List}
@@ -16,18 +16,18 @@ use Rattle.transfer.specs.Rounded.{ieee}
 use Rattle.transfer.specs.Sweep as S
 use Rattle.plan.specs.Layout.{stepIn, forwardPlace, backwardPlace}
 use Rattle.sweep.specs.Place.{held, hold}
-use Rattle.halves.specs.Even.{Even, start-even, forward-even}
-use Rattle.halves.specs.Largest.{stored-even}
+use Rattle.halves.specs.Symmetric.{SymmetricHalf, start-half, forward-half}
+use Rattle.halves.specs.Largest.{stored-symmetric}
 use Rattle.half_sums.specs.Terms.{halfAt}
-use Rattle.vertex.specs.Same.{even-ext, even-as}
+use Rattle.vertex.specs.Same.{symmetric-ext, symmetric-as}
 use Rattle.vertex.specs.Frame.{Fits, moving-fits, half-held, Wrote, wrote-length, wrote-half, wrote-other, wrote-at, wrote-drop, set-held}
 use Rattle.vertex.specs.Ready.{Ready, PlanOf, Stepping}
 use Rattle.vertex.specs.Steady.{step-below}
 use Rattle.vertex.specs.Through.{Through, forwardBy, through, through-one, through-two}
 use Rattle.sweeps.specs.Target.{Target}
 use Rattle.sweeps.specs.Kept.{Since}
-use Rattle.sweeps.specs.Turn.{ForwardPair, ForwardTurn}
-use Rattle.sweeps.specs.Going.{NewestForward, Going}
+use Rattle.sweeps.specs.Steps.{ForwardTwo, ForwardSteps}
+use Rattle.sweeps.specs.ForwardInvariant.{NewestForward, ForwardInvariant}
 use Rattle.sweeps.proofs.Targets.{Aimed, target-fits, target-own, target-kind, target-other, target-free}
 use Rattle.sweeps.proofs.Frames.{place-of, stepping, since-none, since-wrote}
 use Rattle.sweeps.proofs.Unscaled.{unscaled}
@@ -83,37 +83,37 @@ module _ {plan : List ℕ} (e : List Float) {r : List Float} {n w scales : ℕ} 
   start-same =
       since-wrote (backwardPlace plan) e r (scales + n) 0 g (g .backward) (omega arith) first-fits (λ u b p x. omega (arith, g .backward .high u b p)) first-wrote
 
-  first-even : Even w (halfAt r w 0) (S.start ieee w)
-  first-even = even-ext (start-even w (g .wide)) (wrote-half e r w 0 first-wrote first-inside (λ _. ieee .𝟙) refl)
+  first-symmetric : SymmetricHalf w (halfAt r w 0) (S.start ieee w)
+  first-symmetric = symmetric-ext (start-half w (g .wide)) (wrote-half e r w 0 first-wrote first-inside (λ _. ieee .𝟙) refl)
 
-  pub going-start : (each : Bool) {one : Float} → one ≡ ieee .𝟙 → Going plan r r n w scales each 0 0 one
-  going-start each o =
+  pub going-start : (per-element : Bool) {one : Float} → one ≡ ieee .𝟙 → ForwardInvariant plan r r n w scales per-element 0 0 one
+  going-start per-element o =
       record {
         below = omega arith;
         ready = rw (start-same .same) g;
         since = since-none (backwardPlace plan) r n w (scales + n);
         free = record { fits = first-fits; off = λ u c d p x. omega (arith, g .forward .high u c p) };
         newest = λ J of. record {
-          vector = even-as first-even (ap (S.start ieee) (sym (of .window)) ∙ sym (first-vector J));
+          vector = symmetric-as first-symmetric (ap (S.start ieee) (sym (of .window)) ∙ sym (first-vector J));
           entry = o ∙ sym (first-entry J);
           kept = record { vectors = λ u c. absurd (omega arith); scaled = λ u c. absurd (omega arith) };
         };
       }
 
--- ---- a turn: the scales are stored, then the steps are taken
+-- ---- an iteration: the scales are stored, then the steps are taken
 
-pub turn-inside : {plan : List ℕ} {n w : ℕ} {each : Bool} {t last : ℕ} → ForwardTurn plan n w each t last → t < n → (t ≤ last) × (last < n)
-turn-inside (inl e) b = omega arith
-turn-inside (inr p) b = omega (arith, p .next, p .inside)
+pub steps-inside : {plan : List ℕ} {n w : ℕ} {per-element : Bool} {t last : ℕ} → ForwardSteps plan n w per-element t last → t < n → (t ≤ last) × (last < n)
+steps-inside (inl e) b = omega arith
+steps-inside (inr p) b = omega (arith, p .next, p .inside)
 
-module _ {plan : List ℕ} {r₀ r : List Float} {n w scales : ℕ} {each : Bool} {t last src dst : ℕ} {most : Float}
-    (g : Going plan r₀ r n w scales each t src most) (b : t < n) (turn : ForwardTurn plan n w each t last)
+module _ {plan : List ℕ} {r₀ r : List Float} {n w scales : ℕ} {per-element : Bool} {t last src dst : ℕ} {most : Float}
+    (g : ForwardInvariant plan r₀ r n w scales per-element t src most) (b : t < n) (steps : ForwardSteps plan n w per-element t last)
     (target : Target (forwardPlace plan last) src dst) where
   last-order : t ≤ last
-  last-order = turn-inside turn b .0
+  last-order = steps-inside steps b .0
 
   last-inside : last < n
-  last-inside = turn-inside turn b .1
+  last-inside = steps-inside steps b .1
 
   aimed : Aimed (forwardPlace plan) n w scales last src dst
   aimed = record { own = g .ready .forward; moving = g .ready .moving; below = last-inside; target = target }
@@ -139,7 +139,7 @@ module _ {plan : List ℕ} {r₀ r : List Float} {n w scales : ℕ} {each : Bool
         rw length-same
         (⊎-elim inl
         (λ p. inr (record { wide = p .wide; reads = stepping (g .ready) last src dst last-inside (g .free .fits) going-fits (target-other aimed (λ u. t ≤ u) (g .free) last-order) .reads }))
-        turn)
+        steps)
 
     room : (u : ℕ) → u < n → scales + u < length r
     room u l = let e = g .ready .ends in omega arith
@@ -153,7 +153,7 @@ module _ {plan : List ℕ} {r₀ r : List Float} {n w scales : ℕ} {each : Bool
 
     module _ {r₂ : List Float} {most′ : Float} (unit : one ≡ ieee .𝟙) (one-over : scale ≡ div binary64 (ieee .𝟙) most)
         (step : r₂ ≡ hold r₁ w dst (tabulate (through (forwardBy plan (drop (scales + n) r₁) w false) t last scale one (halfAt r₁ w src)) (2 ^ (w - 1))))
-        (taken : most′ ≡ S.stored ieee (cond each perElement block) 3 last (tabulate (halfAt r₂ w dst) (2 ^ (w - 1)))) where
+        (taken : most′ ≡ S.stored ieee (cond per-element perElement block) 3 last (tabulate (halfAt r₂ w dst) (2 ^ (w - 1)))) where
       -- the steps
       abbrev by : ℕ → Float → (ℕ → Float) → ℕ → Float
       by = forwardBy plan (drop (scales + n) r₁) w false
@@ -173,7 +173,7 @@ module _ {plan : List ℕ} {r₀ r : List Float} {n w scales : ℕ} {each : Bool
           ∙ drop-set-lt (scales + n) r (scales + last) one (omega (arith, last-inside)) ∙ g .since .tail
 
       -- in job J
-      module _ (J : Job Float) (of : PlanOf J plan (drop (scales + n) r₀) n w each) where
+      module _ (J : Job Float) (of : PlanOf J plan (drop (scales + n) r₀) n w per-element) where
         abbrev before : ℕ → List Float × Float
         before u = S.beforeStep ieee J u
 
@@ -187,48 +187,48 @@ module _ {plan : List ℕ} {r₀ r : List Float} {n w scales : ℕ} {each : Bool
         said u l = ap (λ (x : List Float). stepIn plan x u) tail₁ ∙ of .step u l
 
         -- a step from a half of the vector v
-        stepped : (u : ℕ) → u < n → (c : Float) (h : ℕ → Float) (v : List Float) → Even w h v → Even w (by u c h) (S.forwardStep ieee w (stepOf J u) c v)
+        stepped : (u : ℕ) → u < n → (c : Float) (h : ℕ → Float) (v : List Float) → SymmetricHalf w h v → SymmetricHalf w (by u c h) (S.forwardStep ieee w (stepOf J u) c v)
         stepped u l c h v e =
-            even-as (forward-even w (stepIn plan (drop (scales + n) r₁) u) c h v (g .ready .wide) (step-below (drop (scales + n) r₁) (g .ready .vertex u l)) e)
+            symmetric-as (forward-half w (stepIn plan (drop (scales + n) r₁) u) c h v (g .ready .wide) (step-below (drop (scales + n) r₁) (g .ready .vertex u l)) e)
             (ap (λ (s : Step Float). S.forwardStep ieee w s c v) (said u l))
 
-        first : Even w (by t scale (halfAt r₁ w src)) (before (suc t) .0)
+        first : SymmetricHalf w (by t scale (halfAt r₁ w src)) (before (suc t) .0)
         first =
-            even-as (stepped t b scale (halfAt r₁ w src) (before t .0) (even-ext (newest .vector) (half-held r r₁ w src (places src (g .free .fits)))))
+            symmetric-as (stepped t b scale (halfAt r₁ w src) (before t .0) (symmetric-ext (newest .vector) (half-held r r₁ w src (places src (g .free .fits)))))
             (ap (λ (c : Float). S.forwardStep ieee w (stepOf J t) c (before t .0)) scale-now
             ∙ ap (λ (k : ℕ). S.forwardStep ieee k (stepOf J t) (div binary64 (ieee .𝟙) (before t .1)) (before t .0)) (sym (of .window))
             ∙ sym (vector-next J t))
 
-        next-one : ForwardPair plan n w each t last → one ≡ div binary64 (ieee .𝟙) (before last .1)
+        next-one : ForwardTwo plan n w per-element t last → one ≡ div binary64 (ieee .𝟙) (before last .1)
         next-one p =
             let e : last ≡ suc t = omega (arith, p .next) in
             unit
-            ∙ rw e (sym (ap (div binary64 (ieee .𝟙)) (entry-next J t) ∙ unscaled (J .manner) each 3 t (before (suc t) .0) (of .manner) (p .blocks) (p .due)))
+            ∙ rw e (sym (ap (div binary64 (ieee .𝟙)) (entry-next J t) ∙ unscaled (J .manner) per-element 3 t (before (suc t) .0) (of .manner) (p .blocks) (p .due)))
 
-        second : ForwardPair plan n w each t last → Even w (by last one (by t scale (halfAt r₁ w src))) (before (suc last) .0)
+        second : ForwardTwo plan n w per-element t last → SymmetricHalf w (by last one (by t scale (halfAt r₁ w src))) (before (suc last) .0)
         second p =
             let e : suc t ≡ last = omega (arith, p .next) in
-            even-as (stepped last last-inside one (by t scale (halfAt r₁ w src)) (before (suc t) .0) first)
+            symmetric-as (stepped last last-inside one (by t scale (halfAt r₁ w src)) (before (suc t) .0) first)
             (ap (λ (u : ℕ). S.forwardStep ieee w (stepOf J last) one (before u .0)) e
             ∙ ap (λ (c : Float). S.forwardStep ieee w (stepOf J last) c (before last .0)) (next-one p)
             ∙ ap (λ (k : ℕ). S.forwardStep ieee k (stepOf J last) (div binary64 (ieee .𝟙) (before last .1)) (before last .0)) (sym (of .window))
             ∙ sym (vector-next J last))
 
-        made : Even w half (before (suc last) .0)
+        made : SymmetricHalf w half (before (suc last) .0)
         made =
             ⊎-elim
             (λ e.
-            subst (λ (h : ℕ → Float). Even w h (before (suc last) .0)) (sym (through-one by t last scale one (halfAt r₁ w src) e))
-            (even-as first (ap (λ (u : ℕ). before (suc u) .0) (sym e))))
+            subst (λ (h : ℕ → Float). SymmetricHalf w h (before (suc last) .0)) (sym (through-one by t last scale one (halfAt r₁ w src) e))
+            (symmetric-as first (ap (λ (u : ℕ). before (suc u) .0) (sym e))))
             (λ p.
-            subst (λ (h : ℕ → Float). Even w h (before (suc last) .0))
+            subst (λ (h : ℕ → Float). SymmetricHalf w h (before (suc last) .0))
             (sym (through-two by t last scale one (halfAt r₁ w src) (λ e. omega (arith, p .next)))) (second p))
-            turn
+            steps
 
-        vector : Even w (halfAt r₂ w dst) (before (suc last) .0)
-        vector = even-ext made (wrote-half r₁ r₂ w dst wrote (inside dst going-fits) half refl)
+        vector : SymmetricHalf w (halfAt r₂ w dst) (before (suc last) .0)
+        vector = symmetric-ext made (wrote-half r₁ r₂ w dst wrote (inside dst going-fits) half refl)
 
-        kept-vector : (u : ℕ) → u < last + 1 → 0 < forwardPlace plan u → Even w (halfAt r₂ w (forwardPlace plan u)) (S.forward ieee J u)
+        kept-vector : (u : ℕ) → u < last + 1 → 0 < forwardPlace plan u → SymmetricHalf w (halfAt r₂ w (forwardPlace plan u)) (S.forward ieee J u)
         kept-vector u c p =
             dite (decLt u last)
             (λ d.
@@ -236,17 +236,17 @@ module _ {plan : List ℕ} {r₀ r : List Float} {n w scales : ℕ} {each : Bool
             let l : u < n = omega (arith, last-inside) in
             let fu = g .ready .forward .fits u l p in
             let own = target-own aimed u l (λ x. omega arith) p in
-            let early : u < t = ⊎-elim (λ e. omega arith) (λ pair. passed d pair) turn in
-            even-ext (newest .kept .vectors u early p)
+            let early : u < t = ⊎-elim (λ e. omega arith) (λ pair. passed d pair) steps in
+            symmetric-ext (newest .kept .vectors u early p)
             (half-held r r₂ w q (wrote-other r₁ r₂ w dst wrote (inside dst going-fits) q (λ e. own (sym e)) (inside q fu) ∙ places q fu)))
             (λ d.
             let e : u ≡ last = omega arith in
             let p′ : 0 < forwardPlace plan last = rw e at p in
             rw e
-            (even-as (subst (λ (q : ℕ). Even w (halfAt r₂ w q) (before (suc last) .0)) (target .keeps p′) vector) (sym (forward-is J last))))
+            (symmetric-as (subst (λ (q : ℕ). SymmetricHalf w (halfAt r₂ w q) (before (suc last) .0)) (target .keeps p′) vector) (sym (forward-is J last))))
           where
             -- the vector between is not kept
-            passed : u < last → ForwardPair plan n w each t last → u < t
+            passed : u < last → ForwardTwo plan n w per-element t last → u < t
             passed d pair = dite (decLt u t) (λ l. l) (λ l. let e : u ≡ t = omega (arith, pair .next) in absurd (omega (arith, pair .passing, rw e at p)))
 
         kept-scale : (u : ℕ) → u < last + 1 → getD r₂ (scales + u) nan ≡ S.scale ieee J u
@@ -265,7 +265,7 @@ module _ {plan : List ℕ} {r₀ r : List Float} {n w scales : ℕ} {each : Bool
             at-t =
                 getD-set-same (set r (scales + last) one) (scales + t) scale nan (omega (arith, room t b, l)) ∙ scale-now ∙ sym (scale-is J t)
 
-            at-last : ForwardPair plan n w each t last → getD r₁ (scales + last) nan ≡ S.scale ieee J last
+            at-last : ForwardTwo plan n w per-element t last → getD r₁ (scales + last) nan ≡ S.scale ieee J last
             at-last p =
                 getD-set-other (set r (scales + last) one) (scales + t) (scales + last) scale nan (λ x. omega (arith, p .next))
                 ∙ getD-set-same r (scales + last) one nan (room last last-inside) ∙ next-one p ∙ sym (scale-is J last)
@@ -273,17 +273,17 @@ module _ {plan : List ℕ} {r₀ r : List Float} {n w scales : ℕ} {each : Bool
             later : (u < t → ⊥) → getD r₁ (scales + u) nan ≡ S.scale ieee J u
             later d =
                 dite (decLt t u)
-                (λ x. ⊎-elim (λ e. absurd (omega arith)) (λ p. let e : u ≡ last = omega (arith, p .next) in rw e (at-last p)) turn)
+                (λ x. ⊎-elim (λ e. absurd (omega arith)) (λ p. let e : u ≡ last = omega (arith, p .next) in rw e (at-last p)) steps)
                 (λ x. let e : u ≡ t = omega arith in rw e at-t)
 
-        newest-turn : NewestForward J plan r₂ w scales (last + 1) dst most′
-        newest-turn =
+        newest-iteration : NewestForward J plan r₂ w scales (last + 1) dst most′
+        newest-iteration =
             let one′ : last + 1 ≡ suc last = add-one last in
             let manner = ap (λ (m : Manner). S.stored ieee m 3 last (tabulate (halfAt r₂ w dst) (2 ^ (w - 1)))) (sym (of .manner)) in
             let full : length (before (suc last) .0) ≡ 2 ^ w = step-full J last ∙ ap (λ (k : ℕ). 2 ^ k) (of .window) in
             record {
               vector = rw one′ vector;
-              entry = rw one′ (taken ∙ manner ∙ sym (stored-even (g .ready .wide) full vector (J .manner) 3 last) ∙ sym (entry-next J last));
+              entry = rw one′ (taken ∙ manner ∙ sym (stored-symmetric (g .ready .wide) full vector (J .manner) 3 last) ∙ sym (entry-next J last));
               kept = record { vectors = kept-vector; scaled = kept-scale };
             }
 
@@ -297,8 +297,8 @@ module _ {plan : List ℕ} {r₀ r : List Float} {n w scales : ℕ} {each : Bool
           (inside q f)
           ∙ places q f ∙ g .since .vectors v c p
 
-      pub going-turn : Going plan r₀ r₂ n w scales each (last + 1) dst most′
-      going-turn =
+      pub forward-iteration : ForwardInvariant plan r₀ r₂ n w scales per-element (last + 1) dst most′
+      forward-iteration =
           let fits = inside dst going-fits in
           let same : length r₂ ≡ length r = wrote-length r₁ r₂ w dst wrote fits ∙ length-same in
           record {
@@ -310,5 +310,5 @@ module _ {plan : List ℕ} {r₀ r : List Float} {n w scales : ℕ} {each : Bool
               vectors = kept-backward;
             };
             free = target-free aimed (λ u. last + 1 ≤ u) (λ u q e. omega arith);
-            newest = newest-turn;
+            newest = newest-iteration;
           }

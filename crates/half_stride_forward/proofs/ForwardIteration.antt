@@ -7,8 +7,8 @@ use lib.ListN.{length, getD, set}
 use lib.Ieee.{Float, nan}
 use Rattle.vector.specs.Tabulate.{tabulate}
 use Rattle.vector.specs.Part.{Apart, put, fill-two, read-apart}
-use Rattle.sweep.specs.Rule.{entries, fromEnd, inTurn, blend}
-use Rattle.sweep.specs.Rules.{turn-even, turn-odd}
+use Rattle.sweep.specs.Rule.{entries, fromEnd, alternating, blend}
+use Rattle.sweep.specs.Rules.{alternating-even, alternating-odd}
 use Rattle.runs.specs.declared.Four.{Four}
 use Rattle.runs.specs.Rule.{inFour}
 use Rattle.half_stride_forward.specs.Rule.{halfTwice}
@@ -46,35 +46,35 @@ module _ (d : List Float) (at : ℕ) (f : ℕ → Float) where
       rw (filled, g₄, g, fill-four n (at + n + 1) (at + n + 2) (at + n + 3) a₀ a₁ a₂ a₃ (omega arith) refl refl refl p₀ p₁ p₂ p₃)
       (fill-four (n + 4) (at + n + 5) (at + n + 6) (at + n + 7) a₄ a₅ a₆ a₇ (omega arith) (omega arith) (omega arith) (omega arith) p₄ q₅ q₆ q₇)
 
--- ---- a turn of a run, at an even i: two places
+-- ---- an iteration of a run, at an even i: two places
 
 -- what a run of n places makes from the list l
-abbrev pub runRule : (x y u z x₂ y₂ u₂ z₂ : Float) (p q e f : Four) (a b c d n : ℕ) (l : List Float) → ℕ → Float
-runRule x y u z x₂ y₂ u₂ z₂ p q e f a b c d n l =
-    halfTwice x y u z x₂ y₂ u₂ z₂ (inTurn (p .first) (p .third)) (inTurn (q .first) (q .third)) (inTurn (p .second) (p .fourth))
-    (inTurn (q .second) (q .fourth)) (inFour (e .first) (e .second) (e .third) (e .fourth)) (inFour (f .first) (f .second) (f .third) (f .fourth))
+abbrev pub runRule : (ep sem em sep ep₂ sem₂ em₂ sep₂ : Float) (p q e f : Four) (a b c d n : ℕ) (l : List Float) → ℕ → Float
+runRule ep sem em sep ep₂ sem₂ em₂ sep₂ p q e f a b c d n l =
+    halfTwice ep sem em sep ep₂ sem₂ em₂ sep₂ (alternating (p .first) (p .third)) (alternating (q .first) (q .third)) (alternating (p .second) (p .fourth))
+    (alternating (q .second) (q .fourth)) (inFour (e .first) (e .second) (e .third) (e .fourth)) (inFour (f .first) (f .second) (f .third) (f .fourth))
     (entries l a) (fromEnd l b n) (entries l c) (fromEnd l d n)
 
-module _ (x y u z x₂ y₂ u₂ z₂ : Float) (p q e f : Four) (a b c d o n : ℕ) (l v : List Float) where
+module _ (ep sem em sep ep₂ sem₂ em₂ sep₂ : Float) (p q e f : Four) (a b c d o n : ℕ) (l v : List Float) where
   abbrev rule : ℕ → Float
-  rule = runRule x y u z x₂ y₂ u₂ z₂ p q e f a b c d n l
+  rule = runRule ep sem em sep ep₂ sem₂ em₂ sep₂ p q e f a b c d n l
 
   module _ (i : ℕ) (fa : Apart (length l) a n o (4 * n)) (fb : Apart (length l) b n o (4 * n)) (fc : Apart (length l) c n o (4 * n))
       (fd : Apart (length l) d n o (4 * n)) (filled : v ≡ put l o (tabulate rule (4 * i))) (next : i + 1 < n) (ev : i % 2 ≡ 0) where
     kept : (s : ℕ) → Apart (length l) s n o (4 * n) → (j k : ℕ) → j < n → k ≡ s + j → getD l (s + j) nan ≡ getD v k nan
     kept s g j k b w = rw w (sym (rw filled (read-apart l o rule (4 * i) s n (4 * n) j nan g (omega arith) b)))
 
-    even : At (inTurn (p .first) (p .third)) (inTurn (q .first) (q .third)) (inTurn (p .second) (p .fourth)) (inTurn (q .second) (q .fourth))
+    even : At (alternating (p .first) (p .third)) (alternating (q .first) (q .third)) (alternating (p .second) (p .fourth)) (alternating (q .second) (q .fourth))
         (inFour (e .first) (e .second) (e .third) (e .fourth)) (inFour (f .first) (f .second) (f .third) (f .fourth))
         (entries l a) (fromEnd l b n) (entries l c) (fromEnd l d n) i
         (p .first) (q .first) (p .second) (q .second) (e .first) (e .second) (f .first) (f .second)
         (getD v (a + i) nan) (getD v (b + (n - i) - 1) nan) (getD v (c + i) nan) (getD v (d + (n - i) - 1) nan)
     even =
         record {
-          p-is = turn-even _ _ i ev;
-          q-is = turn-even _ _ i ev;
-          r-is = turn-even _ _ i ev;
-          s-is = turn-even _ _ i ev;
+          p-is = alternating-even _ _ i ev;
+          q-is = alternating-even _ _ i ev;
+          r-is = alternating-even _ _ i ev;
+          s-is = alternating-even _ _ i ev;
           e-even = four-0 _ _ _ _ (2 * i) (omega arith);
           e-odd = four-1 _ _ _ _ (2 * i + 1) (omega arith);
           f-even = four-0 _ _ _ _ (2 * i) (omega arith);
@@ -85,7 +85,7 @@ module _ (x y u z x₂ y₂ u₂ z₂ : Float) (p q e f : Four) (a b c d o n : �
           d-is = kept d fd (n - 1 - i) _ (omega arith) (omega arith);
         }
 
-    odd : At (inTurn (p .first) (p .third)) (inTurn (q .first) (q .third)) (inTurn (p .second) (p .fourth)) (inTurn (q .second) (q .fourth))
+    odd : At (alternating (p .first) (p .third)) (alternating (q .first) (q .third)) (alternating (p .second) (p .fourth)) (alternating (q .second) (q .fourth))
         (inFour (e .first) (e .second) (e .third) (e .fourth)) (inFour (f .first) (f .second) (f .third) (f .fourth))
         (entries l a) (fromEnd l b n) (entries l c) (fromEnd l d n) (i + 1)
         (p .third) (q .third) (p .fourth) (q .fourth) (e .third) (e .fourth) (f .third) (f .fourth)
@@ -93,10 +93,10 @@ module _ (x y u z x₂ y₂ u₂ z₂ : Float) (p q e f : Four) (a b c d o n : �
     odd =
         let o′ : (i + 1) % 2 ≡ 1 = omega arith in
         record {
-          p-is = turn-odd _ _ (i + 1) o′;
-          q-is = turn-odd _ _ (i + 1) o′;
-          r-is = turn-odd _ _ (i + 1) o′;
-          s-is = turn-odd _ _ (i + 1) o′;
+          p-is = alternating-odd _ _ (i + 1) o′;
+          q-is = alternating-odd _ _ (i + 1) o′;
+          r-is = alternating-odd _ _ (i + 1) o′;
+          s-is = alternating-odd _ _ (i + 1) o′;
           e-even = four-2 _ _ _ _ (2 * (i + 1)) (omega arith);
           e-odd = four-3 _ _ _ _ (2 * (i + 1) + 1) (omega arith);
           f-even = four-2 _ _ _ _ (2 * (i + 1)) (omega arith);
@@ -109,38 +109,38 @@ module _ (x y u z x₂ y₂ u₂ z₂ : Float) (p q e f : Four) (a b c d o n : �
 
     -- what the first step makes at the front and at the end, at places 2 i to 2 i + 3
     abbrev k₀ : Float
-    k₀ = blend x y (p .first) (getD v (a + i) nan) (getD v (b + (n - i) - 1) nan)
+    k₀ = blend ep sem (p .first) (getD v (a + i) nan) (getD v (b + (n - i) - 1) nan)
 
     abbrev l₀ : Float
-    l₀ = blend u z (q .first) (getD v (a + i) nan) (getD v (b + (n - i) - 1) nan)
+    l₀ = blend em sep (q .first) (getD v (a + i) nan) (getD v (b + (n - i) - 1) nan)
 
     abbrev m₀ : Float
-    m₀ = blend u z (q .second) (getD v (d + (n - i) - 1) nan) (getD v (c + i) nan)
+    m₀ = blend em sep (q .second) (getD v (d + (n - i) - 1) nan) (getD v (c + i) nan)
 
     abbrev n₀ : Float
-    n₀ = blend x y (p .second) (getD v (d + (n - i) - 1) nan) (getD v (c + i) nan)
+    n₀ = blend ep sem (p .second) (getD v (d + (n - i) - 1) nan) (getD v (c + i) nan)
 
     abbrev k₁ : Float
-    k₁ = blend x y (p .third) (getD v (a + i + 1) nan) (getD v (b + (n - i) - 2) nan)
+    k₁ = blend ep sem (p .third) (getD v (a + i + 1) nan) (getD v (b + (n - i) - 2) nan)
 
     abbrev l₁ : Float
-    l₁ = blend u z (q .third) (getD v (a + i + 1) nan) (getD v (b + (n - i) - 2) nan)
+    l₁ = blend em sep (q .third) (getD v (a + i + 1) nan) (getD v (b + (n - i) - 2) nan)
 
     abbrev m₁ : Float
-    m₁ = blend u z (q .fourth) (getD v (d + (n - i) - 2) nan) (getD v (c + i + 1) nan)
+    m₁ = blend em sep (q .fourth) (getD v (d + (n - i) - 2) nan) (getD v (c + i + 1) nan)
 
     abbrev n₁ : Float
-    n₁ = blend x y (p .fourth) (getD v (d + (n - i) - 2) nan) (getD v (c + i + 1) nan)
+    n₁ = blend ep sem (p .fourth) (getD v (d + (n - i) - 2) nan) (getD v (c + i + 1) nan)
 
-    pub run-turn : set (set (set (set (set (set (set (set v
-        (o + 4 * i) (blend x₂ y₂ (e .first) k₀ m₀)) (o + 4 * i + 1) (blend u₂ z₂ (f .first) k₀ m₀))
-        (o + 4 * i + 2) (blend x₂ y₂ (e .second) l₀ n₀)) (o + 4 * i + 3) (blend u₂ z₂ (f .second) l₀ n₀))
-        (o + 4 * i + 4) (blend x₂ y₂ (e .third) k₁ m₁)) (o + 4 * i + 5) (blend u₂ z₂ (f .third) k₁ m₁))
-        (o + 4 * i + 6) (blend x₂ y₂ (e .fourth) l₁ n₁)) (o + 4 * i + 7) (blend u₂ z₂ (f .fourth) l₁ n₁)
+    pub run-iteration : set (set (set (set (set (set (set (set v
+        (o + 4 * i) (blend ep₂ sem₂ (e .first) k₀ m₀)) (o + 4 * i + 1) (blend em₂ sep₂ (f .first) k₀ m₀))
+        (o + 4 * i + 2) (blend ep₂ sem₂ (e .second) l₀ n₀)) (o + 4 * i + 3) (blend em₂ sep₂ (f .second) l₀ n₀))
+        (o + 4 * i + 4) (blend ep₂ sem₂ (e .third) k₁ m₁)) (o + 4 * i + 5) (blend em₂ sep₂ (f .third) k₁ m₁))
+        (o + 4 * i + 6) (blend ep₂ sem₂ (e .fourth) l₁ n₁)) (o + 4 * i + 7) (blend em₂ sep₂ (f .fourth) l₁ n₁)
         ≡ put l o (tabulate rule (4 * (i + 2)))
-    run-turn =
+    run-iteration =
         fill-eight l o rule (4 * i) (4 * (i + 2)) v _ _ _ _ _ _ _ _ filled (omega arith) (omega (arith, fa .to))
-        (twice-0 x y u z x₂ y₂ u₂ z₂ even (4 * i) refl) (twice-1 x y u z x₂ y₂ u₂ z₂ even (4 * i + 1) refl)
-        (twice-2 x y u z x₂ y₂ u₂ z₂ even (4 * i + 2) refl) (twice-3 x y u z x₂ y₂ u₂ z₂ even (4 * i + 3) refl)
-        (twice-0 x y u z x₂ y₂ u₂ z₂ odd (4 * i + 4) (omega arith)) (twice-1 x y u z x₂ y₂ u₂ z₂ odd (4 * i + 5) (omega arith))
-        (twice-2 x y u z x₂ y₂ u₂ z₂ odd (4 * i + 6) (omega arith)) (twice-3 x y u z x₂ y₂ u₂ z₂ odd (4 * i + 7) (omega arith))
+        (twice-0 ep sem em sep ep₂ sem₂ em₂ sep₂ even (4 * i) refl) (twice-1 ep sem em sep ep₂ sem₂ em₂ sep₂ even (4 * i + 1) refl)
+        (twice-2 ep sem em sep ep₂ sem₂ em₂ sep₂ even (4 * i + 2) refl) (twice-3 ep sem em sep ep₂ sem₂ em₂ sep₂ even (4 * i + 3) refl)
+        (twice-0 ep sem em sep ep₂ sem₂ em₂ sep₂ odd (4 * i + 4) (omega arith)) (twice-1 ep sem em sep ep₂ sem₂ em₂ sep₂ odd (4 * i + 5) (omega arith))
+        (twice-2 ep sem em sep ep₂ sem₂ em₂ sep₂ odd (4 * i + 6) (omega arith)) (twice-3 ep sem em sep ep₂ sem₂ em₂ sep₂ odd (4 * i + 7) (omega arith))

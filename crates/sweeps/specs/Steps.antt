@@ -1,4 +1,4 @@
--- The steps of one turn of a sweep: one, or two in one pass.
+-- The steps of one iteration of a sweep: one, or two in one pass.
 use mathlib.Core.Path.{_≡_}
 use mathlib.Core.Bool.{Bool, false}
 use mathlib.Core.List.{List}
@@ -7,26 +7,26 @@ use Prim.Native.Nat.{ℕ, _+_, _%_, _≤_, _<_}
 use Rattle.plan.specs.Layout.{forwardPlace, backwardPlace}
 
 -- The steps at t and `last`, in the block manner: after the step at t no largest entry is due, and its vector has no place.
-pub record ForwardPair (plan : List ℕ) (n w : ℕ) (each : Bool) (t last : ℕ) : Type 0 where
+pub record ForwardTwo (plan : List ℕ) (n w : ℕ) (per-element : Bool) (t last : ℕ) : Type 0 where
   pub next : last ≡ t + 1
   pub inside : last < n
   pub wide : 4 ≤ w
-  pub blocks : each ≡ false
+  pub blocks : per-element ≡ false
   pub due : t % 4 ≡ 3 → ⊥
   pub passing : forwardPlace plan t ≡ 0
 
-abbrev pub ForwardTurn : (plan : List ℕ) (n w : ℕ) (each : Bool) (t last : ℕ) → Type 0
-ForwardTurn plan n w each t last = (last ≡ t) ⊎ ForwardPair plan n w each t last
+abbrev pub ForwardSteps : (plan : List ℕ) (n w : ℕ) (per-element : Bool) (t last : ℕ) → Type 0
+ForwardSteps plan n w per-element t last = (last ≡ t) ⊎ ForwardTwo plan n w per-element t last
 
 -- The steps at t and `last`, which is the vertex before, in the block manner: after the step at t no largest entry is due, and its vector,
 -- which is that of `last`, has no place.
-pub record BackwardPair (plan : List ℕ) (w : ℕ) (each : Bool) (t last : ℕ) : Type 0 where
+pub record BackwardTwo (plan : List ℕ) (w : ℕ) (per-element : Bool) (t last : ℕ) : Type 0 where
   pub next : t ≡ last + 1
   pub some : 1 ≤ last
   pub wide : 4 ≤ w
-  pub blocks : each ≡ false
+  pub blocks : per-element ≡ false
   pub due : t % 4 ≡ 0 → ⊥
   pub passing : backwardPlace plan last ≡ 0
 
-abbrev pub BackwardTurn : (plan : List ℕ) (w : ℕ) (each : Bool) (t last : ℕ) → Type 0
-BackwardTurn plan w each t last = (last ≡ t) ⊎ BackwardPair plan w each t last
+abbrev pub BackwardSteps : (plan : List ℕ) (w : ℕ) (per-element : Bool) (t last : ℕ) → Type 0
+BackwardSteps plan w per-element t last = (last ≡ t) ⊎ BackwardTwo plan w per-element t last

@@ -15,7 +15,7 @@ use Rattle.transfer.specs.Rounded.{ieee}
 use Rattle.transfer.specs.Sweep as S
 use Rattle.largest.specs.Larger.{larger}
 use Rattle.largest.specs.Top.{top, Top, top-same, top-join, top-none, Among, top-is}
-use Rattle.largest.specs.Lanes.{Fit, lane-turn}
+use Rattle.largest.specs.Lanes.{Fit, lane-iteration}
 
 pub largest-is : (r : List Float) (at n : ℕ) → at + n ≤ length r → top (λ j. getD r (at + j) nan) n ≡ S.largest ieee (ieee .𝟘) (part r at n)
 largest-is r at n h =
@@ -23,7 +23,7 @@ largest-is r at n h =
 
 -- ---- sixteen lanes, in four groups of four
 
--- the four lanes of a group have passed t turns; the group's entries at turn s start at `from s`
+-- the four lanes of a group have passed t iterations; the group's entries at iteration s start at `from s`
 pub record Passed (v : List Float) (from : ℕ → ℕ) (t : ℕ) (a b c d : Float) : Type 0 where
   pub first : a ≡ top (λ s. getD v (from s + 0) nan) t
   pub second : b ≡ top (λ s. getD v (from s + 1) nan) t
@@ -34,17 +34,17 @@ pub passed-none : (v : List Float) (from : ℕ → ℕ) {a b c d : Float} → (a
     → Passed v from 0 a b c d
 passed-none v from z = record { first = z .0 ∙ top-none _; second = z .1 ∙ top-none _; third = z .2 ∙ top-none _; fourth = z .3 ∙ top-none _ }
 
-pub passed-turn : (v : List Float) (from : ℕ → ℕ) (t : ℕ) (a b c d x y z u a′ b′ c′ d′ : Float) → Passed v from t a b c d
+pub passed-iteration : (v : List Float) (from : ℕ → ℕ) (t : ℕ) (a b c d x y z u a′ b′ c′ d′ : Float) → Passed v from t a b c d
     → (x ≡ getD v (from t) nan) × (y ≡ getD v (from t + 1) nan) × (z ≡ getD v (from t + 2) nan) × (u ≡ getD v (from t + 3) nan)
     → (a′ ≡ larger a x) × (b′ ≡ larger b y) × (c′ ≡ larger c z) × (d′ ≡ larger d u)
     → Passed v from (t + 1) a′ b′ c′ d′
-passed-turn v from t a b c d x y z u a′ b′ c′ d′ g e j =
+passed-iteration v from t a b c d x y z u a′ b′ c′ d′ g e j =
     let o : from t ≡ from t + 0 = omega arith in
     record {
-      first = lane-turn _ t (g .first) (j .0 ∙ ap (larger a) (e .0 ∙ ap (λ (i : ℕ). getD v i nan) o));
-      second = lane-turn _ t (g .second) (j .1 ∙ ap (larger b) (e .1));
-      third = lane-turn _ t (g .third) (j .2 ∙ ap (larger c) (e .2));
-      fourth = lane-turn _ t (g .fourth) (j .3 ∙ ap (larger d) (e .3));
+      first = lane-iteration _ t (g .first) (j .0 ∙ ap (larger a) (e .0 ∙ ap (λ (i : ℕ). getD v i nan) o));
+      second = lane-iteration _ t (g .second) (j .1 ∙ ap (larger b) (e .1));
+      third = lane-iteration _ t (g .third) (j .2 ∙ ap (larger c) (e .2));
+      fourth = lane-iteration _ t (g .fourth) (j .3 ∙ ap (larger d) (e .3));
     }
 
 top-ext : (f g : ℕ → Float) (n : ℕ) → ((s : ℕ) → f s ≡ g s) → top f n ≡ top g n

@@ -6,8 +6,8 @@ use native.Mathlib.Omega.{arith}
 use lib.ListN.{length, getD, set}
 use lib.Ieee.{Float, nan}
 use Rattle.vector.specs.Part.{Apart, apart-within}
-use Rattle.sweep.specs.Rule.{entries, inTurn, mix, backwardRule}
-use Rattle.sweep.specs.Rules.{turn-even, turn-odd}
+use Rattle.sweep.specs.Rule.{entries, alternating, mix, backwardRule}
+use Rattle.sweep.specs.Rules.{alternating-even, alternating-odd}
 use Rattle.runs.specs.declared.Four.{Four}
 use Rattle.runs.specs.Rule.{inFour}
 use Rattle.runs.specs.InFour.{four-0, four-1, four-2, four-3}
@@ -39,12 +39,12 @@ module _ (x y z u : Float) (p q : ℕ → Float) {e f v : ℕ → Float} {i : �
 -- what a run makes from the list l, from pairs at the front and from pairs at the end
 abbrev pub frontRun : (x y z u : Float) (p q e f : Four) (s : ℕ) (l : List Float) → ℕ → Float
 frontRun x y z u p q e f s l =
-    frontTwice x y z u (inTurn (p .first) (p .third)) (inTurn (q .first) (q .third))
+    frontTwice x y z u (alternating (p .first) (p .third)) (alternating (q .first) (q .third))
     (inFour (e .first) (e .second) (e .third) (e .fourth)) (inFour (f .first) (f .second) (f .third) (f .fourth)) (entries l s)
 
 abbrev pub endRun : (x y z u : Float) (p q e f : Four) (s : ℕ) (l : List Float) → ℕ → Float
 endRun x y z u p q e f s l =
-    endTwice x y u z (inTurn (p .second) (p .fourth)) (inTurn (q .second) (q .fourth))
+    endTwice x y u z (alternating (p .second) (p .fourth)) (alternating (q .second) (q .fourth))
     (inFour (e .first) (e .second) (e .third) (e .fourth)) (inFour (f .first) (f .second) (f .third) (f .fourth)) (entries l s)
 
 -- the first i places of a run of n, and those opposite to them
@@ -53,7 +53,7 @@ runList x y z u p q e f s a b c d n l i =
     inward l a (b + (n - i)) c (d + (n - i))
     (frontRun x y z u p q e f s l) (endRun x y z u p q e f s l) (endRun y x z u p q e f s l) (frontRun y x z u p q e f s l) i
 
--- a turn, at an even i: two places
+-- an iteration, at an even i: two places
 module _ (x y z u : Float) (p q e f : Four) (s a b c d n : ℕ) (l v : List Float) where
   module _ (i : ℕ) (targets : Parts (length l) a b c d n) (fa : Apart (length l) s (4 * n) a n) (fb : Apart (length l) s (4 * n) b n)
       (fc : Apart (length l) s (4 * n) c n) (fd : Apart (length l) s (4 * n) d n) (so-far : v ≡ runList x y z u p q e f s a b c d n l i)
@@ -130,17 +130,17 @@ module _ (x y z u : Float) (p q e f : Four) (s a b c d n : ℕ) (l v : List Floa
         let ed : d + (n - (i + 2)) + 2 ≡ d + (n - i) = omega arith in
         rw (eb, ed) so-far
 
-    pub run-turn : set (set (set (set (set (set (set (set v
+    pub run-iteration : set (set (set (set (set (set (set (set v
         (a + i) (mix x y (p .first) (q .first) (near z u) (near′ z u))) (a + i + 1) (mix x y (p .third) (q .third) (far z u) (far′ z u)))
         (b + (n - i) - 2) (mix x y (p .fourth) (q .fourth) (far′ u z) (far u z))) (b + (n - i) - 1) (mix x y (p .second) (q .second) (near′ u z) (near u z)))
         (c + i) (mix y x (p .second) (q .second) (near′ u z) (near u z))) (c + i + 1) (mix y x (p .fourth) (q .fourth) (far′ u z) (far u z)))
         (d + (n - i) - 2) (mix y x (p .third) (q .third) (far z u) (far′ z u))) (d + (n - i) - 1) (mix y x (p .first) (q .first) (near z u) (near′ z u))
         ≡ runList x y z u p q e f s a b c d n l (i + 2)
-    run-turn =
+    run-iteration =
         let o : (i + 1) % 2 ≡ 1 = omega arith in
         inward-two l a (b + (n - (i + 2))) c (d + (n - (i + 2))) _ _ _ _ i v parts-next filled _ _ _ _ _ _ _ _ _ _ _ _
         (omega arith) (omega arith) (omega arith) (omega arith)
-        (front x y z u _ _ (turn-even _ _ i ev) (turn-even _ _ i ev) even) (front x y z u _ _ (turn-odd _ _ (i + 1) o) (turn-odd _ _ (i + 1) o) odd)
-        (back x y u z _ _ (turn-even _ _ i ev) (turn-even _ _ i ev) even) (back x y u z _ _ (turn-odd _ _ (i + 1) o) (turn-odd _ _ (i + 1) o) odd)
-        (back y x u z _ _ (turn-even _ _ i ev) (turn-even _ _ i ev) even) (back y x u z _ _ (turn-odd _ _ (i + 1) o) (turn-odd _ _ (i + 1) o) odd)
-        (front y x z u _ _ (turn-even _ _ i ev) (turn-even _ _ i ev) even) (front y x z u _ _ (turn-odd _ _ (i + 1) o) (turn-odd _ _ (i + 1) o) odd)
+        (front x y z u _ _ (alternating-even _ _ i ev) (alternating-even _ _ i ev) even) (front x y z u _ _ (alternating-odd _ _ (i + 1) o) (alternating-odd _ _ (i + 1) o) odd)
+        (back x y u z _ _ (alternating-even _ _ i ev) (alternating-even _ _ i ev) even) (back x y u z _ _ (alternating-odd _ _ (i + 1) o) (alternating-odd _ _ (i + 1) o) odd)
+        (back y x u z _ _ (alternating-even _ _ i ev) (alternating-even _ _ i ev) even) (back y x u z _ _ (alternating-odd _ _ (i + 1) o) (alternating-odd _ _ (i + 1) o) odd)
+        (front y x z u _ _ (alternating-even _ _ i ev) (alternating-even _ _ i ev) even) (front y x z u _ _ (alternating-odd _ _ (i + 1) o) (alternating-odd _ _ (i + 1) o) odd)

@@ -1,4 +1,4 @@
--- The indexes of a turn of a run: within the slice, and held by a machine word with the bytes before them.
+-- The indexes of an iteration of a run: within the slice, and held by a machine word with the bytes before them.
 use mathlib.Core.Path.{_≡_}
 use Prim.Native.Nat.{ℕ, _+_, _*_, _-_, _%_, _^_, _≤_, _<_}
 use native.Mathlib.Omega.{arith}
@@ -21,8 +21,8 @@ pub record Eight (len x : ℕ) : Type 0 where
   pub at-6 : x + 6 < len
   pub at-7 : x + 7 < len
 
--- a turn at place i: two places of the parts at a, b, c and d, and their eight entries at o
-pub record Turn (len a b c d o i : ℕ) : Type 0 where
+-- an iteration at place i: two places of the parts at a, b, c and d, and their eight entries at o
+pub record Iteration (len a b c d o i : ℕ) : Type 0 where
   pub bytes : len * 8 < 2 ^ 63
   pub times : 4 * i < len
   pub after : i + 2 < len
@@ -48,9 +48,9 @@ eight-of len o i n h p =
       at-7 = omega arith;
     }
 
-pub turn-of : (len a b c d o i n : ℕ) → i + 1 < n → a + n ≤ len → b + n ≤ len → c + n ≤ len → d + n ≤ len → o + 4 * n ≤ len → len * 8 < 2 ^ 63
-    → Turn len a b c d o i
-turn-of len a b c d o i n h pa pb pc pd po room =
+pub iteration-of : (len a b c d o i n : ℕ) → i + 1 < n → a + n ≤ len → b + n ≤ len → c + n ≤ len → d + n ≤ len → o + 4 * n ≤ len → len * 8 < 2 ^ 63
+    → Iteration len a b c d o i
+iteration-of len a b c d o i n h pa pb pc pd po room =
     record {
       bytes = room;
       times = omega arith;
@@ -66,7 +66,7 @@ turn-of len a b c d o i n h pa pb pc pd po room =
 pub word : {x len : ℕ} → x < len → len * 8 < 2 ^ 63 → Fits w64 x
 word h b = record { fits = omega arith }
 
--- a loop that takes two places a turn, of an even number
+-- a loop that takes two places an iteration, of an even number
 pub less-by-two : (n i : ℕ) → i + 1 < n → n - (i + 2) < n - i
 less-by-two n i h = omega arith
 

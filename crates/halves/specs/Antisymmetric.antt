@@ -1,4 +1,4 @@
--- Odd halves: the lower half of a vector that changes its sign where every spin is flipped, but for the signs of zeros, and the forward step of it.
+-- Antisymmetric halves: the lower half of a vector that changes its sign where every spin is flipped, but for the signs of zeros, and the forward step of it.
 use mathlib.Core.Path.{_≡_, refl, sym, _∙_}
 use mathlib.Core.Bool.{Bool, true, false, cond, not}
 use mathlib.Core.List.{List}
@@ -20,10 +20,10 @@ use Rattle.symmetry.specs.Entries.{blend}
 use Rattle.halves.specs.Sign.{neg-neg, neg-first, neg-second}
 use Rattle.halves.specs.Alike.{Alike, same, alike-is, alike-sym, alike-trans, alike-mul, alike-add, add-negated}
 use Rattle.halves.specs.Half.{forwardHalf, forwardHalf-even, forwardHalf-odd}
-use Rattle.halves.specs.Even.{Even}
+use Rattle.halves.specs.Symmetric.{SymmetricHalf}
 
 -- but for the signs of zeros, entry j of the whole v is entry j of the half h, and entry 2 ^ w - 1 - j is its negative
-pub record Odd (w : ℕ) (h : ℕ → Float) (v : List Float) : Type 0 where
+pub record AntisymmetricHalf (w : ℕ) (h : ℕ → Float) (v : List Float) : Type 0 where
   pub low : (j : ℕ) → j < 2 ^ (w - 1) → Alike (S.at ieee v j) (h j)
   pub high : (j : ℕ) → j < 2 ^ (w - 1) → Alike (S.at ieee v (2 ^ w - 1 - j)) (neg (h j))
 
@@ -31,20 +31,20 @@ pub record Odd (w : ℕ) (h : ℕ → Float) (v : List Float) : Type 0 where
 unfoldable pub alternateHalf : (ℕ → Float) → ℕ → Float
 alternateHalf h j = cond (bit 0 j) (neg (h j)) (h j)
 
--- is the odd half of the alternated vector, of an even half h
-pub alternate-odd : (w : ℕ) (h : ℕ → Float) (v : List Float) → 1 ≤ w → Even w h v → Odd w (alternateHalf h) (S.alternate ieee w v)
+-- is the antisymmetric half of the alternated vector, of a symmetric half h
+pub alternate-antisymmetric : (w : ℕ) (h : ℕ → Float) (v : List Float) → 1 ≤ w → SymmetricHalf w h v → AntisymmetricHalf w (alternateHalf h) (S.alternate ieee w v)
 unfolding S.alternate alternateHalf
-alternate-odd w h v wide e =
+alternate-antisymmetric w h v wide e =
     let whole = pow-double w wide in
     let entry = tabulate-at (λ j. cond (bit 0 j) (neg (S.at ieee v j)) (S.at ieee v j)) (2 ^ w) in
     record {
       low = λ j b. alike-is (entry j (ieee .𝟘) (omega arith) ∙ rw (e .low j b));
-      high = λ j b. alike-is (entry (2 ^ w - 1 - j) (ieee .𝟘) (omega arith) ∙ rw (e .high j b, bit-flips w 0 j wide (omega arith)) (turned (bit 0 j) (h j)));
+      high = λ j b. alike-is (entry (2 ^ w - 1 - j) (ieee .𝟘) (omega arith) ∙ rw (e .high j b, bit-flips w 0 j wide (omega arith)) (negated (bit 0 j) (h j)));
     }
   where
-    turned : (b : Bool) (x : Float) → cond (not b) (neg x) x ≡ neg (cond b (neg x) x)
-    turned true x = sym (neg-neg x)
-    turned false x = refl
+    negated : (b : Bool) (x : Float) → cond (not b) (neg x) x ≡ neg (cond b (neg x) x)
+    negated true x = sym (neg-neg x)
+    negated false x = refl
 
 -- ---- an entry of a forward step
 
@@ -52,8 +52,8 @@ alike-blend : (x y p : Float) {a b c d : Float} → Alike c a → Alike d b → 
 alike-blend x y p f g = alike-mul binary64 (alike-add binary64 (alike-mul binary64 same f) (alike-mul binary64 same g)) same
 
 -- the sign of b may stand in its coefficient
-pub blend-turn : (x y p a b : Float) → blend x y p a (neg b) ≡ blend x (neg y) p a b
-blend-turn x y p a b = rw (← neg-second binary64 y b, neg-first binary64 y b)
+pub blend-sign : (x y p a b : Float) → blend x y p a (neg b) ≡ blend x (neg y) p a b
+blend-sign x y p a b = rw (← neg-second binary64 y b, neg-first binary64 y b)
 
 -- with the terms in the other order and a negated for b: the negative, but for the sign of a zero
 blend-neg : (x y p a b : Float) → Alike (blend y x p b (neg a)) (neg (blend x (neg y) p a b))
@@ -63,9 +63,9 @@ blend-neg x y p a b =
     rw (neg-second binary64 x a, neg-first binary64 (neg y) b, neg-neg y) (sum-commutes binary64 (m x (neg a)) (m y b)) in
     rw (neg-first binary64 (add binary64 (m x a) (m (neg y) b)) p, ← e) (alike-mul binary64 (alike-sym (add-negated binary64 (m x a) (m (neg y) b))) same)
 
--- ---- the forward step, in the window w with the scale sc, from the vector v of the odd half h
+-- ---- the forward step, in the window w with the scale sc, from the vector v of the antisymmetric half h
 
-module _ (w : ℕ) (s : Step Float) (sc : Float) (h : ℕ → Float) (v : List Float) (wide : 1 ≤ w) (low : Below (w - 1) (s .others)) (odd : Odd w h v) where
+module _ (w : ℕ) (s : Step Float) (sc : Float) (h : ℕ → Float) (v : List Float) (wide : 1 ≤ w) (low : Below (w - 1) (s .others)) (antisymmetric : AntisymmetricHalf w h v) where
   abbrev half : ℕ
   half = 2 ^ (w - 1)
 
@@ -73,17 +73,17 @@ module _ (w : ℕ) (s : Step Float) (sc : Float) (h : ℕ → Float) (v : List F
   whole = pow-double w wide
 
   upper-entry : (i j : ℕ) → j < half → i + j + 1 ≡ 2 ^ w → Alike (S.at ieee v i) (neg (h j))
-  upper-entry i j b e = let g : 2 ^ w - 1 - j ≡ i = omega arith in rw g at (odd .high j b)
+  upper-entry i j b e = let g : 2 ^ w - 1 - j ≡ i = omega arith in rw g at (antisymmetric .high j b)
 
   module _ (x y p : Float) (k : ℕ) (b : k < half) where
     low-blend : Alike (blend x y p (S.at ieee v k) (S.at ieee v (half + k))) (blend x (neg y) p (h k) (h (half - 1 - k)))
     low-blend =
-        rw (← blend-turn x y p (h k) (h (half - 1 - k)))
-        (alike-blend x y p (odd .low k b) (upper-entry (half + k) (half - 1 - k) (omega arith) (omega (arith, whole))))
+        rw (← blend-sign x y p (h k) (h (half - 1 - k)))
+        (alike-blend x y p (antisymmetric .low k b) (upper-entry (half + k) (half - 1 - k) (omega arith) (omega (arith, whole))))
 
     high-blend : Alike (blend y x p (S.at ieee v (half - 1 - k)) (S.at ieee v (half + (half - 1 - k)))) (neg (blend x (neg y) p (h k) (h (half - 1 - k))))
     high-blend =
-        alike-trans (alike-blend y x p (odd .low (half - 1 - k) (omega arith)) (upper-entry (half + (half - 1 - k)) k b (omega (arith, whole))))
+        alike-trans (alike-blend y x p (antisymmetric .low (half - 1 - k) (omega arith)) (upper-entry (half + (half - 1 - k)) k b (omega (arith, whole))))
         (blend-neg x y p (h k) (h (half - 1 - k)))
 
   low-entry : (j : ℕ) → j < half → Alike (S.forwardAt ieee w s sc (S.at ieee v) j) (forwardHalf w s sc neg h j)
@@ -118,9 +118,9 @@ module _ (w : ℕ) (s : Step Float) (sc : Float) (h : ℕ → Float) (v : List F
       (high-blend (S.em ieee (s .left)) (S.ep ieee (s .left)) (E.downs s sc k) k (omega arith)))
 
   -- it goes from half to half, with the signs in the coefficients
-  pub forward-odd : Odd w (forwardHalf w s sc neg h) (S.forwardStep ieee w s sc v)
+  pub forward-antisymmetric : AntisymmetricHalf w (forwardHalf w s sc neg h) (S.forwardStep ieee w s sc v)
   unfolding S.forwardStep
-  forward-odd =
+  forward-antisymmetric =
       let entry = tabulate-at (S.forwardAt ieee w s sc (S.at ieee v)) (2 ^ w) in
       record {
         low = λ j b. rw (entry j (ieee .𝟘) (omega (arith, whole))) (low-entry j b);

@@ -9,7 +9,7 @@ use Rattle.transfer.specs.Job.{Job}
 use Rattle.transfer.specs.Rounded.{ieee}
 use Rattle.transfer.specs.Sweep as S
 use Rattle.plan.specs.Layout.{forwardPlace, backwardPlace}
-use Rattle.halves.specs.Even.{Even}
+use Rattle.halves.specs.Symmetric.{SymmetricHalf}
 use Rattle.half_sums.specs.Terms.{halfAt}
 use Rattle.vertex.specs.Ready.{Ready, PlanOf, Forward}
 use Rattle.sweeps.specs.Target.{Free}
@@ -17,14 +17,14 @@ use Rattle.sweeps.specs.Kept.{Since}
 
 -- In job J the newest vector's half lies at place src, and its stored largest entry is `most`.
 pub record NewestForward (J : Job Float) (plan : List ℕ) (r : List Float) (w scales t src : ℕ) (most : Float) : Type 0 where
-  pub vector : Even w (halfAt r w src) (S.beforeStep ieee J t .0)
+  pub vector : SymmetricHalf w (halfAt r w src) (S.beforeStep ieee J t .0)
   pub entry : most ≡ S.beforeStep ieee J t .1
   pub kept : Forward J plan r w scales t
 
 -- The sweep began with the room r₀.
-pub record Going (plan : List ℕ) (r₀ r : List Float) (n w scales : ℕ) (each : Bool) (t src : ℕ) (most : Float) : Type 0 where
+pub record ForwardInvariant (plan : List ℕ) (r₀ r : List Float) (n w scales : ℕ) (per-element : Bool) (t src : ℕ) (most : Float) : Type 0 where
   pub below : t ≤ n
   pub ready : Ready plan (length r) n w scales
   pub since : Since (backwardPlace plan) r₀ r n w (scales + n)
   pub free : Free (forwardPlace plan) n w scales src (λ u. t ≤ u)
-  pub newest : (J : Job Float) → PlanOf J plan (drop (scales + n) r₀) n w each → NewestForward J plan r w scales t src most
+  pub newest : (J : Job Float) → PlanOf J plan (drop (scales + n) r₀) n w per-element → NewestForward J plan r w scales t src most

@@ -1,4 +1,4 @@
--- The backward sweep: its start, and a turn.
+-- The backward sweep: its start, and an iteration.
 use mathlib.Core.Path.{_≡_, refl, sym, ap, _∙_, subst}
 use mathlib.Core.Bool.{Bool, cond}
 use mathlib.Core.List.{List}
@@ -14,20 +14,20 @@ use Rattle.transfer.specs.Rounded.{ieee}
 use Rattle.transfer.specs.Sweep as S
 use Rattle.plan.specs.Layout.{stepIn, forwardPlace, backwardPlace}
 use Rattle.sweep.specs.Place.{hold}
-use Rattle.halves.specs.Even.{Even, start-even}
-use Rattle.halves.specs.Largest.{stored-even}
+use Rattle.halves.specs.Symmetric.{SymmetricHalf, start-half}
+use Rattle.halves.specs.Largest.{stored-symmetric}
 use Rattle.half_sums.specs.Terms.{halfAt}
-use Rattle.half_backward.specs.Fold.{fold-even}
-use Rattle.vertex.specs.Same.{even-ext, even-as}
+use Rattle.half_backward.specs.Fold.{fold-symmetric}
+use Rattle.vertex.specs.Same.{symmetric-ext, symmetric-as}
 use Rattle.vertex.specs.Frame.{Fits, half-held, Wrote, wrote-half, wrote-other}
 use Rattle.vertex.specs.Ready.{Ready, PlanOf, Stepping, Backward, tail-factors}
 use Rattle.vertex.specs.Steady.{step-below}
 use Rattle.vertex.specs.Through.{Through, backwardBy, through, through-one, through-two}
 use Rattle.sweeps.specs.Target.{Target}
 use Rattle.sweeps.specs.Kept.{Since}
-use Rattle.sweeps.specs.Turn.{BackwardPair, BackwardTurn}
+use Rattle.sweeps.specs.Steps.{BackwardTwo, BackwardSteps}
 use Rattle.sweeps.specs.Begun.{Stands, KeptFrom, Begun}
-use Rattle.sweeps.specs.Coming.{NewestBackward, Coming}
+use Rattle.sweeps.specs.BackwardInvariant.{NewestBackward, BackwardInvariant}
 use Rattle.sweeps.proofs.Targets.{Aimed, target-fits, target-own, target-kind, target-other, target-free}
 use Rattle.sweeps.proofs.Frames.{place-of, stepping, since-none, since-then, since-wrote}
 use Rattle.sweeps.proofs.Unscaled.{unscaled}
@@ -101,10 +101,10 @@ module _ {plan : List ℕ} (r : List Float) {n w scales u src dst : ℕ} (g : Re
       (λ v c p. target-kind aimed (forwardPlace plan v) (g .forward .high v c p) (λ e. g .kinds v u c b p e)) d
 
 -- what was written at its place p is the vector of u
-kept-as : (J : Job Float) (u : ℕ) (r : List Float) (w : ℕ) {p q : ℕ} → p ≡ q → Even w (halfAt r w p) (S.afterSteps ieee J (J .last - u) .0)
-    → Even w (halfAt r w q) (S.backward ieee J u)
+kept-as : (J : Job Float) (u : ℕ) (r : List Float) (w : ℕ) {p q : ℕ} → p ≡ q → SymmetricHalf w (halfAt r w p) (S.afterSteps ieee J (J .last - u) .0)
+    → SymmetricHalf w (halfAt r w q) (S.backward ieee J u)
 kept-as J u r w same e =
-    even-as (subst (λ (q : ℕ). Even w (halfAt r w q) (S.afterSteps ieee J (J .last - u) .0)) same e) (sym (backward-is J u))
+    symmetric-as (subst (λ (q : ℕ). SymmetricHalf w (halfAt r w q) (S.afterSteps ieee J (J .last - u) .0)) same e) (sym (backward-is J u))
 
 -- ---- the start: e is the room at entry, u the last vertex
 
@@ -119,14 +119,14 @@ module _ {plan : List ℕ} (e : List Float) {r : List Float} {n w scales : ℕ} 
   pub start-since : Since (forwardPlace plan) e r n w scales
   start-since = written-since e g first-below target first-wrote
 
-  first-even : Even w (halfAt r w dst) (S.start ieee w)
-  first-even = even-ext (start-even w (g .wide)) (wrote-half e r w dst first-wrote (written-inside e g first-below target) (λ _. ieee .𝟙) refl)
+  first-symmetric : SymmetricHalf w (halfAt r w dst) (S.start ieee w)
+  first-symmetric = symmetric-ext (start-half w (g .wide)) (wrote-half e r w dst first-wrote (written-inside e g first-below target) (λ _. ieee .𝟙) refl)
 
   first-newest : {one : Float} → one ≡ ieee .𝟙 → (J : Job Float) → J .last + 1 ≡ n → J .window ≡ w → NewestBackward J plan r n w u dst one
   first-newest o J vertices window =
       let none : J .last - u ≡ 0 = omega arith in
-      let vector : Even w (halfAt r w dst) (S.afterSteps ieee J (J .last - u) .0) =
-      even-as first-even (ap (S.start ieee) (sym window) ∙ sym (first-vector J) ∙ ap (λ (i : ℕ). S.afterSteps ieee J i .0) (sym none)) in
+      let vector : SymmetricHalf w (halfAt r w dst) (S.afterSteps ieee J (J .last - u) .0) =
+      symmetric-as first-symmetric (ap (S.start ieee) (sym window) ∙ sym (first-vector J) ∙ ap (λ (i : ℕ). S.afterSteps ieee J i .0) (sym none)) in
       record {
         vector = vector;
         entry = o ∙ sym (first-entry J) ∙ ap (λ (i : ℕ). S.afterSteps ieee J i .1) (sym none);
@@ -137,8 +137,8 @@ module _ {plan : List ℕ} (e : List Float) {r : List Float} {n w scales : ℕ} 
         };
       }
 
-  pub coming-start : (each : Bool) {one : Float} → one ≡ ieee .𝟙 → Coming plan r r n w scales each u u dst one
-  coming-start each o =
+  pub coming-start : (per-element : Bool) {one : Float} → one ≡ ieee .𝟙 → BackwardInvariant plan r r n w scales per-element u u dst one
+  coming-start per-element o =
       record {
         below = first-below;
         ready = rw (start-since .same) g;
@@ -150,22 +150,22 @@ module _ {plan : List ℕ} (e : List Float) {r : List Float} {n w scales : ℕ} 
 -- ---- the start at a vertex t whose vector is kept
 
 module _ {plan : List ℕ} (r : List Float) {n w scales : ℕ} (t : ℕ) {src : ℕ} (g : Ready plan (length r) n w scales) (early : t + 1 < n)
-    (placed : 0 < backwardPlace plan t) (src-is : src ≡ backwardPlace plan t) (each : Bool) {most : Float}
-    (taken : most ≡ S.stored ieee (cond each perElement block) 0 (t + 1) (tabulate (halfAt r w src) (2 ^ (w - 1)))) where
-  resumed-newest : (J : Job Float) → PlanOf J plan (drop (scales + n) r) n w each → Backward J plan r n w t → NewestBackward J plan r n w t src most
+    (placed : 0 < backwardPlace plan t) (src-is : src ≡ backwardPlace plan t) (per-element : Bool) {most : Float}
+    (taken : most ≡ S.stored ieee (cond per-element perElement block) 0 (t + 1) (tabulate (halfAt r w src) (2 ^ (w - 1)))) where
+  resumed-newest : (J : Job Float) → PlanOf J plan (drop (scales + n) r) n w per-element → Backward J plan r n w t → NewestBackward J plan r n w t src most
   resumed-newest J of given =
-      let vector : Even w (halfAt r w src) (S.afterSteps ieee J (J .last - t) .0) =
-      subst (λ (q : ℕ). Even w (halfAt r w q) (S.afterSteps ieee J (J .last - t) .0)) (sym src-is)
-      (even-as (given .vectors t (omega arith) (omega arith) placed) (backward-is J t)) in
+      let vector : SymmetricHalf w (halfAt r w src) (S.afterSteps ieee J (J .last - t) .0) =
+      subst (λ (q : ℕ). SymmetricHalf w (halfAt r w q) (S.afterSteps ieee J (J .last - t) .0)) (sym src-is)
+      (symmetric-as (given .vectors t (omega arith) (omega arith) placed) (backward-is J t)) in
       let manner = ap (λ (m : Manner). S.stored ieee m 0 (t + 1) (tabulate (halfAt r w src) (2 ^ (w - 1)))) (sym (of .manner)) in
       let full : length (S.afterSteps ieee J (J .last - t) .0) ≡ 2 ^ w = full-at J t (of .vertices) early refl ∙ ap (λ (k : ℕ). 2 ^ k) (of .window) in
       record {
         vector = vector;
-        entry = taken ∙ manner ∙ sym (stored-even (g .wide) full vector (J .manner) 0 (t + 1)) ∙ sym (entry-at J t (of .vertices) early refl);
+        entry = taken ∙ manner ∙ sym (stored-symmetric (g .wide) full vector (J .manner) 0 (t + 1)) ∙ sym (entry-at J t (of .vertices) early refl);
         kept = given;
       }
 
-  pub coming-resumed : Coming plan r r n w scales each t t src most
+  pub coming-resumed : BackwardInvariant plan r r n w scales per-element t t src most
   coming-resumed =
       record {
         below = omega arith;
@@ -180,18 +180,18 @@ module _ {plan : List ℕ} (r : List Float) {n w scales : ℕ} (t : ℕ) {src : 
 
 -- ---- the start in either case: c is the vertex from which on the kept vectors are trusted
 
-module _ {plan : List ℕ} (e : List Float) {r : List Float} {n w scales : ℕ} {each : Bool} {c t src : ℕ} {most : Float}
+module _ {plan : List ℕ} (e : List Float) {r : List Float} {n w scales : ℕ} {per-element : Bool} {c t src : ℕ} {most : Float}
     (g : Ready plan (length e) n w scales) (from : KeptFrom plan n c t) (target : Target (backwardPlace plan t) 1 src)
-    (begun : Begun e r n w each t src most) where
+    (begun : Begun e r n w per-element t src most) where
   pub begun-since : Since (forwardPlace plan) e r n w scales
   begun-since =
       ⊎-elim (λ s. start-since e t g (s .last) target (s .made)) (λ s. rw (s .same) (since-none (forwardPlace plan) e n w scales)) begun
 
-  pub begun-coming : Coming plan r r n w scales each t t src most
+  pub begun-coming : BackwardInvariant plan r r n w scales per-element t t src most
   begun-coming =
       ⊎-elim
-      (λ s. coming-start e t g (s .last) target (s .made) each (s .one))
-      (λ s. rw (s .same) (coming-resumed e t g (s .early) (from .placed (s .early)) (target .keeps (from .placed (s .early))) each (s .taken)))
+      (λ s. coming-start e t g (s .last) target (s .made) per-element (s .one))
+      (λ s. rw (s .same) (coming-resumed e t g (s .early) (from .placed (s .early)) (target .keeps (from .placed (s .early))) per-element (s .taken)))
       begun
 
   pub begun-stands : (J : Job Float) → Stands J plan e n w c → Stands J plan r n w t
@@ -201,17 +201,17 @@ module _ {plan : List ℕ} (e : List Float) {r : List Float} {n w scales : ℕ} 
       (λ s. let h = from .from early in rw (s .same) (record { vectors = λ u a. given (omega arith) .vectors u (omega arith) }))
       begun
 
--- ---- a turn
+-- ---- an iteration
 
-pub turn-inside : {plan : List ℕ} {w : ℕ} {each : Bool} {t last : ℕ} → BackwardTurn plan w each t last → 1 ≤ t → (last ≤ t) × (1 ≤ last)
-turn-inside (inl e) b = omega arith
-turn-inside (inr p) b = omega (arith, p .next, p .some)
+pub steps-inside : {plan : List ℕ} {w : ℕ} {per-element : Bool} {t last : ℕ} → BackwardSteps plan w per-element t last → 1 ≤ t → (last ≤ t) × (1 ≤ last)
+steps-inside (inl e) b = omega arith
+steps-inside (inr p) b = omega (arith, p .next, p .some)
 
-module _ {plan : List ℕ} {r₀ r : List Float} {n w scales : ℕ} {each : Bool} {c t last : ℕ} (u : ℕ) {src dst : ℕ} {most : Float}
-    (g : Coming plan r₀ r n w scales each c t src most) (turn : BackwardTurn plan w each t last) (next : last ≡ u + 1)
+module _ {plan : List ℕ} {r₀ r : List Float} {n w scales : ℕ} {per-element : Bool} {c t last : ℕ} (u : ℕ) {src dst : ℕ} {most : Float}
+    (g : BackwardInvariant plan r₀ r n w scales per-element c t src most) (steps : BackwardSteps plan w per-element t last) (next : last ≡ u + 1)
     (target : Target (backwardPlace plan u) src dst) where
   order : last ≤ t
-  order = ⊎-elim (λ e. omega arith) (λ p. omega (arith, p .next)) turn
+  order = ⊎-elim (λ e. omega arith) (λ p. omega (arith, p .next)) steps
 
   last-below : last < n
   last-below = omega (arith, order, g .below)
@@ -233,11 +233,11 @@ module _ {plan : List ℕ} {r₀ r : List Float} {n w scales : ℕ} {each : Bool
   coming-step = stepping-at t (g .below)
 
   pub coming-through : Through plan (length r) w (scales + n) t last
-  coming-through = ⊎-elim inl (λ p. inr (record { wide = p .wide; reads = stepping-at last last-below .reads })) turn
+  coming-through = ⊎-elim inl (λ p. inr (record { wide = p .wide; reads = stepping-at last last-below .reads })) steps
 
   module _ {r₂ : List Float} {one scale most′ : Float} (unit : one ≡ ieee .𝟙) (one-over : scale ≡ div binary64 (ieee .𝟙) most)
       (step : r₂ ≡ hold r w dst (tabulate (through (backwardBy plan (drop (scales + n) r) w) t last scale one (halfAt r w src)) (2 ^ (w - 1))))
-      (taken : most′ ≡ S.stored ieee (cond each perElement block) 0 last (tabulate (halfAt r₂ w dst) (2 ^ (w - 1)))) where
+      (taken : most′ ≡ S.stored ieee (cond per-element perElement block) 0 last (tabulate (halfAt r₂ w dst) (2 ^ (w - 1)))) where
     -- the steps
     abbrev by : ℕ → Float → (ℕ → Float) → ℕ → Float
     by = backwardBy plan (drop (scales + n) r) w
@@ -249,7 +249,7 @@ module _ {plan : List ℕ} {r₀ r : List Float} {n w scales : ℕ} {each : Bool
     wrote = record { vector = tabulate half (2 ^ (w - 1)); full = tabulate-length half (2 ^ (w - 1)); done = step }
 
     -- in job J
-    module _ (J : Job Float) (of : PlanOf J plan (drop (scales + n) r₀) n w each) (given : Stands J plan r₀ n w c) where
+    module _ (J : Job Float) (of : PlanOf J plan (drop (scales + n) r₀) n w per-element) (given : Stands J plan r₀ n w c) where
       abbrev after : ℕ → List Float × Float
       after v = S.afterSteps ieee J (J .last - v)
 
@@ -263,80 +263,80 @@ module _ {plan : List ℕ} {r₀ r : List Float} {n w scales : ℕ} {each : Bool
       said v b = ap (λ (x : List Float). stepIn plan x v) (tail-factors r₀ r scales n (g .since .tail)) ∙ of .step v b
 
       -- a step from a half of the vector x
-      stepped : (v : ℕ) → v < n → (c : Float) (h : ℕ → Float) (x : List Float) → Even w h x → Even w (by v c h) (S.backwardStep ieee w (stepOf J v) c x)
+      stepped : (v : ℕ) → v < n → (c : Float) (h : ℕ → Float) (x : List Float) → SymmetricHalf w h x → SymmetricHalf w (by v c h) (S.backwardStep ieee w (stepOf J v) c x)
       stepped v b c h x e =
-          even-as (fold-even w (stepIn plan (drop (scales + n) r) v) c h x (g .ready .wide) (step-below (drop (scales + n) r) (g .ready .vertex v b)) e)
+          symmetric-as (fold-symmetric w (stepIn plan (drop (scales + n) r) v) c h x (g .ready .wide) (step-below (drop (scales + n) r) (g .ready .vertex v b)) e)
           (ap (λ (s : Step Float). S.backwardStep ieee w s c x) (said v b))
 
-      first : (v : ℕ) → t ≡ v + 1 → Even w (by t scale (halfAt r w src)) (after v .0)
+      first : (v : ℕ) → t ≡ v + 1 → SymmetricHalf w (by t scale (halfAt r w src)) (after v .0)
       first v e =
-          even-as (stepped t (g .below) scale (halfAt r w src) (after t .0) (newest .vector))
+          symmetric-as (stepped t (g .below) scale (halfAt r w src) (after t .0) (newest .vector))
           (ap (λ (c : Float). S.backwardStep ieee w (stepOf J t) c (after t .0)) (one-over ∙ ap (div binary64 (ieee .𝟙)) (newest .entry))
           ∙ ap (λ (k : ℕ). S.backwardStep ieee k (stepOf J t) (div binary64 (ieee .𝟙) (after t .1)) (after t .0)) (sym (of .window))
           ∙ sym (vector-at J v (of .vertices) (g .below) e))
 
-      second : BackwardPair plan w each t last → Even w (by last one (by t scale (halfAt r w src))) (after u .0)
+      second : BackwardTwo plan w per-element t last → SymmetricHalf w (by last one (by t scale (halfAt r w src))) (after u .0)
       second p =
           let one-now : one ≡ div binary64 (ieee .𝟙) (after last .1) =
           unit
           ∙ sym
           (ap (div binary64 (ieee .𝟙)) (entry-at J last (of .vertices) (g .below) (p .next))
-          ∙ unscaled (J .manner) each 0 t (after last .0) (of .manner) (p .blocks) (p .due)) in
-          even-as (stepped last last-below one (by t scale (halfAt r w src)) (after last .0) (first last (p .next)))
+          ∙ unscaled (J .manner) per-element 0 t (after last .0) (of .manner) (p .blocks) (p .due)) in
+          symmetric-as (stepped last last-below one (by t scale (halfAt r w src)) (after last .0) (first last (p .next)))
           (ap (λ (c : Float). S.backwardStep ieee w (stepOf J last) c (after last .0)) one-now
           ∙ ap (λ (k : ℕ). S.backwardStep ieee k (stepOf J last) (div binary64 (ieee .𝟙) (after last .1)) (after last .0)) (sym (of .window))
           ∙ sym (vector-at J u (of .vertices) last-below next))
 
-      made : Even w half (after u .0)
+      made : SymmetricHalf w half (after u .0)
       made =
           ⊎-elim
           (λ e.
-          subst (λ (h : ℕ → Float). Even w h (after u .0)) (sym (through-one by t last scale one (halfAt r w src) e)) (first u (omega arith)))
+          subst (λ (h : ℕ → Float). SymmetricHalf w h (after u .0)) (sym (through-one by t last scale one (halfAt r w src) e)) (first u (omega arith)))
           (λ p.
-          subst (λ (h : ℕ → Float). Even w h (after u .0)) (sym (through-two by t last scale one (halfAt r w src) (λ e. omega (arith, p .next))))
+          subst (λ (h : ℕ → Float). SymmetricHalf w h (after u .0)) (sym (through-two by t last scale one (halfAt r w src) (λ e. omega (arith, p .next))))
           (second p))
-          turn
+          steps
 
-      vector : Even w (halfAt r₂ w dst) (after u .0)
-      vector = even-ext made (wrote-half r r₂ w dst wrote fits half refl)
+      vector : SymmetricHalf w (halfAt r₂ w dst) (after u .0)
+      vector = symmetric-ext made (wrote-half r r₂ w dst wrote fits half refl)
 
-      kept-vector : (v : ℕ) → u ≤ v → v < n → 0 < backwardPlace plan v → Even w (halfAt r₂ w (backwardPlace plan v)) (S.backward ieee J v)
+      kept-vector : (v : ℕ) → u ≤ v → v < n → 0 < backwardPlace plan v → SymmetricHalf w (halfAt r₂ w (backwardPlace plan v)) (S.backward ieee J v)
       kept-vector v c d p =
           dite (decLt v t)
           (λ x.
-          let e : v ≡ u = ⊎-elim (λ e. omega arith) (λ pair. new x pair) turn in
+          let e : v ≡ u = ⊎-elim (λ e. omega arith) (λ pair. new x pair) steps in
           let p′ : 0 < backwardPlace plan u = rw e at p in
           rw e (kept-as J u r₂ w (target .keeps p′) vector))
           (λ x.
           let q = backwardPlace plan v in
           let own = target-own aim v d (λ z. omega (arith, order)) p in
-          even-ext (newest .kept .vectors v (omega arith) d p)
+          symmetric-ext (newest .kept .vectors v (omega arith) d p)
           (half-held r r₂ w q (wrote-other r r₂ w dst wrote fits q (λ e. own (sym e)) (place-of (g .ready) q (g .ready .backward .fits v d p) .inside))))
         where
           -- the vector between is not kept
-          new : v < t → BackwardPair plan w each t last → v ≡ u
+          new : v < t → BackwardTwo plan w per-element t last → v ≡ u
           new x pair =
               dite (decLt u v)
               (λ l. let e : v ≡ last = omega (arith, pair .next) in absurd (omega (arith, pair .passing, rw e at p)))
               (λ l. omega arith)
 
-      newest-turn : NewestBackward J plan r₂ n w u dst most′
-      newest-turn =
+      newest-iteration : NewestBackward J plan r₂ n w u dst most′
+      newest-iteration =
           let manner = ap (λ (m : Manner). S.stored ieee m 0 last (tabulate (halfAt r₂ w dst) (2 ^ (w - 1)))) (sym (of .manner)) in
           let full : length (after u .0) ≡ 2 ^ w = full-at J u (of .vertices) last-below next ∙ ap (λ (k : ℕ). 2 ^ k) (of .window) in
           record {
             vector = vector;
-            entry = taken ∙ manner ∙ sym (stored-even (g .ready .wide) full vector (J .manner) 0 last) ∙ sym (entry-at J u (of .vertices) last-below next);
+            entry = taken ∙ manner ∙ sym (stored-symmetric (g .ready .wide) full vector (J .manner) 0 last) ∙ sym (entry-at J u (of .vertices) last-below next);
             kept = record { vectors = kept-vector };
           }
 
-    pub coming-turn : Coming plan r₀ r₂ n w scales each c u dst most′
-    coming-turn =
+    pub backward-iteration : BackwardInvariant plan r₀ r₂ n w scales per-element c u dst most′
+    backward-iteration =
         let now = written-since r (g .ready) before target wrote in
         record {
           below = before;
           ready = rw (now .same) (g .ready);
           since = since-then (g .since) now;
           free = target-free aim (λ v. v < u) (λ v q e. omega arith);
-          newest = newest-turn;
+          newest = newest-iteration;
         }

@@ -9,7 +9,7 @@ use Rattle.transfer.specs.Job.{Job}
 use Rattle.transfer.specs.Rounded.{ieee}
 use Rattle.transfer.specs.Sweep as S
 use Rattle.plan.specs.Layout.{forwardPlace, backwardPlace}
-use Rattle.halves.specs.Even.{Even}
+use Rattle.halves.specs.Symmetric.{SymmetricHalf}
 use Rattle.half_sums.specs.Terms.{halfAt}
 use Rattle.vertex.specs.Ready.{Ready, PlanOf, Backward}
 use Rattle.sweeps.specs.Target.{Free}
@@ -18,14 +18,14 @@ use Rattle.sweeps.specs.Begun.{Stands}
 
 -- In job J the newest vector's half lies at place src, and its stored largest entry is `most`.
 pub record NewestBackward (J : Job Float) (plan : List ℕ) (r : List Float) (n w t src : ℕ) (most : Float) : Type 0 where
-  pub vector : Even w (halfAt r w src) (S.afterSteps ieee J (J .last - t) .0)
+  pub vector : SymmetricHalf w (halfAt r w src) (S.afterSteps ieee J (J .last - t) .0)
   pub entry : most ≡ S.afterSteps ieee J (J .last - t) .1
   pub kept : Backward J plan r n w t
 
 -- The sweep began at vertex c with the room r₀.
-pub record Coming (plan : List ℕ) (r₀ r : List Float) (n w scales : ℕ) (each : Bool) (c t src : ℕ) (most : Float) : Type 0 where
+pub record BackwardInvariant (plan : List ℕ) (r₀ r : List Float) (n w scales : ℕ) (per-element : Bool) (c t src : ℕ) (most : Float) : Type 0 where
   pub below : t < n
   pub ready : Ready plan (length r) n w scales
   pub since : Since (forwardPlace plan) r₀ r n w scales
   pub free : Free (backwardPlace plan) n w scales src (λ u. u < t)
-  pub newest : (J : Job Float) → PlanOf J plan (drop (scales + n) r₀) n w each → Stands J plan r₀ n w c → NewestBackward J plan r n w t src most
+  pub newest : (J : Job Float) → PlanOf J plan (drop (scales + n) r₀) n w per-element → Stands J plan r₀ n w c → NewestBackward J plan r n w t src most

@@ -11,26 +11,26 @@ use Rattle.vector.specs.Bits.{bit}
 use Rattle.vector.specs.Tabulate.{tabulate}
 use Rattle.vector.specs.Part.{Apart, apart-within, put, fill-two, fill-run, read-apart}
 use Rattle.sweep.specs.Step.{patternBy}
-use Rattle.sweep.specs.Rule.{entries, fromEnd, weights, inTurn, blend, forwardRule}
-use Rattle.sweep.specs.Rules.{turn-even, turn-odd, rule-even, rule-odd, rule-from}
+use Rattle.sweep.specs.Rule.{entries, fromEnd, weights, alternating, blend, forwardRule}
+use Rattle.sweep.specs.Rules.{alternating-even, alternating-odd, rule-even, rule-odd, rule-from}
 use Rattle.runs.specs.AtRun.{Runs, AtRun, run-ends}
 use Rattle.runs.specs.RunWeights.{run-weight}
 use Rattle.largest.specs.Larger.{larger}
 use Rattle.largest.specs.Top.{top}
-use Rattle.largest.specs.Lanes.{Fit, two-lanes, two-parts, Lanes, lanes-turn, lanes-done}
+use Rattle.largest.specs.Lanes.{Fit, two-lanes, two-parts, Lanes, lanes-iteration, lanes-done}
 
 -- what is rounded is a double
-forward-fit : (x y u z : Float) (p q a b : ℕ → Float) → Fit (forwardRule x y u z p q a b)
+forward-fit : (ep sem em sep : Float) (p q a b : ℕ → Float) → Fit (forwardRule ep sem em sep p q a b)
 unfolding forwardRule blend
-forward-fit x y u z p q a b j = cond-fits binary64 (bit 0 j) _ _ (mul-fits binary64 _ (q (j / 2))) (mul-fits binary64 _ (p (j / 2)))
+forward-fit ep sem em sep p q a b j = cond-fits binary64 (bit 0 j) _ _ (mul-fits binary64 _ (q (j / 2))) (mul-fits binary64 _ (p (j / 2)))
 
 down-index : (b n j : ℕ) → n ≤ b + 1 → j < n → b - j ≡ b + 1 - n + (n - 1 - j)
 down-index b n j h l = omega arith
 
--- a turn of a run, at an even i: two pairs
-module _ (x y z u p₀ q₀ p₁ q₁ : Float) (a b o n : ℕ) (d v : List Float) where
+-- an iteration of a run, at an even i: two pairs
+module _ (ep sem em sep p₀ q₀ p₁ q₁ : Float) (a b o n : ℕ) (d v : List Float) where
   abbrev rule : ℕ → Float
-  rule = forwardRule x y z u (inTurn p₀ p₁) (inTurn q₀ q₁) (entries d a) (fromEnd d (b + 1 - n) n)
+  rule = forwardRule ep sem em sep (alternating p₀ p₁) (alternating q₀ q₁) (entries d a) (fromEnd d (b + 1 - n) n)
 
   module _ (i : ℕ) (deep : n ≤ b + 1) (fa : Apart (length d) a n o (2 * n)) (fb : Apart (length d) (b + 1 - n) n o (2 * n))
       (e : v ≡ put d o (tabulate rule (2 * i))) (h : i + 1 < n) (ev : i % 2 ≡ 0) where
@@ -40,33 +40,33 @@ module _ (x y z u p₀ q₀ p₁ q₁ : Float) (a b o n : ℕ) (d v : List Float
     at-b : (j : ℕ) → j < n → getD v (b - j) nan ≡ getD d (b + 1 - n + (n - 1 - j)) nan
     at-b j l = rw (e, down-index b n j deep l) (read-apart d o rule (2 * i) (b + 1 - n) n (2 * n) (n - 1 - j) nan fb (omega arith) (omega arith))
 
-    -- the entries of the turn
-    first : blend x y p₀ (getD v (a + i) nan) (getD v (b - i) nan) ≡ rule (2 * i)
-    first = rw (at-a i (omega arith), at-b i (omega arith), rule-even x y z u _ _ _ _ (2 * i) i refl, turn-even p₀ p₁ i ev)
+    -- the entries of the iteration
+    first : blend ep sem p₀ (getD v (a + i) nan) (getD v (b - i) nan) ≡ rule (2 * i)
+    first = rw (at-a i (omega arith), at-b i (omega arith), rule-even ep sem em sep _ _ _ _ (2 * i) i refl, alternating-even p₀ p₁ i ev)
 
-    second : blend z u q₀ (getD v (a + i) nan) (getD v (b - i) nan) ≡ rule (2 * i + 1)
-    second = rw (at-a i (omega arith), at-b i (omega arith), rule-odd x y z u _ _ _ _ (2 * i + 1) i refl, turn-even q₀ q₁ i ev)
+    second : blend em sep q₀ (getD v (a + i) nan) (getD v (b - i) nan) ≡ rule (2 * i + 1)
+    second = rw (at-a i (omega arith), at-b i (omega arith), rule-odd ep sem em sep _ _ _ _ (2 * i + 1) i refl, alternating-even q₀ q₁ i ev)
 
-    third : blend x y p₁ (getD v (a + i + 1) nan) (getD v (b - i - 1) nan) ≡ rule (2 * (i + 1))
+    third : blend ep sem p₁ (getD v (a + i + 1) nan) (getD v (b - i - 1) nan) ≡ rule (2 * (i + 1))
     third =
         let fa1 : a + i + 1 ≡ a + (i + 1) = omega arith in
         let fb1 : b - i - 1 ≡ b - (i + 1) = omega arith in
-        rw (fa1, fb1, at-a (i + 1) h, at-b (i + 1) h, rule-even x y z u _ _ _ _ (2 * (i + 1)) (i + 1) refl, turn-odd p₀ p₁ (i + 1) (omega arith))
+        rw (fa1, fb1, at-a (i + 1) h, at-b (i + 1) h, rule-even ep sem em sep _ _ _ _ (2 * (i + 1)) (i + 1) refl, alternating-odd p₀ p₁ (i + 1) (omega arith))
 
-    fourth : blend z u q₁ (getD v (a + i + 1) nan) (getD v (b - i - 1) nan) ≡ rule (2 * (i + 1) + 1)
+    fourth : blend em sep q₁ (getD v (a + i + 1) nan) (getD v (b - i - 1) nan) ≡ rule (2 * (i + 1) + 1)
     fourth =
         let fa1 : a + i + 1 ≡ a + (i + 1) = omega arith in
         let fb1 : b - i - 1 ≡ b - (i + 1) = omega arith in
-        rw (fa1, fb1, at-a (i + 1) h, at-b (i + 1) h, rule-odd x y z u _ _ _ _ (2 * (i + 1) + 1) (i + 1) refl, turn-odd q₀ q₁ (i + 1) (omega arith))
+        rw (fa1, fb1, at-a (i + 1) h, at-b (i + 1) h, rule-odd ep sem em sep _ _ _ _ (2 * (i + 1) + 1) (i + 1) refl, alternating-odd q₀ q₁ (i + 1) (omega arith))
 
-    pub run-turn :
+    pub run-iteration :
         set (set (set (set v
-        (o + 2 * i) (blend x y p₀ (getD v (a + i) nan) (getD v (b - i) nan)))
-        (o + 2 * i + 1) (blend z u q₀ (getD v (a + i) nan) (getD v (b - i) nan)))
-        (o + 2 * i + 2) (blend x y p₁ (getD v (a + i + 1) nan) (getD v (b - i - 1) nan)))
-        (o + 2 * i + 3) (blend z u q₁ (getD v (a + i + 1) nan) (getD v (b - i - 1) nan))
+        (o + 2 * i) (blend ep sem p₀ (getD v (a + i) nan) (getD v (b - i) nan)))
+        (o + 2 * i + 1) (blend em sep q₀ (getD v (a + i) nan) (getD v (b - i) nan)))
+        (o + 2 * i + 2) (blend ep sem p₁ (getD v (a + i + 1) nan) (getD v (b - i - 1) nan)))
+        (o + 2 * i + 3) (blend em sep q₁ (getD v (a + i + 1) nan) (getD v (b - i - 1) nan))
         ≡ put d o (tabulate rule (2 * (i + 2)))
-    run-turn =
+    run-iteration =
         let g2 : 2 * i + 2 ≡ 2 * (i + 1) = omega arith in
         let g4 : 2 * (i + 2) ≡ 2 * (i + 1) + 2 = omega arith in
         let f1 : o + 2 * i + 1 ≡ o + (2 * i + 1) = omega arith in
@@ -77,20 +77,20 @@ module _ (x y z u p₀ q₀ p₁ q₁ : Float) (a b o n : ℕ) (d v : List Float
 
     -- each goes into its lane
     pub run-lanes : {ma mb mc md ma′ mb′ mc′ md′ : Float} → Lanes (λ k. rule (2 * k)) (λ k. rule (2 * k + 1)) i ma mc mb md
-        → (ma′ ≡ larger ma (blend x y p₀ (getD v (a + i) nan) (getD v (b - i) nan)))
-        × (mb′ ≡ larger mb (blend z u q₀ (getD v (a + i) nan) (getD v (b - i) nan)))
-        × (mc′ ≡ larger mc (blend x y p₁ (getD v (a + i + 1) nan) (getD v (b - i - 1) nan)))
-        × (md′ ≡ larger md (blend z u q₁ (getD v (a + i + 1) nan) (getD v (b - i - 1) nan)))
+        → (ma′ ≡ larger ma (blend ep sem p₀ (getD v (a + i) nan) (getD v (b - i) nan)))
+        × (mb′ ≡ larger mb (blend em sep q₀ (getD v (a + i) nan) (getD v (b - i) nan)))
+        × (mc′ ≡ larger mc (blend ep sem p₁ (getD v (a + i + 1) nan) (getD v (b - i - 1) nan)))
+        × (md′ ≡ larger md (blend em sep q₁ (getD v (a + i + 1) nan) (getD v (b - i - 1) nan)))
         → Lanes (λ k. rule (2 * k)) (λ k. rule (2 * k + 1)) (i + 2) ma′ mc′ mb′ md′
     run-lanes l j =
-        lanes-turn (λ k. rule (2 * k)) (λ k. rule (2 * k + 1)) i ev l (j .0 ∙ ap (larger _) first) (j .2 ∙ ap (larger _) third)
+        lanes-iteration (λ k. rule (2 * k)) (λ k. rule (2 * k + 1)) i ev l (j .0 ∙ ap (larger _) first) (j .2 ∙ ap (larger _) third)
         (j .1 ∙ ap (larger _) second) (j .3 ∙ ap (larger _) fourth)
 
   -- the lanes joined have the largest entry of the run
   pub run-most : {ma mb mc md e f r : Float} → n % 2 ≡ 0 → Lanes (λ k. rule (2 * k)) (λ k. rule (2 * k + 1)) n ma mc mb md
       → e ≡ larger ma mc → f ≡ larger mb md → r ≡ larger e f → r ≡ top rule (2 * n)
   run-most even l e f r =
-      let fit = forward-fit x y z u (inTurn p₀ p₁) (inTurn q₀ q₁) (entries d a) (fromEnd d (b + 1 - n) n) in
+      let fit = forward-fit ep sem em sep (alternating p₀ p₁) (alternating q₀ q₁) (entries d a) (fromEnd d (b + 1 - n) n) in
       r ∙ rw (e, f) (lanes-done (λ k. rule (2 * k)) (λ k. rule (2 * k + 1)) n (λ k. fit (2 * k)) (λ k. fit (2 * k + 1)) even l ∙ two-lanes rule fit n)
 
 -- where the run at k reads downwards: from this index, and in the half
@@ -118,13 +118,13 @@ module _ {l : List ℕ} {n g e end size one k : ℕ} (r : Runs l n g e end size 
       )
 
   -- a run is the step's next entries
-  module _ (x y z u : Float) (up down : List Float) (m src dst : ℕ) (d v : List Float) where
+  module _ (ep sem em sep : Float) (up down : List Float) (m src dst : ℕ) (d v : List Float) where
     abbrev step : ℕ → Float
-    step = forwardRule x y z u (weights l n up) (weights l n down) (entries d src) (fromEnd d src (2 * 2 ^ g))
+    step = forwardRule ep sem em sep (weights l n up) (weights l n down) (entries d src) (fromEnd d src (2 * 2 ^ g))
 
     abbrev run : ℕ → Float
     run =
-        forwardRule x y z u (inTurn (getD up m nan) (getD up (m + one) nan)) (inTurn (getD down m nan) (getD down (m + one) nan))
+        forwardRule ep sem em sep (alternating (getD up m nan) (getD up (m + one) nan)) (alternating (getD down m nan) (getD down (m + one) nan))
         (entries v (src + k)) (fromEnd v (src + 2 * end - 1 - k + 1 - size) size)
 
     module _ (f : Apart (length d) src (2 * 2 ^ g) dst (2 * 2 ^ g)) (p : m ≡ patternBy l n k) (w : v ≡ put d dst (tabulate step (2 * k))) where
@@ -137,10 +137,10 @@ module _ {l : List ℕ} {n g e end size one k : ℕ} (r : Runs l n g e end size 
           let front : (i : ℕ) → i < size → getD v (src + k + i) nan ≡ getD d (src + (k + i)) nan = λ i c. rw add-assoc (kept (k + i) (omega arith)) in
           let back : (i : ℕ) → i < size → getD v (src + 2 * end - 1 - k + 1 - size + (size - 1 - i)) nan ≡ getD d (src + (2 * 2 ^ g - 1 - (k + i))) nan =
           λ i c. rw (last-index src (2 ^ g) end k size q fits (omega arith) .1, mirror-index src (2 ^ g) k size i (omega arith) c) (kept (2 * 2 ^ g - 1 - (k + i)) (omega arith)) in
-          rule-from x y z u _ _ _ _ _ _ _ _ k size j b (run-weight r at m p up) (run-weight r at m p down) front back
+          rule-from ep sem em sep _ _ _ _ _ _ _ _ k size j b (run-weight r at m p up) (run-weight r at m p down) front back
 
-      pub runs-turn : (v′ : List Float) → v′ ≡ put v (dst + 2 * k) (tabulate run (2 * size)) → v′ ≡ put d dst (tabulate step (2 * (k + size)))
-      runs-turn v′ w′ =
+      pub runs-iteration : (v′ : List Float) → v′ ≡ put v (dst + 2 * k) (tabulate run (2 * size)) → v′ ≡ put d dst (tabulate step (2 * (k + size)))
+      runs-iteration v′ w′ =
           let fits = run-ends r at under in
           let q = r .ends in
           let t : 2 * (k + size) ≡ 2 * k + 2 * size = omega arith in
@@ -152,4 +152,4 @@ module _ {l : List ℕ} {n g e end size one k : ℕ} (r : Runs l n g e end size 
           let t : 2 * (k + size) ≡ 2 * k + 2 * size = omega arith in
           j
           ∙ rw (e, e′, t)
-          (two-parts step run step (forward-fit x y z u _ _ _ _) (forward-fit x y z u _ _ _ _) (forward-fit x y z u _ _ _ _) (2 * k) (2 * size) (λ i b. refl) run-same)
+          (two-parts step run step (forward-fit ep sem em sep _ _ _ _) (forward-fit ep sem em sep _ _ _ _) (forward-fit ep sem em sep _ _ _ _) (2 * k) (2 * size) (λ i b. refl) run-same)

@@ -33,9 +33,9 @@ module _ (x : List Float) (bits : List ℕ) (i n r : ℕ) (f W : Float) where
       let next : ℕ → Float = λ c. cond (eqb c 1) (div binary64 f (getD x i nan)) (mul binary64 f (getD x i nan)) in
       ap (λ (c : ℕ). S.product ieee (nearEdges x bits (suc i) k) (r / 2) (next c)) q
 
-  pub product-turn : (f′ : Float) → i < n → f′ ≡ cond (eqb (r % 2) 1) (div binary64 f (getD x i nan)) (mul binary64 f (getD x i nan))
+  pub product-iteration : (f′ : Float) → i < n → f′ ≡ cond (eqb (r % 2) 1) (div binary64 f (getD x i nan)) (mul binary64 f (getD x i nan))
       → S.product ieee (nearEdges x bits i (n - i)) r f ≡ W → S.product ieee (nearEdges x bits (i + 1) (n - (i + 1))) (r / 2) f′ ≡ W
-  product-turn f′ h e w =
+  product-iteration f′ h e w =
       let s : suc (n - suc i) ≡ n - i = omega arith in
       rw (add-one i, e) (sym (product-open (n - suc i)) ∙ ap (λ (k : ℕ). S.product ieee (nearEdges x bits i k) r f) s ∙ w)
 
@@ -55,16 +55,16 @@ left-none there x e = rw (e, one-is)
 
 -- ---- the two tables: one is filled from its front, the other from its end
 
-pub front-turn : (l : List Float) (g : ℕ → Float) (a : Float) (m : ℕ) → m < length l → a ≡ g m → ((j : ℕ) → j < m → getD l j nan ≡ g j)
+pub front-iteration : (l : List Float) (g : ℕ → Float) (a : Float) (m : ℕ) → m < length l → a ≡ g m → ((j : ℕ) → j < m → getD l j nan ≡ g j)
     → (j : ℕ) → j < m + 1 → getD (set l m a) j nan ≡ g j
-front-turn l g a m h e w j b =
+front-iteration l g a m h e w j b =
     dite (decLt j m)
     (λ p. getD-set-other l m j a nan (λ q. omega arith) ∙ w j p)
     (λ p. let q : j ≡ m = omega arith in rw q (getD-set-same l m a nan h ∙ e))
 
-pub mirror-turn : (l : List Float) (g : ℕ → Float) (a : Float) (full m : ℕ) → full ≤ length l → m < full → a ≡ g m
+pub mirror-iteration : (l : List Float) (g : ℕ → Float) (a : Float) (full m : ℕ) → full ≤ length l → m < full → a ≡ g m
     → ((j : ℕ) → j < m → getD l (full - 1 - j) nan ≡ g j) → (j : ℕ) → j < m + 1 → getD (set l (full - 1 - m) a) (full - 1 - j) nan ≡ g j
-mirror-turn l g a full m h b e w j q =
+mirror-iteration l g a full m h b e w j q =
     dite (decLt j m)
     (λ p. getD-set-other l (full - 1 - m) (full - 1 - j) a nan (λ r. omega arith) ∙ w j p)
     (λ p. let r : j ≡ m = omega arith in rw r (getD-set-same l (full - 1 - m) a nan (omega arith) ∙ e))

@@ -9,7 +9,7 @@ use lib.Ieee.{Float, nan, neg}
 use Rattle.vector.specs.Tabulate.{tabulate}
 use Rattle.vector.specs.Part.{Apart, put, fill-none, fill-one, fill-two, read-apart}
 use Rattle.sweep.specs.Rule.{entries}
-use Rattle.halves.specs.Odd.{alternateHalf}
+use Rattle.halves.specs.Antisymmetric.{alternateHalf}
 
 module _ (h : ℕ → Float) (j : ℕ) where
   alternate-even : j % 2 ≡ 0 → alternateHalf h j ≡ h j
@@ -24,10 +24,10 @@ module _ (s o : ℕ) (d : List Float) where
   abbrev rule : ℕ → Float
   rule = alternateHalf (entries d s)
 
-  -- a turn at an even j: two entries
-  pub alternate-turn : (v : List Float) (n j : ℕ) → Apart (length d) s n o n → j + 1 < n → j % 2 ≡ 0 → v ≡ put d o (tabulate rule j)
+  -- an iteration at an even j: two entries
+  pub alternate-iteration : (v : List Float) (n j : ℕ) → Apart (length d) s n o n → j + 1 < n → j % 2 ≡ 0 → v ≡ put d o (tabulate rule j)
       → set (set v (o + j) (getD v (s + j) nan)) (o + (j + 1)) (neg (getD v (s + (j + 1)) nan)) ≡ put d o (tabulate rule (j + 2))
-  alternate-turn v n j f h ev e =
+  alternate-iteration v n j f h ev e =
       let kept : (i : ℕ) → i < n → getD v (s + i) nan ≡ getD d (s + i) nan = λ i b. rw e (read-apart d o rule j s n n i nan f (omega arith) b) in
       let x : getD v (s + j) nan ≡ rule j = rw (alternate-even (entries d s) j ev) (kept j (omega arith)) in
       let y : neg (getD v (s + (j + 1)) nan) ≡ rule (j + 1) = rw (alternate-odd (entries d s) (j + 1) (omega arith)) (ap neg (kept (j + 1) h)) in

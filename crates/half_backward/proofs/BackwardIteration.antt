@@ -12,13 +12,13 @@ use lib.Dec.{ltb}
 use borrow.Author.Tests.{lt-ltb, le-ltb}
 use Rattle.vector.specs.Part.{Apart, apart-within}
 use Rattle.sweep.specs.Step.{patternBy}
-use Rattle.sweep.specs.Rule.{entries, weights, inTurn, mix, backwardRule}
-use Rattle.sweep.specs.Rules.{turn-even, turn-odd}
+use Rattle.sweep.specs.Rule.{entries, weights, alternating, mix, backwardRule}
+use Rattle.sweep.specs.Rules.{alternating-even, alternating-odd}
 use Rattle.runs.specs.AtRun.{Runs, AtRun, run-ends}
 use Rattle.runs.specs.RunWeights.{run-weight}
 use Rattle.largest.specs.Larger.{larger}
 use Rattle.largest.specs.Top.{top, top-is}
-use Rattle.largest.specs.Lanes.{Fit, two-parts, both-ends, larger-swap, Lanes, lanes-turn, lanes-done}
+use Rattle.largest.specs.Lanes.{Fit, two-parts, both-ends, larger-swap, Lanes, lanes-iteration, lanes-done}
 use Rattle.half_backward.specs.Ends.{ends, ends-one, ends-run, ends-apart, ends-together}
 use Rattle.largest.specs.Filled.{filled-top}
 
@@ -27,14 +27,14 @@ pub backward-fit : (x y : Float) (p q v : ℕ → Float) → Fit (backwardRule x
 unfolding backwardRule mix
 backward-fit x y p q v j = add-fits binary64 _ _
 
--- a turn of a run, at an even i: two pairs
+-- an iteration of a run, at an even i: two pairs
 module _ (x y p₀ q₀ p₁ q₁ : Float) (s lo hi n : ℕ) (d v : List Float) (i : ℕ)
     (mid : lo + 2 * n ≤ hi) (fl : Apart (length d) s (2 * n) lo n) (fh : Apart (length d) s (2 * n) (hi - n) n) where
   abbrev lower : ℕ → Float
-  lower = backwardRule x y (inTurn p₀ p₁) (inTurn q₀ q₁) (entries d s)
+  lower = backwardRule x y (alternating p₀ p₁) (alternating q₀ q₁) (entries d s)
 
   abbrev upper : ℕ → Float
-  upper = backwardRule y x (inTurn p₀ p₁) (inTurn q₀ q₁) (entries d s)
+  upper = backwardRule y x (alternating p₀ p₁) (alternating q₀ q₁) (entries d s)
 
   abbrev filled : ℕ → List Float
   filled = ends d lo hi lower upper
@@ -46,38 +46,38 @@ module _ (x y p₀ q₀ p₁ q₁ : Float) (s lo hi n : ℕ) (d v : List Float) 
   long = omega (arith, fh .to)
 
   module _ (e : v ≡ filled i) (h : i + 1 < n) (ev : i % 2 ≡ 0) where
-    -- the entries of the turn
+    -- the entries of the iteration
     even-pair : (x′ y′ : Float)
-        → mix x′ y′ p₀ q₀ (getD v (s + 2 * i) nan) (getD v (s + 2 * i + 1) nan) ≡ backwardRule x′ y′ (inTurn p₀ p₁) (inTurn q₀ q₁) (entries d s) i
+        → mix x′ y′ p₀ q₀ (getD v (s + 2 * i) nan) (getD v (s + 2 * i + 1) nan) ≡ backwardRule x′ y′ (alternating p₀ p₁) (alternating q₀ q₁) (entries d s) i
     unfolding backwardRule
     even-pair x′ y′ =
         let f1 : s + 2 * i + 1 ≡ s + (2 * i + 1) = omega arith in
-        rw (f1, kept e (omega arith) (2 * i) (omega arith), kept e (omega arith) (2 * i + 1) (omega arith), turn-even p₀ p₁ i ev, turn-even q₀ q₁ i ev)
+        rw (f1, kept e (omega arith) (2 * i) (omega arith), kept e (omega arith) (2 * i + 1) (omega arith), alternating-even p₀ p₁ i ev, alternating-even q₀ q₁ i ev)
 
     odd-pair : (x′ y′ : Float)
-        → mix x′ y′ p₁ q₁ (getD v (s + 2 * i + 2) nan) (getD v (s + 2 * i + 3) nan) ≡ backwardRule x′ y′ (inTurn p₀ p₁) (inTurn q₀ q₁) (entries d s) (i + 1)
+        → mix x′ y′ p₁ q₁ (getD v (s + 2 * i + 2) nan) (getD v (s + 2 * i + 3) nan) ≡ backwardRule x′ y′ (alternating p₀ p₁) (alternating q₀ q₁) (entries d s) (i + 1)
     unfolding backwardRule
     odd-pair x′ y′ =
         let f2 : s + 2 * i + 2 ≡ s + 2 * (i + 1) = omega arith in
         let f3 : s + 2 * i + 3 ≡ s + (2 * (i + 1) + 1) = omega arith in
         let o : (i + 1) % 2 ≡ 1 = omega arith in
-        rw (f2, f3, kept e (omega arith) (2 * (i + 1)) (omega arith), kept e (omega arith) (2 * (i + 1) + 1) (omega arith), turn-odd p₀ p₁ (i + 1) o, turn-odd q₀ q₁ (i + 1) o)
+        rw (f2, f3, kept e (omega arith) (2 * (i + 1)) (omega arith), kept e (omega arith) (2 * (i + 1) + 1) (omega arith), alternating-odd p₀ p₁ (i + 1) o, alternating-odd q₀ q₁ (i + 1) o)
 
     -- one pair after the other
-    in-turn : set (set (set (set v (lo + i) (lower i)) (hi - i - 1) (upper i)) (lo + (i + 1)) (lower (i + 1))) (hi - (i + 1) - 1) (upper (i + 1)) ≡ filled (i + 2)
-    in-turn =
+    in-iteration : set (set (set (set v (lo + i) (lower i)) (hi - i - 1) (upper i)) (lo + (i + 1)) (lower (i + 1))) (hi - (i + 1) - 1) (upper (i + 1)) ≡ filled (i + 2)
+    in-iteration =
         let g4 : i + 2 ≡ i + 1 + 1 = omega arith in
         rw (e, ends-one d lo hi lower upper i (lower i) (upper i) (omega arith) long refl refl, g4)
         (ends-one d lo hi lower upper (i + 1) (lower (i + 1)) (upper (i + 1)) (omega arith) long refl refl)
 
     -- the stores at each end one after the other
-    pub run-turn :
+    pub run-iteration :
         set (set (set (set v
         (lo + i) (mix x y p₀ q₀ (getD v (s + 2 * i) nan) (getD v (s + 2 * i + 1) nan)))
         (lo + i + 1) (mix x y p₁ q₁ (getD v (s + 2 * i + 2) nan) (getD v (s + 2 * i + 3) nan)))
         (hi - i - 2) (mix y x p₁ q₁ (getD v (s + 2 * i + 2) nan) (getD v (s + 2 * i + 3) nan)))
         (hi - i - 1) (mix y x p₀ q₀ (getD v (s + 2 * i) nan) (getD v (s + 2 * i + 1) nan)) ≡ filled (i + 2)
-    run-turn =
+    run-iteration =
         let l1 : lo + i + 1 ≡ lo + (i + 1) = omega arith in
         let h2 : hi - i - 2 ≡ hi - (i + 1) - 1 = omega arith in
         let ne : hi - (i + 1) - 1 ≡ hi - i - 1 → ⊥ = λ z. omega arith in
@@ -85,7 +85,7 @@ module _ (x y p₀ q₀ p₁ q₁ : Float) (s lo hi n : ℕ) (d v : List Float) 
         rw (even-pair x y, even-pair y x, odd-pair x y, odd-pair y x, l1, h2)
         (set-comm (set (set v (lo + i) (lower i)) (lo + (i + 1)) (lower (i + 1))) (hi - (i + 1) - 1) (hi - i - 1) (upper (i + 1)) (upper i) ne
         ∙ ap (λ (l : List Float). set l (hi - (i + 1) - 1) (upper (i + 1))) (set-comm (set v (lo + i) (lower i)) (lo + (i + 1)) (hi - i - 1) (lower (i + 1)) (upper i) ne′)
-        ∙ in-turn)
+        ∙ in-iteration)
 
     -- each goes into its lane
     pub run-lanes : {ma mb mc md ma′ mb′ mc′ md′ : Float} → Lanes lower upper i ma mb md mc
@@ -95,7 +95,7 @@ module _ (x y p₀ q₀ p₁ q₁ : Float) (s lo hi n : ℕ) (d v : List Float) 
         × (md′ ≡ larger md (mix y x p₀ q₀ (getD v (s + 2 * i) nan) (getD v (s + 2 * i + 1) nan)))
         → Lanes lower upper (i + 2) ma′ mb′ md′ mc′
     run-lanes l j =
-        lanes-turn lower upper i ev l (j .0 ∙ ap (larger _) (even-pair x y)) (j .1 ∙ ap (larger _) (odd-pair x y))
+        lanes-iteration lower upper i ev l (j .0 ∙ ap (larger _) (even-pair x y)) (j .1 ∙ ap (larger _) (odd-pair x y))
         (j .3 ∙ ap (larger _) (even-pair y x)) (j .2 ∙ ap (larger _) (odd-pair y x))
 
   -- the lanes joined have the largest entry of both ends
@@ -124,7 +124,7 @@ module _ {l : List ℕ} {n g e end size one k : ℕ} (r : Runs l n g e end size 
 
     abbrev run : Float → Float → ℕ → Float
     run x y =
-        backwardRule x y (inTurn (getD up m nan) (getD up (m + one) nan)) (inTurn (getD down m nan) (getD down (m + one) nan)) (entries v (src + 2 * k))
+        backwardRule x y (alternating (getD up m nan) (getD up (m + one) nan)) (alternating (getD down m nan) (getD down (m + one) nan)) (entries v (src + 2 * k))
 
     abbrev past : ℕ
     past = dst + 2 * end
@@ -145,9 +145,9 @@ module _ {l : List ℕ} {n g e end size one k : ℕ} (r : Runs l n g e end size 
           (let t : src + 2 * k + (2 * i + 1) ≡ src + (2 * (k + i) + 1) = omega arith in rw t (kept (2 * (k + i) + 1) (omega arith))) in
           rw (run-weight r at m p up i c, run-weight r at m p down i c, even, odd)
 
-      pub runs-turn : (v′ : List Float) → v′ ≡ ends v (dst + k) (past - k) (run ep em) (run em ep) size
+      pub runs-iteration : (v′ : List Float) → v′ ≡ ends v (dst + k) (past - k) (run ep em) (run em ep) size
           → v′ ≡ ends d dst past (step ep em) (step em ep) (k + size)
-      runs-turn v′ w′ =
+      runs-iteration v′ w′ =
           let fits = run-ends r at under in
           let q = r .ends in
           w′ ∙ ap (λ (t : List Float). ends t (dst + k) (past - k) (run ep em) (run em ep) size) w
