@@ -7,7 +7,9 @@ ghost use Rattle.vertex.specs.Ready.{Ready};
 ghost use Rattle.propagation.specs.Current.{AdvanceSteps, Advanced, Propagated};
 use half_steps::half_alternate;
 use plan::forward_place;
-use vertex::forward_through;
+use vertex::Pass;
+use vertex::Way;
+use vertex::step_through;
 
 // The current propagated vector: of which vertex, which vertex it has reached, and its place. The vertex is n where there is none.
 pub struct CurrentVector {
@@ -42,6 +44,7 @@ fn advance(
     requires { ⌜ Ready (now plan) (length (now room)) n w scales × (from ≤ to) × (to < n) × (at < 2) ⌝ }
     ensures { λ r. ⌜ Advanced (now (plan .entry)) (now (room .entry)) (now (room .exit)) n w scales from at to r ⌝ }
 {
+    let factors = scales + n;
     let mut bits = [0usize; 4];
     let mut up = [0.0f64; 16];
     let mut down = [0.0f64; 16];
@@ -56,18 +59,21 @@ fn advance(
         let scale = room[scales + next];
         let then = room[scales + last];
         let dst = 1 - src;
-        forward_through(
-            room,
-            scales + n,
-            plan,
+        let pass = Pass {
+            factors,
             w,
-            next,
+            t: next,
             last,
+            way: Way::Propagated,
             scale,
             then,
-            true,
             src,
             dst,
+        };
+        step_through(
+            room,
+            plan,
+            pass,
             false,
             &mut bits,
             &mut up,

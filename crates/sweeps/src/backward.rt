@@ -14,7 +14,9 @@ use crate::target::start_at;
 use half_sums::half_stored;
 use half_sums::is_due;
 use plan::backward_place;
-use vertex::backward_through;
+use vertex::Pass;
+use vertex::Way;
+use vertex::step_through;
 
 // The last vertex of an iteration from t on. Two steps are taken in one pass where no largest entry is due between them and the vector between
 // them is not kept; in a window below 6 one at a time is quicker.
@@ -101,17 +103,21 @@ pub fn sweep_backward(
         let u = last - 1;
         let dst = place_for(backward_place(plan, u), src);
         let due = is_due(per_element, 0, last);
-        most = backward_through(
-            room,
+        let pass = Pass {
             factors,
-            plan,
             w,
             t,
             last,
+            way: Way::Backward,
             scale,
-            1.0,
+            then: 1.0,
             src,
             dst,
+        };
+        most = step_through(
+            room,
+            plan,
+            pass,
             due,
             &mut bits,
             &mut up,

@@ -11,7 +11,9 @@ use crate::target::place_for;
 use crate::target::start_at;
 use half_sums::is_due;
 use plan::forward_place;
-use vertex::forward_through;
+use vertex::Pass;
+use vertex::Way;
+use vertex::step_through;
 
 // The last vertex of an iteration from t on. Two steps are taken in one pass where no largest entry is due between them and the vector between
 // them is not kept; in a window below 6 one at a time is quicker.
@@ -70,18 +72,21 @@ pub fn sweep_forward(
         room[scales + t] = scale;
         let dst = place_for(forward_place(plan, last), src);
         let due = is_due(per_element, 3, last);
-        most = forward_through(
-            room,
+        let pass = Pass {
             factors,
-            plan,
             w,
             t,
             last,
+            way: Way::Forward,
             scale,
-            1.0,
-            false,
+            then: 1.0,
             src,
             dst,
+        };
+        most = step_through(
+            room,
+            plan,
+            pass,
             due,
             &mut bits,
             &mut up,

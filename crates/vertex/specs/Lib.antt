@@ -2,5 +2,6 @@
 pub mod Same
 pub mod Frame
 pub mod Ready
+pub mod Way
 pub mod Through
 pub mod Steady

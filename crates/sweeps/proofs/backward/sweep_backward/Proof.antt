@@ -78,8 +78,8 @@ place-for-requires-2 c κs = search needs
 is-due-requires : tie.Need-is-due-requires Inv-loop μ-loop
 is-due-requires c κs = tt
 
-backward-through-requires : tie.Need-backward-through-requires Inv-loop μ-loop
-backward-through-requires c κs =
+step-through-requires : tie.Need-step-through-requires Inv-loop μ-loop
+step-through-requires c κs =
     let placed = c .before .before .before .before .before .before .before .before in
     let g = placed .before .before .before .before .loop .inv in
     let steps = placed .before .before .backward-last .ensures in
@@ -90,7 +90,7 @@ loop-less c = omega (arith, ends (c .before .before .before .before .before .bef
 
 loop-again : tie.Need-loop-again Inv-loop μ-loop
 loop-again c =
-    let stepped = c .before .before .backward-through .ensures in
+    let stepped = c .before .before .step-through .ensures in
     let due = c .before .before .before .before .before .before .before .before .before .before .is-due .ensures in
     let placed = c .before .before .before .before .before .before .before .before .before .before .before in
     let g = placed .before .before .before .before .loop .inv in
@@ -131,7 +131,7 @@ sweep-backward-spec =
     backward-place-requires-2
     place-for-requires-2
     is-due-requires
-    backward-through-requires
+    step-through-requires
     loop-less
     loop-again
     same-length

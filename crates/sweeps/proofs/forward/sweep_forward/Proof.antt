@@ -74,8 +74,8 @@ place-for-requires c κs = search needs
 is-due-requires : tie.Need-is-due-requires Inv-loop μ-loop
 is-due-requires c κs = tt
 
-forward-through-requires : tie.Need-forward-through-requires Inv-loop μ-loop
-forward-through-requires c κs =
+step-through-requires : tie.Need-step-through-requires Inv-loop μ-loop
+step-through-requires c κs =
     let placed = c .before .before .before .before .before .before .before .before in
     let in-loop = placed .before .before .before in
     let g = in-loop .before .loop .inv in
@@ -91,7 +91,7 @@ loop-less c = omega (arith, ends (c .before .before .before .before .before .bef
 
 loop-again : tie.Need-loop-again Inv-loop μ-loop
 loop-again c =
-    let stepped = c .before .before .forward-through .ensures in
+    let stepped = c .before .before .step-through .ensures in
     let due = c .before .before .before .before .before .before .before .before .before .before .is-due .ensures in
     let placed = c .before .before .before .before .before .before .before .before .before .before .before in
     let in-loop = placed .before .before .before in
@@ -130,7 +130,7 @@ sweep-forward-spec =
     forward-place-requires
     place-for-requires
     is-due-requires
-    forward-through-requires
+    step-through-requires
     add-t
     loop-less
     loop-again
