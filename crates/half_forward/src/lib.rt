@@ -17,7 +17,8 @@ use largest::Four;
 use largest::joined;
 use largest::larger_of;
 use largest::no_entries;
-use runs::run_bit;
+use runs::StepRuns;
+use runs::step_runs;
 use sweep::pattern_of;
 use sweep::pow2;
 
@@ -93,10 +94,7 @@ fn forward_runs(
         (2 * 2 ^ g)) ⌝ }
     ensures { λ r. ⌜ r ≡ top (entries (now (v .exit)) dst) (2 * 2 ^ g) ⌝ }
 {
-    let end = pow2(g);
-    let e = run_bit(bits, n, 1, g);
-    let size = pow2(e);
-    let one = pattern_of(1, bits, n);
+    let StepRuns { end, e, size, one } = step_runs(bits, n, g);
     let last = src + 2 * end - 1;
     let mut most = 0.0;
     let mut k = 0usize;

@@ -16,8 +16,9 @@ ghost use Rattle.half_stride_backward.specs.Inward.{Parts, inward};
 ghost use Rattle.half_stride_backward.specs.Rule.{frontTwice, endTwice};
 use half_runs::opposed;
 use runs::Four;
+use runs::TwoStepRuns;
 use runs::four_at;
-use runs::runs_of;
+use runs::two_step_runs;
 use sweep::pattern_of;
 use sweep::pow2;
 
@@ -139,13 +140,15 @@ fn backward_runs(
         (weights (now (bits2 .entry)) n2 (now (up2 .entry))) (weights (now (bits2 .entry)) n2 (now (down2 .entry))) (entries (now (v .entry)) src))
         (2 ^ (h - 1)) ⌝ }
 {
-    let end = pow2(h - 1);
-    let quarter = pow2(h);
-    let e = runs_of(bits, n, bits2, n2, h - 1);
-    let size = pow2(e);
-    let one = pattern_of(1, bits, n);
-    let low = pattern_of(1, bits2, n2);
-    let two = pattern_of(2, bits2, n2);
+    let TwoStepRuns {
+        end,
+        quarter,
+        e,
+        size,
+        one,
+        low,
+        two,
+    } = two_step_runs(bits, n, bits2, n2, h);
     let o = dst + quarter;
     let mut k = 0usize;
     while k < end {

@@ -16,8 +16,9 @@ ghost use Rattle.half_stride_forward.specs.Rule.{halfTwice};
 use half_runs::opposed;
 use halves::negated_if;
 use runs::Four;
+use runs::TwoStepRuns;
 use runs::four_at;
-use runs::runs_of;
+use runs::two_step_runs;
 use sweep::pattern_of;
 use sweep::pow2;
 
@@ -142,13 +143,15 @@ fn forward_runs(
         (entries (now (v .entry)) (src + 2 ^ h)) (fromEnd (now (v .entry)) src (2 ^ h)))
         (2 * 2 ^ h)) ⌝ }
 {
-    let end = pow2(h - 1);
-    let quarter = pow2(h);
-    let e = runs_of(bits, n, bits2, n2, h - 1);
-    let size = pow2(e);
-    let one = pattern_of(1, bits, n);
-    let low = pattern_of(1, bits2, n2);
-    let two = pattern_of(2, bits2, n2);
+    let TwoStepRuns {
+        end,
+        quarter,
+        e,
+        size,
+        one,
+        low,
+        two,
+    } = two_step_runs(bits, n, bits2, n2, h);
     let s = src + quarter;
     let mut k = 0usize;
     while k < end {

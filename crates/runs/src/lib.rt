@@ -1,6 +1,11 @@
 // The runs of a step, or of two: indexes in which the patterns change with the lowest bits alone.
-ghost use Prim.Native.Nat.{_+_, _<_, _≤_};
+ghost use mathlib.Core.Path.{_≡_};
+ghost use Prim.Native.Nat.{_+_, _*_, _-_, _<_, _≤_};
+ghost use Rattle.sweep.specs.Step.{Rising};
 ghost use Rattle.runs.specs.Rule.{Picked, Sparse};
+ghost use Rattle.runs.specs.AtRun.{Runs, TwoRuns};
+use sweep::pattern_of;
+use sweep::pow2;
 
 // Weights of one table: at the patterns of an even place and of the one that goes with it, and the same at an odd place.
 pub struct Four {
@@ -51,4 +56,65 @@ pub fn runs_of(bits: &[usize; 4], n: usize, bits2: &[usize; 4], n2: usize, h: us
 {
     let e = run_bit(bits, n, 1, h);
     run_bit(bits2, n2, 2, e + 1) - 1
+}
+
+// The runs of a step: over the first `end` places, with `size`, 2 ^ e, places each; `one` is the pattern of 1.
+pub struct StepRuns {
+    pub end: usize,
+    pub e: usize,
+    pub size: usize,
+    pub one: usize,
+}
+
+// The runs of a step over 2 ^ g places.
+pub fn step_runs(bits: &[usize; 4], n: usize, g: usize) -> StepRuns
+    requires { ⌜ (1 ≤ g) × (g < 23) × Rising (now bits) n (g + 1) ⌝ }
+    ensures { λ r. ⌜ Runs (now (bits .entry)) n g (r .e) (r .end) (r .size) (r .one) ⌝ }
+{
+    let end = pow2(g);
+    let e = run_bit(bits, n, 1, g);
+    let size = pow2(e);
+    let one = pattern_of(1, bits, n);
+    StepRuns { end, e, size, one }
+}
+
+// The runs of two steps: the same over the first half of `quarter` places; `low` and `two` are the second step's patterns of 1 and 2.
+pub struct TwoStepRuns {
+    pub end: usize,
+    pub quarter: usize,
+    pub e: usize,
+    pub size: usize,
+    pub one: usize,
+    pub low: usize,
+    pub two: usize,
+}
+
+// The runs of two steps over 2 ^ h places.
+pub fn two_step_runs(
+    bits: &[usize; 4],
+    n: usize,
+    bits2: &[usize; 4],
+    n2: usize,
+    h: usize,
+) -> TwoStepRuns
+    requires { ⌜ (2 ≤ h) × (h < 23) × Rising (now bits) n (h + 1) × Rising (now bits2) n2 (h + 1) ⌝ }
+    ensures { λ r. ⌜ TwoRuns (now (bits .entry)) n (now (bits2 .entry)) n2 (h - 1) h (r .e) (r .end) (r .quarter) (r .size) (r .one) (r .low) (r .two)
+        × (r .quarter ≡ 2 * r .end) ⌝ }
+{
+    let end = pow2(h - 1);
+    let quarter = pow2(h);
+    let e = runs_of(bits, n, bits2, n2, h - 1);
+    let size = pow2(e);
+    let one = pattern_of(1, bits, n);
+    let low = pattern_of(1, bits2, n2);
+    let two = pattern_of(2, bits2, n2);
+    TwoStepRuns {
+        end,
+        quarter,
+        e,
+        size,
+        one,
+        low,
+        two,
+    }
 }

@@ -3,5 +3,6 @@ mod step;
 mod tables;
 
 pub use step::Pass;
+pub use step::Shape;
 pub use step::Way;
 pub use step::step_through;

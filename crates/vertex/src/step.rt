@@ -19,6 +19,13 @@ use half_stride_forward::half_stride_forward;
 use half_sums::half_stored;
 use plan::near_count;
 
+// The shape of a job's room: how many vertices there are, the window, and where the scales begin.
+pub struct Shape {
+    pub n: usize,
+    pub w: usize,
+    pub scales: usize,
+}
+
 // Which way a pass goes: forward or backward from a symmetric half, or forward from an antisymmetric one, as a propagated vector's is.
 pub enum Way {
     Forward,
