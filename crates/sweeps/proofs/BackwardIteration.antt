@@ -187,8 +187,8 @@ module _ {plan : List ℕ} (e : List Float) {r : List Float} {n w scales : ℕ} 
   begun-since =
       ⊎-elim (λ s. start-since e t g (s .last) target (s .made)) (λ s. rw (s .same) (since-none (forwardPlace plan) e n w scales)) begun
 
-  pub begun-coming : BackwardInvariant plan r r n w scales per-element t t src most
-  begun-coming =
+  pub begun-invariant : BackwardInvariant plan r r n w scales per-element t t src most
+  begun-invariant =
       ⊎-elim
       (λ s. coming-start e t g (s .last) target (s .made) per-element (s .one))
       (λ s. rw (s .same) (coming-resumed e t g (s .early) (from .placed (s .early)) (target .keeps (from .placed (s .early))) per-element (s .taken)))
@@ -222,18 +222,18 @@ module _ {plan : List ℕ} {r₀ r : List Float} {n w scales : ℕ} {per-element
   aim : Aimed (backwardPlace plan) n w scales u src dst
   aim = aimed r (g .ready) before target
 
-  pub coming-fits : Fits w scales dst
-  coming-fits = target-fits aim
+  pub backward-fits : Fits w scales dst
+  backward-fits = target-fits aim
 
   stepping-at : (v : ℕ) → v < n → Stepping plan (length r) w (scales + n) v src dst
   stepping-at v b =
-      stepping (g .ready) v src dst b (g .free .fits) coming-fits (target-other aim (λ v. v < t) (g .free) (omega (arith, order)))
+      stepping (g .ready) v src dst b (g .free .fits) backward-fits (target-other aim (λ v. v < t) (g .free) (omega (arith, order)))
 
-  pub coming-step : Stepping plan (length r) w (scales + n) t src dst
-  coming-step = stepping-at t (g .below)
+  pub backward-stepping : Stepping plan (length r) w (scales + n) t src dst
+  backward-stepping = stepping-at t (g .below)
 
-  pub coming-through : Through plan (length r) w (scales + n) t last
-  coming-through = ⊎-elim inl (λ p. inr (record { wide = p .wide; reads = stepping-at last last-below .reads })) steps
+  pub backward-through : Through plan (length r) w (scales + n) t last
+  backward-through = ⊎-elim inl (λ p. inr (record { wide = p .wide; reads = stepping-at last last-below .reads })) steps
 
   module _ {r₂ : List Float} {one scale most′ : Float} (unit : one ≡ ieee .𝟙) (one-over : scale ≡ div binary64 (ieee .𝟙) most)
       (step : r₂ ≡ hold r w dst (tabulate (through (backwardBy plan (drop (scales + n) r) w) t last scale one (halfAt r w src)) (2 ^ (w - 1))))
@@ -257,7 +257,7 @@ module _ {plan : List ℕ} {r₀ r : List Float} {n w scales : ℕ} {per-element
       newest = g .newest J of given
 
       fits : Fits w (length r) dst
-      fits = place-of (g .ready) dst coming-fits .inside
+      fits = place-of (g .ready) dst backward-fits .inside
 
       said : (v : ℕ) → v < n → stepIn plan (drop (scales + n) r) v ≡ stepOf J v
       said v b = ap (λ (x : List Float). stepIn plan x v) (tail-factors r₀ r scales n (g .since .tail)) ∙ of .step v b

@@ -86,8 +86,8 @@ module _ {plan : List ℕ} (e : List Float) {r : List Float} {n w scales : ℕ} 
   first-symmetric : SymmetricHalf w (halfAt r w 0) (S.start ieee w)
   first-symmetric = symmetric-ext (start-half w (g .wide)) (wrote-half e r w 0 first-wrote first-inside (λ _. ieee .𝟙) refl)
 
-  pub going-start : (per-element : Bool) {one : Float} → one ≡ ieee .𝟙 → ForwardInvariant plan r r n w scales per-element 0 0 one
-  going-start per-element o =
+  pub forward-start : (per-element : Bool) {one : Float} → one ≡ ieee .𝟙 → ForwardInvariant plan r r n w scales per-element 0 0 one
+  forward-start per-element o =
       record {
         below = omega arith;
         ready = rw (start-same .same) g;
@@ -118,8 +118,8 @@ module _ {plan : List ℕ} {r₀ r : List Float} {n w scales : ℕ} {per-element
   aimed : Aimed (forwardPlace plan) n w scales last src dst
   aimed = record { own = g .ready .forward; moving = g .ready .moving; below = last-inside; target = target }
 
-  pub going-fits : Fits w scales dst
-  going-fits = target-fits aimed
+  pub forward-fits : Fits w scales dst
+  forward-fits = target-fits aimed
 
   module _ (one scale : Float) where
     -- the room with the scales
@@ -129,16 +129,16 @@ module _ {plan : List ℕ} {r₀ r : List Float} {n w scales : ℕ} {per-element
     length-same : length r₁ ≡ length r
     length-same = length-set (set r (scales + last) one) (scales + t) scale ∙ length-set r (scales + last) one
 
-    pub going-step : Stepping plan (length r₁) w (scales + n) t src dst
-    going-step =
+    pub forward-stepping : Stepping plan (length r₁) w (scales + n) t src dst
+    forward-stepping =
         rw length-same
-        (stepping (g .ready) t src dst b (g .free .fits) going-fits (target-other aimed (λ u. t ≤ u) (g .free) last-order))
+        (stepping (g .ready) t src dst b (g .free .fits) forward-fits (target-other aimed (λ u. t ≤ u) (g .free) last-order))
 
-    pub going-through : Through plan (length r₁) w (scales + n) t last
-    going-through =
+    pub forward-through : Through plan (length r₁) w (scales + n) t last
+    forward-through =
         rw length-same
         (⊎-elim inl
-        (λ p. inr (record { wide = p .wide; reads = stepping (g .ready) last src dst last-inside (g .free .fits) going-fits (target-other aimed (λ u. t ≤ u) (g .free) last-order) .reads }))
+        (λ p. inr (record { wide = p .wide; reads = stepping (g .ready) last src dst last-inside (g .free .fits) forward-fits (target-other aimed (λ u. t ≤ u) (g .free) last-order) .reads }))
         steps)
 
     room : (u : ℕ) → u < n → scales + u < length r
@@ -226,7 +226,7 @@ module _ {plan : List ℕ} {r₀ r : List Float} {n w scales : ℕ} {per-element
             steps
 
         vector : SymmetricHalf w (halfAt r₂ w dst) (before (suc last) .0)
-        vector = symmetric-ext made (wrote-half r₁ r₂ w dst wrote (inside dst going-fits) half refl)
+        vector = symmetric-ext made (wrote-half r₁ r₂ w dst wrote (inside dst forward-fits) half refl)
 
         kept-vector : (u : ℕ) → u < last + 1 → 0 < forwardPlace plan u → SymmetricHalf w (halfAt r₂ w (forwardPlace plan u)) (S.forward ieee J u)
         kept-vector u c p =
@@ -238,7 +238,7 @@ module _ {plan : List ℕ} {r₀ r : List Float} {n w scales : ℕ} {per-element
             let own = target-own aimed u l (λ x. omega arith) p in
             let early : u < t = ⊎-elim (λ e. omega arith) (λ pair. passed d pair) steps in
             symmetric-ext (newest .kept .vectors u early p)
-            (half-held r r₂ w q (wrote-other r₁ r₂ w dst wrote (inside dst going-fits) q (λ e. own (sym e)) (inside q fu) ∙ places q fu)))
+            (half-held r r₂ w q (wrote-other r₁ r₂ w dst wrote (inside dst forward-fits) q (λ e. own (sym e)) (inside q fu) ∙ places q fu)))
             (λ d.
             let e : u ≡ last = omega arith in
             let p′ : 0 < forwardPlace plan last = rw e at p in
@@ -251,7 +251,7 @@ module _ {plan : List ℕ} {r₀ r : List Float} {n w scales : ℕ} {per-element
 
         kept-scale : (u : ℕ) → u < last + 1 → getD r₂ (scales + u) nan ≡ S.scale ieee J u
         kept-scale u c =
-            wrote-at r₁ r₂ w dst wrote (inside dst going-fits) (scales + u) (omega (arith, going-fits))
+            wrote-at r₁ r₂ w dst wrote (inside dst forward-fits) (scales + u) (omega (arith, forward-fits))
             ∙ dite (decLt u t)
             (λ d.
             getD-set-other (set r (scales + last) one) (scales + t) (scales + u) scale nan (λ x. omega arith)
@@ -292,21 +292,21 @@ module _ {plan : List ℕ} {r₀ r : List Float} {n w scales : ℕ} {per-element
       kept-backward v c p =
           let q = backwardPlace plan v in
           let f = g .ready .backward .fits v c p in
-          wrote-other r₁ r₂ w dst wrote (inside dst going-fits) q
+          wrote-other r₁ r₂ w dst wrote (inside dst forward-fits) q
           (target-kind aimed q (g .ready .backward .high v c p) (λ e. g .ready .kinds last v last-inside c (omega arith) (sym e)))
           (inside q f)
           ∙ places q f ∙ g .since .vectors v c p
 
       pub forward-iteration : ForwardInvariant plan r₀ r₂ n w scales per-element (last + 1) dst most′
       forward-iteration =
-          let fits = inside dst going-fits in
+          let fits = inside dst forward-fits in
           let same : length r₂ ≡ length r = wrote-length r₁ r₂ w dst wrote fits ∙ length-same in
           record {
             below = omega (arith, last-inside);
             ready = rw same (g .ready);
             since = record {
               same = same ∙ g .since .same;
-              tail = wrote-drop r₁ r₂ w dst wrote fits (scales + n) (omega (arith, going-fits)) ∙ tail₁;
+              tail = wrote-drop r₁ r₂ w dst wrote fits (scales + n) (omega (arith, forward-fits)) ∙ tail₁;
               vectors = kept-backward;
             };
             free = target-free aimed (λ u. last + 1 ≤ u) (λ u q e. omega arith);

@@ -15,6 +15,7 @@ use half_sums::half_stored;
 use half_sums::is_due;
 use plan::backward_place;
 use vertex::Pass;
+use vertex::Shape;
 use vertex::Way;
 use vertex::step_through;
 
@@ -76,17 +77,16 @@ fn begin_at(room: &mut [f64], n: usize, w: usize, per_element: bool, t: usize, s
 pub fn sweep_backward(
     room: &mut [f64],
     plan: &[usize],
-    n: usize,
-    w: usize,
-    scales: usize,
+    shape: Shape,
     per_element: bool,
     changed: usize,
 )
-    requires { ⌜ (1 ≤ n) × Ready (now plan) (length (now room)) n w scales ⌝ }
-    ensures { λ _. ⌜ Since (forwardPlace (now (plan .entry))) (now (room .entry)) (now (room .exit)) n w scales ⌝ }
-    ensures { λ _. ⌜ ((J : Job Float) → PlanOf J (now (plan .entry)) (drop (scales + n) (now (room .entry))) n w «per_element»
-        → Stands J (now (plan .entry)) (now (room .entry)) n w changed → Backward J (now (plan .entry)) (now (room .exit)) n w 0) ⌝ }
+    requires { ⌜ (1 ≤ shape .n) × Ready (now plan) (length (now room)) (shape .n) (shape .w) (shape .scales) ⌝ }
+    ensures { λ _. ⌜ Since (forwardPlace (now (plan .entry))) (now (room .entry)) (now (room .exit)) (shape .n) (shape .w) (shape .scales) ⌝ }
+    ensures { λ _. ⌜ ((J : Job Float) → PlanOf J (now (plan .entry)) (drop (shape .scales + shape .n) (now (room .entry))) (shape .n) (shape .w) «per_element»
+        → Stands J (now (plan .entry)) (now (room .entry)) (shape .n) (shape .w) changed → Backward J (now (plan .entry)) (now (room .exit)) (shape .n) (shape .w) 0) ⌝ }
 {
+    let Shape { n, w, scales } = shape;
     let factors = scales + n;
     let mut bits = [0usize; 4];
     let mut up = [0.0f64; 16];

@@ -6,27 +6,21 @@ use Rattle.passed.proofs.answer_job.Reads as reads
 use Rattle.passed.proofs.answer_job.Lts as lts
 use Rattle.passed.proofs.plan_and_run.Reads as plan-and-run-reads
 
--- src/job.rt:82:9
 slice-aggregate-plan-and-run : tie.Need-slice-aggregate-plan-and-run
 slice-aggregate-plan-and-run c = search needs
 
--- src/job.rt:83:9
 slice-aggregate-plan-and-run-2 : tie.Need-slice-aggregate-plan-and-run-2
 slice-aggregate-plan-and-run-2 c = search needs
 
--- src/job.rt:81:5
 plan-and-run-requires : tie.Need-plan-and-run-requires
 plan-and-run-requires c κs = let few = c .before .before .before .before .before .before .before .before .before .before .before .pre .job .edges .few in (c .before .before .before .before .before .before .before .before .before .before .before .pre, (omega arith, omega arith))
 
--- src/job.rt:63:1
 same-length : tie.Need-same-length
 same-length c = search needs
 
--- src/job.rt:63:1
 same-length-2 : tie.Need-same-length-2
 same-length-2 c = search needs
 
--- src/job.rt:63:1
 returns : tie.Need-returns
 returns c = search needs
 

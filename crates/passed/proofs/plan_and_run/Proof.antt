@@ -1,11 +1,10 @@
-use mathlib.Core.Path.{_≡_, refl, sym, ap, _∙_, subst}
-use Prim.Native.Nat.{ℕ, _≤_}
+use mathlib.Core.Path.{refl, sym, _∙_, subst}
+use Prim.Native.Nat.{ℕ}
 use native.Mathlib.Omega.{arith}
-use lib.ListN.{length, take}
+use lib.ListN.{length}
 use lib.Seq.{length-take-le}
 use Rattle.vertex.specs.Ready.{Ready}
 use Rattle.plan.specs.Layout.{Holds}
-use Rattle.vector.specs.Part.{put-length}
 use Rattle.pair_correlations.specs.Planning.{end-fits, ready, serves}
 use Rattle.passed.proofs.Finishing.{factors-fit, finished}
 use borrow.Author.Needs.{needs}
@@ -18,35 +17,28 @@ use Rattle.planned.proofs.run.Reads as run-reads
 use Rattle.places.proofs.order_pairs.Reads as order-pairs-reads
 use Rattle.places.proofs.make_plan.Reads as make-plan-reads
 
--- src/job.rt:40:9
 make-plan-requires : tie.Need-make-plan-requires
 make-plan-requires c κs = search needs
 
--- src/job.rt:42:17
 slice-relend-prefix-first : tie.Need-slice-relend-prefix-first
 slice-relend-prefix-first c = search needs
 
--- src/job.rt:42:9
 slice-aggregate-first : tie.Need-slice-aggregate-first
 slice-aggregate-first c = sym (length-take-le (length (c .before .before .before .before .before .before .before .before .before .before .before .before .before .before .args .us .now)) (c .before .before .before .before .before .before .before .before .before .before .before .before .before .before .args .order .now) (omega (arith, c .before .before .before .before .before .before .before .before .before .before .before .before .before .before .pre .0 .job .few-pairs)))
 
--- src/job.rt:43:5
 order-pairs-requires : tie.Need-order-pairs-requires
 order-pairs-requires c κs =
     let p = c .before .before .before .before .before .before .before .before .before .before .before .before .before .before .before .pre in
     (p .0 .job .pairs, p .0 .job .edges .few, length-take-le (length (c .before .before .before .before .before .before .before .before .before .before .before .before .before .before .before .args .us .now)) (c .before .before .before .before .before .before .before .before .before .before .before .before .before .before .before .args .order .now) (omega (arith, p .0 .job .few-pairs)))
 
--- src/job.rt:45:16
 slice-relend-prefix-room : tie.Need-slice-relend-prefix-room
 slice-relend-prefix-room c = search needs
 
--- src/job.rt:45:9
 slice-aggregate-room : tie.Need-slice-aggregate-room
 slice-aggregate-room c =
     let e = end-fits _ _ _ _ _ _ _ _ _ _ _ _ (c .before .before .before .before .before .before .before .before .before .before .before .before .before .before .before .before .before .before .before .pre .0 .job) (c .before .before .before .before .before .before .before .before .make-plan .ensures) in
     sym (length-take-le (c .before .before .before .before .before .before .before .before .make-plan .result .room) (c .before .before .before .before .before .before .before .before .before .before .before .before .before .before .before .before .before .before .before .args .work .now) e)
 
--- src/job.rt:46:5
 lay-factors-requires : tie.Need-lay-factors-requires
 lay-factors-requires c κs =
     let p = c .before .before .before .before .before .before .before .before .before .before .before .before .before .before .before .before .before .before .before .before .pre .0 in
@@ -56,7 +48,6 @@ lay-factors-requires c κs =
     let t = length-take-le (c .before .before .before .before .before .before .before .before .before .make-plan .result .room) (c .before .before .before .before .before .before .before .before .before .before .before .before .before .before .before .before .before .before .before .before .args .work .now) e in
     omega arith
 
--- src/job.rt:47:5
 run-requires : tie.Need-run-requires
 run-requires c κs =
     let s = c .before .before .before .before .before .before .before .before .before .before .before .before .before .before .before .before .before .before .before .before .before .before .before .before .before .before in
@@ -74,23 +65,18 @@ run-requires c κs =
       p .fitting,
     )
 
--- src/job.rt:21:1
 same-length : tie.Need-same-length
 same-length c = search needs
 
--- src/job.rt:21:1
 same-length-2 : tie.Need-same-length-2
 same-length-2 c = search needs
 
--- src/job.rt:21:1
 same-length-3 : tie.Need-same-length-3
 same-length-3 c = search needs
 
--- src/job.rt:21:1
 same-length-4 : tie.Need-same-length-4
 same-length-4 c = search needs
 
--- src/job.rt:21:1
 returns : tie.Need-returns
 returns c =
     let s = c .before .before .before .before .before .before .before .before .before .before .before .before .before .before .before .before .before .before .before .before .before .before .before .before .before .before .before .before .before .before .before .before .before in

@@ -9,15 +9,12 @@ use Rattle.planned.proofs.clear.Reads as reads
 use Rattle.planned.proofs.clear.Lts as lts
 use Rattle.sweep.proofs.fill.Reads as fill-reads
 
--- src/run.rt:37:5
 fill-requires : tie.Need-fill-requires
 fill-requires c κs = search needs
 
--- src/run.rt:33:1
 same-length : tie.Need-same-length
 same-length c = search needs
 
--- src/run.rt:33:1
 returns : tie.Need-returns
 returns c = all-zeros (c .before .before .before .before .before .args .list .now) _ _ _ zero-is refl (c .before .before .fill .ensures)
 

@@ -1,5 +1,5 @@
-use mathlib.Core.Path.{_≡_, refl, sym, ap, _∙_}
-use Prim.Native.Nat.{ℕ, _+_, _-_, _≤_, _<_}
+use mathlib.Core.Path.{_≡_, refl, ap, _∙_}
+use Prim.Native.Nat.{_+_, _-_, _≤_, _<_}
 use native.Mathlib.Omega.{arith}
 use lib.Ieee.{nan}
 use lib.ListN.{length, getD}
@@ -18,50 +18,39 @@ Inv-loop room₀ at x e₀ room e = (e ≤ length x) × (room ≡ put room₀ at
 abbrev μ-loop : tie.MeasureT-loop
 μ-loop room₀ at x e₀ room e = length x - e
 
--- src/run.rt:26:5
 loop-holds : tie.Need-loop-holds Inv-loop μ-loop
 loop-holds c = (omega arith, fill-none _ _ _)
 
--- src/run.rt:27:24
 mul-room : tie.Need-mul-room Inv-loop μ-loop
 mul-room c = search needs
 
--- src/run.rt:27:24
 shared-slice-read-room : tie.Need-shared-slice-read-room Inv-loop μ-loop
 shared-slice-read-room c = search needs
 
--- src/run.rt:27:14
 add-room : tie.Need-add-room Inv-loop μ-loop
 add-room c = search needs
 
--- src/run.rt:27:9
 mul-room-2 : tie.Need-mul-room-2 Inv-loop μ-loop
 mul-room-2 c = search needs
 
--- src/run.rt:27:9
 slice-write-room : tie.Need-slice-write-room Inv-loop μ-loop
 slice-write-room c = let i = c .before .before .loop in let l = fill-length (c .before .before .before .args .room .now) (c .before .before .before .args .at) (λ j. getD (c .before .before .before .args .x .now) j nan) (i .e) (omega arith) in omega (arith, ap length (i .inv .1))
 
--- src/run.rt:28:9
 add-e : tie.Need-add-e Inv-loop μ-loop
 add-e c = search needs
 
--- src/run.rt:26:5
 loop-less : tie.Need-loop-less Inv-loop μ-loop
 loop-less c = search needs
 
--- src/run.rt:26:5
 loop-again : tie.Need-loop-again Inv-loop μ-loop
 loop-again c =
     let a = c .before .before .before .args in
     let b : a .at + c .before .before .loop .e < length (a .room .now) = omega arith in
     (omega arith, rw (c .before .before .loop .inv .1) (fill-one _ _ _ _ _ b refl))
 
--- src/run.rt:21:1
 same-length : tie.Need-same-length Inv-loop μ-loop
 same-length c = let a = c .before .before .args in ap length (c .before .loop .inv .1) ∙ fill-length (a .room .now) (a .at) (λ j. getD (a .x .now) j nan) (c .before .loop .e) (omega arith)
 
--- src/run.rt:21:1
 returns : tie.Need-returns Inv-loop μ-loop
 returns c = let a = c .before .before .args in c .before .loop .inv .1 ∙ entries-are (a .room .now) (a .at) (a .x .now) _ (omega arith)
 

@@ -1,9 +1,6 @@
-use mathlib.Core.Path.{_≡_, refl, sym, ap, _∙_, subst}
+use mathlib.Core.Path.{sym, ap, _∙_, subst}
 use Prim.Native.Nat.{ℕ}
 use native.Mathlib.Omega.{arith}
-use lib.Ieee.{Float}
-use mathlib.Core.List.{List}
-use lib.ListN.{length}
 use borrow.Author.Tests.{not-true, not-false}
 use Rattle.vertex.specs.Ready.{Ready}
 use Rattle.planned.specs.Zeros.{zeros}
@@ -17,34 +14,27 @@ use Rattle.pair_correlations.proofs.answer_pairs.Reads as answer-pairs-reads
 use Rattle.planned.proofs.clear.Reads as clear-reads
 use Rattle.sweeps.proofs.sweep.Reads as sweep-reads
 
--- src/run.rt:61:5
 sweep-requires : tie.Need-sweep-requires
 sweep-requires c κs = search needs
 
--- src/run.rt:62:9
 answer-pairs-requires : tie.Need-answer-pairs-requires
 answer-pairs-requires c κs =
     let s = c .before .before .before .before .before .before .before .before .before .before .before .before in
     let p = s .pre in
     (subst (λ (k : ℕ). Ready (s .args .plan .now) k (s .args .n) (s .args .w) (s .args .scales)) (sym (c .before .before .before .before .sweep .ensures .0 .same)) (p .1), p .2, p .3, p .4)
 
--- src/run.rt:63:5
 clear-requires : tie.Need-clear-requires
 clear-requires c κs = search needs
 
--- src/run.rt:65:9
 clear-requires-2 : tie.Need-clear-requires-2
 clear-requires-2 c κs = search needs
 
--- src/run.rt:42:1
 same-length : tie.Need-same-length
 same-length c = search needs
 
--- src/run.rt:42:1
 same-length-2 : tie.Need-same-length-2
 same-length-2 c = search needs
 
--- src/run.rt:42:1
 returns : tie.Need-returns
 returns c =
     let s = c .before .before .before .before .before .before .before .before .before .before .before .before .before .before .before .before .before .before .before .before .before .before .before .before .before .before in
@@ -54,15 +44,12 @@ returns c =
     let z = c .before .before .clear2 .ensures ∙ ap zeros (a .kept .1 .1 .1 .1 .1 .1 .1 .1 .0 ∙ s .pre .4) in
     (room, one-unsound (s .args .plan .now) (s .args .us .now) (s .args .vs .now) (s .args .room .now) _ _ _ _ _ _ _ (w .ensures .0) (λ J of. w .ensures .1 J of (λ b. absurd (omega arith))) (a .ensures .1) _ _ (not-true _ (c .before .before .before .before .if1 .taken)) z)
 
--- src/run.rt:42:1
 same-length-3 : tie.Need-same-length-3
 same-length-3 c = search needs
 
--- src/run.rt:42:1
 same-length-4 : tie.Need-same-length-4
 same-length-4 c = search needs
 
--- src/run.rt:42:1
 returns-2 : tie.Need-returns-2
 returns-2 c =
     let s = c .before .before .before .before .before .before .before .before .before .before .before .before .before .before .before .before .before .before .before .before .before .before in

@@ -8,10 +8,10 @@ use Rattle.propagation.proofs.current.advance.Statement.{statement}
 use Rattle.propagation.proofs.current.advance.Tie as tie
 
 abbrev Inv-loop : tie.InvT-loop
-Inv-loop room₀ plan n w scales from to at factors bits₀ up₀ down₀ bits2₀ up2₀ down2₀ src₀ t₀ room bits up down bits2 up2 down2 src t = (t ≤ to) × Advanced plan room₀ room n w scales from at t src
+Inv-loop room₀ plan from to at n w scales factors bits₀ up₀ down₀ bits2₀ up2₀ down2₀ src₀ t₀ room bits up down bits2 up2 down2 src t = (t ≤ to) × Advanced plan room₀ room n w scales from at t src
 
 abbrev μ-loop : tie.MeasureT-loop
-μ-loop room₀ plan n w scales from to at factors bits₀ up₀ down₀ bits2₀ up2₀ down2₀ src₀ t₀ room bits up down bits2 up2 down2 src t = to - t
+μ-loop room₀ plan from to at n w scales factors bits₀ up₀ down₀ bits2₀ up2₀ down2₀ src₀ t₀ room bits up down bits2 up2 down2 src t = to - t
 
 -- the next vertex, and the last one of the iteration
 order : (c : tie.In-loop Inv-loop μ-loop) → c .before .loop .t + 1 ≤ c .before .before .before .before .args .to

@@ -1,4 +1,4 @@
--- Each steps takes the step from the newest vector and keeps what it gave.
+-- Each iteration takes the step from the newest vector and keeps what it gave.
 use mathlib.Core.Path.{_≡_, _∙_}
 use Prim.Native.Nat.{_+_, _-_, _≤_}
 use native.Mathlib.Omega.{arith}
@@ -10,15 +10,15 @@ use Rattle.vertex.specs.Ready.{tail-factors}
 use Rattle.sweeps.specs.Target.{Target}
 use Rattle.sweeps.specs.BackwardInvariant.{BackwardInvariant}
 use Rattle.sweeps.proofs.Frames.{place-of, since-then}
-use Rattle.sweeps.proofs.BackwardIteration.{written-fits, begun-since, begun-coming, begun-stands, steps-inside, coming-fits, coming-step, coming-through, backward-iteration}
+use Rattle.sweeps.proofs.BackwardIteration.{written-fits, begun-since, begun-invariant, begun-stands, steps-inside, backward-stepping, backward-through, backward-iteration}
 use Rattle.sweeps.proofs.backward.sweep_backward.Statement.{statement}
 use Rattle.sweeps.proofs.backward.sweep_backward.Tie as tie
 
 abbrev Inv-loop : tie.InvT-loop
-Inv-loop room₀ plan n w scales per-element changed factors bits₀ up₀ down₀ bits2₀ up2₀ down2₀ t₀ src₀ most₀ room bits up down bits2 up2 down2 t src most = BackwardInvariant plan room₀ room n w scales per-element t₀ t src most
+Inv-loop room₀ plan per-element changed n w scales factors bits₀ up₀ down₀ bits2₀ up2₀ down2₀ t₀ src₀ most₀ room bits up down bits2 up2 down2 t src most = BackwardInvariant plan room₀ room n w scales per-element t₀ t src most
 
 abbrev μ-loop : tie.MeasureT-loop
-μ-loop room₀ plan n w scales per-element changed factors bits₀ up₀ down₀ bits2₀ up2₀ down2₀ t₀ src₀ most₀ room bits up down bits2 up2 down2 t src most = t
+μ-loop room₀ plan per-element changed n w scales factors bits₀ up₀ down₀ bits2₀ up2₀ down2₀ t₀ src₀ most₀ room bits up down bits2 up2 down2 t src most = t
 
 -- the place of the vertex where the sweep begins
 first : (c : tie.After-place-for Inv-loop μ-loop)
@@ -61,7 +61,7 @@ loop-holds : tie.Need-loop-holds Inv-loop μ-loop
 loop-holds c =
     let s = c .before .before .before .before .before .before .before .before .before in
     let placed = c .before .before .before .before in
-    begun-coming (s .args .room .now) (s .pre .1) (placed .before .before .kept-from .ensures) (first placed) (c .before .before .begin-at .ensures)
+    begun-invariant (s .args .room .now) (s .pre .1) (placed .before .before .kept-from .ensures) (first placed) (c .before .before .begin-at .ensures)
 
 backward-last-requires : tie.Need-backward-last-requires Inv-loop μ-loop
 backward-last-requires c κs = (omega (arith, c .before .loop .inv .ready .holds, c .before .loop .inv .below), c .loop-test .taken)
@@ -83,7 +83,7 @@ step-through-requires c κs =
     let placed = c .before .before .before .before .before .before .before .before in
     let g = placed .before .before .before .before .loop .inv in
     let steps = placed .before .before .backward-last .ensures in
-    (coming-step _ g steps (next placed) (target placed), coming-through _ g steps (next placed) (target placed))
+    (backward-stepping _ g steps (next placed) (target placed), backward-through _ g steps (next placed) (target placed))
 
 loop-less : tie.Need-loop-less Inv-loop μ-loop
 loop-less c = omega (arith, ends (c .before .before .before .before .before .before .before .before .before .before .before .before .before))
@@ -111,7 +111,7 @@ returns c =
       since-then start (g .since),
       λ J of given.
           rw none at
-          (g .newest J (rw (tail-factors _ _ _ (s .args .n) (start .tail)) of) (begun-stands (s .args .room .now) (s .pre .1) from (first placed) begun J given) .kept),
+          (g .newest J (rw (tail-factors _ _ _ (s .args .shape .n) (start .tail)) of) (begun-stands (s .args .room .now) (s .pre .1) from (first placed) begun J given) .kept),
     )
 
 pub sweep-backward-spec : {M : Type 1} → statement M

@@ -1,8 +1,8 @@
--- Each steps stores a scale, takes the step from the newest vector, and keeps what it gave.
+-- Each iteration stores a scale, takes the step from the newest vector, and keeps what it gave.
 use mathlib.Core.Path.{_≡_, _∙_}
 use Prim.Native.Nat.{_-_, _≤_, _<_}
 use native.Mathlib.Omega.{arith}
-use lib.ListN.{length, length-set}
+use lib.ListN.{length-set}
 use borrow.Author.Needs.{needs}
 use Rattle.plan.specs.Layout.{forwardPlace}
 use Rattle.sweep.specs.Constants.{one-is}
@@ -11,20 +11,20 @@ use Rattle.vertex.specs.Frame.{moving-fits}
 use Rattle.sweeps.specs.Target.{Target}
 use Rattle.sweeps.specs.ForwardInvariant.{ForwardInvariant}
 use Rattle.sweeps.proofs.Frames.{place-of, since-then}
-use Rattle.sweeps.proofs.ForwardIteration.{start-same, going-start, steps-inside, going-fits, going-step, going-through, forward-iteration}
+use Rattle.sweeps.proofs.ForwardIteration.{start-same, forward-start, steps-inside, forward-stepping, forward-through, forward-iteration}
 use Rattle.sweeps.proofs.forward.sweep_forward.Statement.{statement}
 use Rattle.sweeps.proofs.forward.sweep_forward.Tie as tie
 
 abbrev Inv-loop : tie.InvT-loop
-Inv-loop room₀ plan n w scales per-element factors bits₀ up₀ down₀ bits2₀ up2₀ down2₀ src₀ most₀ t₀ room bits up down bits2 up2 down2 src most t = ForwardInvariant plan room₀ room n w scales per-element t src most
+Inv-loop room₀ plan per-element n w scales factors bits₀ up₀ down₀ bits2₀ up2₀ down2₀ src₀ most₀ t₀ room bits up down bits2 up2 down2 src most t = ForwardInvariant plan room₀ room n w scales per-element t src most
 
 abbrev μ-loop : tie.MeasureT-loop
-μ-loop room₀ plan n w scales per-element factors bits₀ up₀ down₀ bits2₀ up2₀ down2₀ src₀ most₀ t₀ room bits up down bits2 up2 down2 src most t = n - t
+μ-loop room₀ plan per-element n w scales factors bits₀ up₀ down₀ bits2₀ up2₀ down2₀ src₀ most₀ t₀ room bits up down bits2 up2 down2 src most t = n - t
 
 -- the last vertex of the iteration
 ends : (c : tie.After-forward-last Inv-loop μ-loop)
     → let l = c .before .before .loop in
-    (l .t ≤ c .forward-last .result) × (c .forward-last .result < c .before .before .before .before .before .before .before .before .before .args .n)
+    (l .t ≤ c .forward-last .result) × (c .forward-last .result < c .before .before .before .before .before .before .before .before .before .args .shape .n)
 ends c = steps-inside (c .forward-last .ensures) (c .before .loop-test .taken)
 
 -- the target of its step
@@ -42,7 +42,7 @@ start-at-requires c κs = let p = c .before .before .before .pre in place-of p 0
 loop-holds : tie.Need-loop-holds Inv-loop μ-loop
 loop-holds c =
     let s = c .before .before .before .before .before .before in
-    going-start (s .args .room .now) (s .pre) (c .before .before .start-at .ensures) (s .args .per-element) one-is
+    forward-start (s .args .room .now) (s .pre) (c .before .before .start-at .ensures) (s .args .per-element) one-is
 
 forward-last-requires : tie.Need-forward-last-requires Inv-loop μ-loop
 forward-last-requires c κs = (omega (arith, c .before .loop .inv .ready .holds), c .loop-test .taken)
@@ -81,10 +81,10 @@ step-through-requires c κs =
     let g = in-loop .before .loop .inv in
     let b = in-loop .loop-test .taken in
     let steps = placed .before .before .forward-last .ensures in
-    (going-step g b steps (target placed) _ _, going-through g b steps (target placed) _ _)
+    (forward-stepping g b steps (target placed) _ _, forward-through g b steps (target placed) _ _)
 
 add-t : tie.Need-add-t Inv-loop μ-loop
-add-t c = omega (arith, ends (c .before .before .before .before .before .before .before .before .before .before .before .before .before), c .before .before .before .before .before .before .before .before .before .before .before .before .before .before .before .before .before .before .before .before .before .before .fits)
+add-t c = let s = c .before .before .before .before .before .before .before .before .before .before .before .before .before .before .before .before .before .before .before .before .before .before in omega (arith, ends (c .before .before .before .before .before .before .before .before .before .before .before .before .before), s .pre .ends, s .good)
 
 loop-less : tie.Need-loop-less Inv-loop μ-loop
 loop-less c = omega (arith, ends (c .before .before .before .before .before .before .before .before .before .before .before .before .before))
@@ -106,7 +106,7 @@ returns c =
     let s = c .before .before .before .before .before .before .before .before in
     let g = c .before .loop .inv in
     let first = start-same (s .args .room .now) (s .pre) (c .before .before .before .before .start-at .ensures) in
-    let all : c .before .loop .t ≡ s .args .n = omega (arith, g .below) in (
+    let all : c .before .loop .t ≡ s .args .shape .n = omega (arith, g .below) in (
       since-then first (g .since),
       λ J of. rw all at (g .newest J (rw (first .tail) of) .kept),
     )

@@ -1,5 +1,5 @@
 -- One step or two, as `last` says.
-use mathlib.Core.Path.{_≡_, sym, ap, _∙_}
+use mathlib.Core.Path.{sym, ap, _∙_}
 use Rattle.sweep.specs.Constants.{one-is}
 use Rattle.half_sums.specs.Stored.{mostIf}
 use Rattle.vertex.specs.Through.{second-of, through-one, through-two}

@@ -1,6 +1,5 @@
 use mathlib.Core.Path.{refl}
 use native.Mathlib.Omega.{arith}
-use borrow.Author.Tests.{eqb-true}
 use Rattle.vertex.proofs.Factors.{factor-is}
 use borrow.Author.Needs.{needs}
 use Rattle.vertex.proofs.tables.factor_of.Statement.{statement}
@@ -8,27 +7,21 @@ use Rattle.vertex.proofs.tables.factor_of.Tie as tie
 use Rattle.vertex.proofs.tables.factor_of.Reads as reads
 use Rattle.vertex.proofs.tables.factor_of.Lts as lts
 
--- src/tables.rt:56:9
 returns : tie.Need-returns
 returns c = λ z. absurd (z (omega arith))
 
--- src/tables.rt:58:21
 sub-result : tie.Need-sub-result
 sub-result c = search needs
 
--- src/tables.rt:58:10
 add-result : tie.Need-add-result
 add-result c = search needs
 
--- src/tables.rt:58:5
 mul-result : tie.Need-mul-result
 mul-result c = search needs
 
--- src/tables.rt:58:5
 shared-slice-read-result : tie.Need-shared-slice-read-result
 shared-slice-read-result c = search needs
 
--- src/tables.rt:51:1
 returns-2 : tie.Need-returns-2
 returns-2 c = λ z. factor-is (c .before .before .args .room .now) (c .before .before .args .factors) _ _ refl
 

@@ -23,59 +23,45 @@ Inv-loop room factors plan w t x₀ bits₀ count i₀ x bits i =
 abbrev μ-loop : tie.MeasureT-loop
 μ-loop room factors plan w t x₀ bits₀ count i₀ x bits i = count - i
 
--- src/tables.rt:32:9
 near-count-requires : tie.Need-near-count-requires Inv-loop μ-loop
 near-count-requires c κs = search needs
 
--- src/tables.rt:34:5
 loop-holds : tie.Need-loop-holds Inv-loop μ-loop
 loop-holds c = (c .near-count .ensures, omega arith, entered-none nan _ _, entered-none 0 _ _)
 
--- src/tables.rt:35:13
 near-edge-requires : tie.Need-near-edge-requires Inv-loop μ-loop
 near-edge-requires c κs = search needs
 
--- src/tables.rt:36:21
 add-x : tie.Need-add-x Inv-loop μ-loop
 add-x c = let s = c .before .before .before .before .before .before .before .before in omega (arith, s .pre .0 .ends, s .pre .0 .vertex .edge (c .before .before .loop .i) (omega arith), c .near-edge .ensures)
 
--- src/tables.rt:36:16
 mul-x : tie.Need-mul-x Inv-loop μ-loop
 mul-x c = let s = c .before .before .before .before .before .before .before .before in omega (arith, s .pre .0 .ends, s .pre .0 .vertex .edge (c .before .before .loop .i) (omega arith), c .near-edge .ensures)
 
--- src/tables.rt:36:16
 shared-slice-read-x : tie.Need-shared-slice-read-x Inv-loop μ-loop
 shared-slice-read-x c = let s = c .before .before .before .before .before .before .before .before .before in omega (arith, s .pre .0 .ends, s .pre .0 .vertex .edge (c .before .before .before .loop .i) (omega arith), c .before .near-edge .ensures)
 
--- src/tables.rt:36:9
 mul-x-2 : tie.Need-mul-x-2 Inv-loop μ-loop
 mul-x-2 c = search needs
 
--- src/tables.rt:36:9
 slice-write-x : tie.Need-slice-write-x Inv-loop μ-loop
 slice-write-x c = let s = c .before .before .before .before .before .before .before .before .before in omega (arith, s .pre .1, s .pre .0 .vertex .few, c .before .before .before .loop .inv .2 .same)
 
--- src/tables.rt:37:19
 near-bit-requires : tie.Need-near-bit-requires Inv-loop μ-loop
 near-bit-requires c κs = search needs
 
--- src/tables.rt:37:9
 mul-bits : tie.Need-mul-bits Inv-loop μ-loop
 mul-bits c = search needs
 
--- src/tables.rt:37:9
 slice-write-bits : tie.Need-slice-write-bits Inv-loop μ-loop
 slice-write-bits c = let s = c .before .before .before .before .before .before .before .before .before .before in omega (arith, s .pre .2, s .pre .0 .vertex .few, c .before .before .before .before .loop .inv .3 .same)
 
--- src/tables.rt:38:9
 add-i : tie.Need-add-i Inv-loop μ-loop
 add-i c = search needs
 
--- src/tables.rt:34:5
 loop-less : tie.Need-loop-less Inv-loop μ-loop
 loop-less c = search needs
 
--- src/tables.rt:34:5
 loop-again : tie.Need-loop-again Inv-loop μ-loop
 loop-again c =
     let l = c .before .before .before .before .loop in
@@ -87,15 +73,12 @@ loop-again c =
       entered-more 0 _ (l .bits) _ (l .i) _ (l .inv .3) (omega (arith, s .pre .2, s .pre .0 .vertex .few)) (c .near-bit .ensures),
     )
 
--- src/tables.rt:18:1
 same-length : tie.Need-same-length Inv-loop μ-loop
 same-length c = c .before .loop .inv .2 .same
 
--- src/tables.rt:18:1
 same-length-2 : tie.Need-same-length-2 Inv-loop μ-loop
 same-length-2 c = c .before .loop .inv .3 .same
 
--- src/tables.rt:18:1
 returns : tie.Need-returns Inv-loop μ-loop
 returns c = ((λ i b. c .before .loop .inv .2 .at i (omega arith)), λ i b. c .before .loop .inv .3 .at i (omega arith))
 

@@ -13,47 +13,36 @@ use Rattle.sweep.proofs.left_factor.Reads as left-factor-reads
 use Rattle.vertex.proofs.tables.factor_of.Reads as factor-of-reads
 use Rattle.vertex.proofs.tables.near_edges.Reads as near-edges-reads
 
--- src/tables.rt:71:43
 slice-aggregate-near-edges : tie.Need-slice-aggregate-near-edges
 slice-aggregate-near-edges c = search needs
 
--- src/tables.rt:71:5
 near-edges-requires : tie.Need-near-edges-requires
 near-edges-requires c κs = search needs
 
--- src/tables.rt:72:21
 near-count-requires : tie.Need-near-count-requires
 near-count-requires c κs = search needs
 
--- src/tables.rt:72:5
 fill-tables-requires : tie.Need-fill-tables-requires
 fill-tables-requires c κs = let s = c .before .before .before .before .before .before .before .before .before .before .before .before .before .before .before .pre in (omega (arith, c .before .before .near-count .ensures, s .0 .vertex .few), s .2, s .3)
 
--- src/tables.rt:73:9
 left-edge-requires : tie.Need-left-edge-requires
 left-edge-requires c κs = search needs
 
--- src/tables.rt:74:25
 factor-of-requires : tie.Need-factor-of-requires
 factor-of-requires c κs = search needs
 
--- src/tables.rt:74:5
 left-factor-requires : tie.Need-left-factor-requires
 left-factor-requires c κs = search needs
 
--- src/tables.rt:54:1
 same-length : tie.Need-same-length
 same-length c = search needs
 
--- src/tables.rt:54:1
 same-length-2 : tie.Need-same-length-2
 same-length-2 c = search needs
 
--- src/tables.rt:54:1
 same-length-3 : tie.Need-same-length-3
 same-length-3 c = search needs
 
--- src/tables.rt:54:1
 returns : tie.Need-returns
 returns c =
     let s = c .before .before .before .before .before .before .before .before .before .before .before .before .before .before .before .before .before .before .before .before .before .before .before in
