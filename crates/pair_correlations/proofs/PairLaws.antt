@@ -17,7 +17,7 @@ use Rattle.halves.specs.Symmetric.{SymmetricHalf}
 use Rattle.halves.specs.Antisymmetric.{AntisymmetricHalf}
 use Rattle.half_sums.specs.Terms.{halfAt, terms, signs}
 use Rattle.half_sums.specs.declared.sums.Source.{Source}
-use Rattle.half_sums.specs.Pair.{Sourced}
+use Rattle.half_sums.specs.Pair.{Sourced, SumsOf}
 use Rattle.half_sums.specs.Vertex.{Z-is, direct-is, propagated-is}
 use Rattle.vertex.specs.Ready.{Ready, still-none, still-ready, moving-place}
 use Rattle.propagation.specs.declared.current.CurrentVector.{CurrentVector}

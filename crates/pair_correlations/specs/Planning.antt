@@ -1,18 +1,19 @@
 -- What the plan of a job ensures is what the sweeps and the answers ask for.
-use mathlib.Core.Path.{_≡_, refl}
+use mathlib.Core.Path.{_≡_, refl, sym, ap, _∙_}
 use mathlib.Core.Bool.{Bool, cond}
 use mathlib.Core.List.{List}
 use Prim.Native.Nat.{ℕ, _+_, _*_, _-_, _^_, _≤_, _<_}
+use native.Mathlib.Nat.{mul-le-mul-right}
 use native.Mathlib.Omega.{arith}
-use lib.ListN.{length}
+use lib.ListN.{length, getD}
 use lib.Ieee.{Float, nan}
 use Rattle.transfer.specs.Job.{block, perElement}
 use Rattle.transfer.specs.Configuration.{jobOf}
 use Rattle.plan.specs.Layout.{Holds, forwardPlace, backwardPlace}
-use Rattle.places.specs.Places.{moving, placesOf, forward-inside, backward-inside, forward-apart, backward-apart, kinds-apart}
-use Rattle.places.specs.Work.{Planned, place-fits}
+use Rattle.places.specs.Places.{moving, placesOf, backwardFrom, forward-inside, backward-inside, forward-apart, backward-apart, kinds-apart}
+use Rattle.places.specs.Work.{Laid, Planned, place-fits}
 use Rattle.places.specs.Plannable.{Plannable}
-use Rattle.vertex.specs.Ready.{Ready, PlanOf}
+use Rattle.vertex.specs.Ready.{Own, Ready, PlanOf}
 use Rattle.pair_correlations.specs.Served.{Served, served}
 
 module _ (plan early late us vs : List ℕ) (n w places scales factors end : ℕ) (g : Planned plan early late us vs n w places scales factors end) where

@@ -11,7 +11,6 @@ use plan::backward_place;
 use plan::forward_place;
 use propagation::CurrentVector;
 use propagation::propagate;
-use vertex::Shape;
 
 // Where a pair's sums are read, and the current propagated vector.
 pub struct Aim {
@@ -38,22 +37,24 @@ pub fn direct_source(plan: &[usize], n: usize, w: usize, u: usize, v: usize) -> 
 pub fn aim_at(
     room: &mut [f64],
     plan: &[usize],
-    shape: Shape,
+    n: usize,
+    w: usize,
+    scales: usize,
     u: usize,
     v: usize,
     current: CurrentVector,
 ) -> Aim
-    requires { ⌜ Ready (now plan) (length (now room)) (shape .n) (shape .w) (shape .scales) × PairPlaces (now plan) (shape .n) (shape .w) u v × (current .place < 2) ⌝ }
-    ensures { λ r. ⌜ Aimed (now (plan .entry)) (now (room .entry)) (now (room .exit)) (shape .n) (shape .w) (shape .scales) u v current r ⌝ }
+    requires { ⌜ Ready (now plan) (length (now room)) n w scales × PairPlaces (now plan) n w u v × (current .place < 2) ⌝ }
+    ensures { λ r. ⌜ Aimed (now (plan .entry)) (now (room .entry)) (now (room .exit)) n w scales u v current r ⌝ }
 {
-    let direct = direct_source(plan, shape.n, shape.w, u, v);
-    if v - u < shape.w {
+    let direct = direct_source(plan, n, w, u, v);
+    if v - u < w {
         return Aim {
             source: direct,
             current: current,
         };
     }
-    let place = propagate(room, plan, shape, u, v, current);
+    let place = propagate(room, plan, n, w, scales, u, v, current);
     let reached = CurrentVector {
         vertex: u,
         reached: v,
@@ -63,7 +64,7 @@ pub fn aim_at(
         f: direct.f,
         g: place,
         b: direct.b,
-        d: shape.w,
+        d: w,
     };
     Aim {
         source: far,

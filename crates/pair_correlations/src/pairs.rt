@@ -23,7 +23,6 @@ use propagation::CurrentVector;
 use propagation::Pairing;
 use propagation::direct_pairs;
 use propagation::next_pairing;
-use vertex::Shape;
 
 // The current propagated vector after two pairs, and whether their Z are finite and above zero.
 pub struct Step {
@@ -57,7 +56,9 @@ fn second_source(
 fn answer_two(
     room: &mut [f64],
     plan: &[usize],
-    shape: Shape,
+    n: usize,
+    w: usize,
+    scales: usize,
     us: &[usize],
     vs: &[usize],
     p: usize,
@@ -65,17 +66,26 @@ fn answer_two(
     current: CurrentVector,
     results: &mut [f64],
 ) -> Step
-    requires { ⌜ Ready (now plan) (length (now room)) (shape .n) (shape .w) (shape .scales) × Served (now plan) (now us) (now vs) (shape .n) (shape .w)
-        × (p < length (now us)) × (q < length (now us)) × Second (now us) (now vs) (shape .w) p q × (current .place < 2) × (length (now results) ≡ length (now us)) ⌝ }
+    requires { ⌜ Ready (now plan) (length (now room)) n w scales × Served (now plan) (now us) (now vs) n w
+        × (p < length (now us)) × (q < length (now us)) × Second (now us) (now vs) w p q × (current .place < 2) × (length (now results) ≡ length (now us)) ⌝ }
     ensures { λ r. ⌜ AnsweredTwo (now (plan .entry)) (now (us .entry)) (now (vs .entry)) (now (room .entry)) (now (room .exit))
-        (now (results .entry)) (now (results .exit)) (shape .n) (shape .w) (shape .scales) p q current r ⌝ }
+        (now (results .entry)) (now (results .exit)) n w scales p q current r ⌝ }
 {
     let a = us[p];
     let b = vs[p];
-    let aim = aim_at(room, plan, shape, earlier(a, b), later(a, b), current);
+    let aim = aim_at(
+        room,
+        plan,
+        n,
+        w,
+        scales,
+        earlier(a, b),
+        later(a, b),
+        current,
+    );
     let source = aim.source;
-    let other = second_source(plan, us, vs, shape.n, shape.w, p, q, source);
-    let sums = half_sums_of_two(room, shape.w, source, other);
+    let other = second_source(plan, us, vs, n, w, p, q, source);
+    let sums = half_sums_of_two(room, w, source, other);
     let x = sums.first;
     let y = sums.second;
     if !is_sound(x.z) {
@@ -119,7 +129,6 @@ pub fn answer_pairs(
         → Swept J (now (plan .entry)) (now (room .entry)) n w scales
         → Outcome J (now (us .entry)) (now (vs .entry)) (now (results .exit)) r) ⌝ }
 {
-    let shape = Shape { n, w, scales };
     let directs = direct_pairs(us, vs, order, n, w);
     let all = order.len();
     let mut current = CurrentVector {
@@ -139,7 +148,9 @@ pub fn answer_pairs(
         let step = answer_two(
             room,
             plan,
-            shape,
+            n,
+            w,
+            scales,
             us,
             vs,
             order[first],

@@ -1,19 +1,20 @@
 -- A finished job, from its plan, the factors in the room and what the run said.
-use mathlib.Core.Path.{_≡_, sym, ap, _∙_}
+use mathlib.Core.Path.{_≡_, refl, sym, ap, _∙_, subst}
 use mathlib.Core.Bool.{Bool, cond, not}
 use mathlib.Core.List.{List, _++_}
-use Prim.Native.Nat.{ℕ, _+_, _≤_, _<_}
+use Prim.Native.Nat.{ℕ, _+_, _*_, _≤_, _<_}
 use native.Mathlib.Omega.{arith}
 use lib.Ieee.{Float, nan}
-use lib.ListN.{length, getD, take, drop, length-drop, length-replicate}
+use lib.ListN.{length, getD, take, drop, replicate, length-drop, length-replicate}
 use lib.Seq.{ext-getD, getD-drop, length-take-le}
-use Rattle.vector.specs.Part.{put, part-at, part-put, put-length}
+use Rattle.vector.specs.Front.{over}
+use Rattle.vector.specs.Part.{put, part, part-at, part-put, put-length}
 use Rattle.transfer.specs.Job.{Job, block, perElement}
 use Rattle.transfer.specs.Configuration.{jobOf}
 use Rattle.transfer.specs.Room.{room}
 use Rattle.transfer.specs.Rounded.{ieee}
 use Rattle.transfer.specs.Sweep as S
-use Rattle.places.specs.Work.{Planned}
+use Rattle.places.specs.Work.{Laid, Planned}
 use Rattle.vertex.specs.Ready.{PlanOf}
 use Rattle.pair_correlations.specs.Sound.{unsound}
 use Rattle.pair_correlations.specs.Planning.{plan-of, end-fits}

@@ -1,14 +1,14 @@
 -- A list at +0.0 throughout, and a list laid into another.
 use mathlib.Core.Path.{_≡_, refl, sym, ap, _∙_}
-use mathlib.Core.List.{List}
-use Prim.Native.Nat.{ℕ, _+_, _≤_, _<_}
+use mathlib.Core.List.{List, [], _∷_, _++_}
+use Prim.Native.Nat.{ℕ, zero, suc, _+_, _≤_, _<_}
 use native.Mathlib.Nat.{zero-add}
 use native.Mathlib.Omega.{arith}
 use lib.Ieee.{Float, nan}
-use lib.ListN.{length, getD, length-replicate, getD-replicate}
+use lib.ListN.{length, getD, take, drop, replicate, length-replicate, getD-replicate}
 use lib.Seq.{ext-getD}
 use Rattle.vector.specs.Tabulate.{tabulate, tabulate-length, tabulate-at, tabulated}
-use Rattle.vector.specs.Part.{put, part-at, part-put, put-length}
+use Rattle.vector.specs.Part.{put, part, part-at, part-put, put-length}
 use Rattle.transfer.specs.Rounded.{ieee}
 use Rattle.planned.specs.Zeros.{zeros}
 

@@ -7,10 +7,7 @@ ghost use Rattle.vertex.specs.Ready.{Ready};
 ghost use Rattle.propagation.specs.Current.{AdvanceSteps, Advanced, Propagated};
 use half_steps::half_alternate;
 use plan::forward_place;
-use vertex::Pass;
-use vertex::Shape;
-use vertex::Way;
-use vertex::step_through;
+use vertex::forward_through;
 
 // The current propagated vector: of which vertex, which vertex it has reached, and its place. The vertex is n where there is none.
 pub struct CurrentVector {
@@ -35,16 +32,16 @@ fn advance_last(w: usize, t: usize, to: usize) -> usize
 fn advance(
     room: &mut [f64],
     plan: &[usize],
-    shape: Shape,
+    n: usize,
+    w: usize,
+    scales: usize,
     from: usize,
     to: usize,
     at: usize,
 ) -> usize
-    requires { ⌜ Ready (now plan) (length (now room)) (shape .n) (shape .w) (shape .scales) × (from ≤ to) × (to < shape .n) × (at < 2) ⌝ }
-    ensures { λ r. ⌜ Advanced (now (plan .entry)) (now (room .entry)) (now (room .exit)) (shape .n) (shape .w) (shape .scales) from at to r ⌝ }
+    requires { ⌜ Ready (now plan) (length (now room)) n w scales × (from ≤ to) × (to < n) × (at < 2) ⌝ }
+    ensures { λ r. ⌜ Advanced (now (plan .entry)) (now (room .entry)) (now (room .exit)) n w scales from at to r ⌝ }
 {
-    let Shape { n, w, scales } = shape;
-    let factors = scales + n;
     let mut bits = [0usize; 4];
     let mut up = [0.0f64; 16];
     let mut down = [0.0f64; 16];
@@ -59,21 +56,18 @@ fn advance(
         let scale = room[scales + next];
         let then = room[scales + last];
         let dst = 1 - src;
-        let pass = Pass {
-            factors,
+        forward_through(
+            room,
+            scales + n,
+            plan,
             w,
-            t: next,
+            next,
             last,
-            way: Way::Propagated,
             scale,
             then,
+            true,
             src,
             dst,
-        };
-        step_through(
-            room,
-            plan,
-            pass,
             false,
             &mut bits,
             &mut up,
@@ -93,20 +87,22 @@ fn advance(
 pub fn propagate(
     room: &mut [f64],
     plan: &[usize],
-    shape: Shape,
+    n: usize,
+    w: usize,
+    scales: usize,
     u: usize,
     v: usize,
     current: CurrentVector,
 ) -> usize
-    requires { ⌜ Ready (now plan) (length (now room)) (shape .n) (shape .w) (shape .scales) × (u ≤ v) × (v < shape .n) × (0 < forwardPlace (now plan) u) × (current .place < 2) ⌝ }
-    ensures { λ r. ⌜ Propagated (now (plan .entry)) (now (room .entry)) (now (room .exit)) (shape .n) (shape .w) (shape .scales) u v current r ⌝ }
+    requires { ⌜ Ready (now plan) (length (now room)) n w scales × (u ≤ v) × (v < n) × (0 < forwardPlace (now plan) u) × (current .place < 2) ⌝ }
+    ensures { λ r. ⌜ Propagated (now (plan .entry)) (now (room .entry)) (now (room .exit)) n w scales u v current r ⌝ }
 {
     if current.vertex == u {
         if current.reached <= v {
-            return advance(room, plan, shape, current.reached, v, current.place);
+            return advance(room, plan, n, w, scales, current.reached, v, current.place);
         }
     }
     let f = forward_place(plan, u);
-    half_alternate(room, f, 0, shape.w);
-    advance(room, plan, shape, u, v, 0)
+    half_alternate(room, f, 0, w);
+    advance(room, plan, n, w, scales, u, v, 0)
 }

@@ -232,8 +232,8 @@ module _ {plan : List ℕ} {r₀ r : List Float} {n w scales : ℕ} {per-element
   pub backward-stepping : Stepping plan (length r) w (scales + n) t src dst
   backward-stepping = stepping-at t (g .below)
 
-  pub backward-through : Through plan (length r) w (scales + n) t last
-  backward-through = ⊎-elim inl (λ p. inr (record { wide = p .wide; reads = stepping-at last last-below .reads })) steps
+  pub backward-steps : Through plan (length r) w (scales + n) t last
+  backward-steps = ⊎-elim inl (λ p. inr (record { wide = p .wide; reads = stepping-at last last-below .reads })) steps
 
   module _ {r₂ : List Float} {one scale most′ : Float} (unit : one ≡ ieee .𝟙) (one-over : scale ≡ div binary64 (ieee .𝟙) most)
       (step : r₂ ≡ hold r w dst (tabulate (through (backwardBy plan (drop (scales + n) r) w) t last scale one (halfAt r w src)) (2 ^ (w - 1))))

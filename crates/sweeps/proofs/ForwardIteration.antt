@@ -134,8 +134,8 @@ module _ {plan : List ℕ} {r₀ r : List Float} {n w scales : ℕ} {per-element
         rw length-same
         (stepping (g .ready) t src dst b (g .free .fits) forward-fits (target-other aimed (λ u. t ≤ u) (g .free) last-order))
 
-    pub forward-through : Through plan (length r₁) w (scales + n) t last
-    forward-through =
+    pub forward-steps : Through plan (length r₁) w (scales + n) t last
+    forward-steps =
         rw length-same
         (⊎-elim inl
         (λ p. inr (record { wide = p .wide; reads = stepping (g .ready) last src dst last-inside (g .free .fits) forward-fits (target-other aimed (λ u. t ≤ u) (g .free) last-order) .reads }))

@@ -14,10 +14,7 @@ use crate::target::start_at;
 use half_sums::half_stored;
 use half_sums::is_due;
 use plan::backward_place;
-use vertex::Pass;
-use vertex::Shape;
-use vertex::Way;
-use vertex::step_through;
+use vertex::backward_through;
 
 // The last vertex of an iteration from t on. Two steps are taken in one pass where no largest entry is due between them and the vector between
 // them is not kept; in a window below 6 one at a time is quicker.
@@ -77,16 +74,17 @@ fn begin_at(room: &mut [f64], n: usize, w: usize, per_element: bool, t: usize, s
 pub fn sweep_backward(
     room: &mut [f64],
     plan: &[usize],
-    shape: Shape,
+    n: usize,
+    w: usize,
+    scales: usize,
     per_element: bool,
     changed: usize,
 )
-    requires { ⌜ (1 ≤ shape .n) × Ready (now plan) (length (now room)) (shape .n) (shape .w) (shape .scales) ⌝ }
-    ensures { λ _. ⌜ Since (forwardPlace (now (plan .entry))) (now (room .entry)) (now (room .exit)) (shape .n) (shape .w) (shape .scales) ⌝ }
-    ensures { λ _. ⌜ ((J : Job Float) → PlanOf J (now (plan .entry)) (drop (shape .scales + shape .n) (now (room .entry))) (shape .n) (shape .w) «per_element»
-        → Stands J (now (plan .entry)) (now (room .entry)) (shape .n) (shape .w) changed → Backward J (now (plan .entry)) (now (room .exit)) (shape .n) (shape .w) 0) ⌝ }
+    requires { ⌜ (1 ≤ n) × Ready (now plan) (length (now room)) n w scales ⌝ }
+    ensures { λ _. ⌜ Since (forwardPlace (now (plan .entry))) (now (room .entry)) (now (room .exit)) n w scales ⌝ }
+    ensures { λ _. ⌜ ((J : Job Float) → PlanOf J (now (plan .entry)) (drop (scales + n) (now (room .entry))) n w «per_element»
+        → Stands J (now (plan .entry)) (now (room .entry)) n w changed → Backward J (now (plan .entry)) (now (room .exit)) n w 0) ⌝ }
 {
-    let Shape { n, w, scales } = shape;
     let factors = scales + n;
     let mut bits = [0usize; 4];
     let mut up = [0.0f64; 16];
@@ -103,21 +101,17 @@ pub fn sweep_backward(
         let u = last - 1;
         let dst = place_for(backward_place(plan, u), src);
         let due = is_due(per_element, 0, last);
-        let pass = Pass {
+        most = backward_through(
+            room,
             factors,
+            plan,
             w,
             t,
             last,
-            way: Way::Backward,
             scale,
-            then: 1.0,
+            1.0,
             src,
             dst,
-        };
-        most = step_through(
-            room,
-            plan,
-            pass,
             due,
             &mut bits,
             &mut up,

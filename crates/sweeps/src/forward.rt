@@ -11,10 +11,7 @@ use crate::target::place_for;
 use crate::target::start_at;
 use half_sums::is_due;
 use plan::forward_place;
-use vertex::Pass;
-use vertex::Shape;
-use vertex::Way;
-use vertex::step_through;
+use vertex::forward_through;
 
 // The last vertex of an iteration from t on. Two steps are taken in one pass where no largest entry is due between them and the vector between
 // them is not kept; in a window below 6 one at a time is quicker.
@@ -42,13 +39,19 @@ fn forward_last(plan: &[usize], n: usize, w: usize, per_element: bool, t: usize)
 
 // Steps from vertex 0 to the last: stores every scale, and keeps the lower halves of the forward vectors that the plan has a place for. In
 // the block manner the largest entry is taken after steps with t % 4 = 3.
-pub fn sweep_forward(room: &mut [f64], plan: &[usize], shape: Shape, per_element: bool)
-    requires { ⌜ Ready (now plan) (length (now room)) (shape .n) (shape .w) (shape .scales) ⌝ }
-    ensures { λ _. ⌜ Since (backwardPlace (now (plan .entry))) (now (room .entry)) (now (room .exit)) (shape .n) (shape .w) (shape .scales + shape .n) ⌝ }
-    ensures { λ _. ⌜ ((J : Job Float) → PlanOf J (now (plan .entry)) (drop (shape .scales + shape .n) (now (room .entry))) (shape .n) (shape .w) «per_element»
-        → Forward J (now (plan .entry)) (now (room .exit)) (shape .w) (shape .scales) (shape .n)) ⌝ }
+pub fn sweep_forward(
+    room: &mut [f64],
+    plan: &[usize],
+    n: usize,
+    w: usize,
+    scales: usize,
+    per_element: bool,
+)
+    requires { ⌜ Ready (now plan) (length (now room)) n w scales ⌝ }
+    ensures { λ _. ⌜ Since (backwardPlace (now (plan .entry))) (now (room .entry)) (now (room .exit)) n w (scales + n) ⌝ }
+    ensures { λ _. ⌜ ((J : Job Float) → PlanOf J (now (plan .entry)) (drop (scales + n) (now (room .entry))) n w «per_element»
+        → Forward J (now (plan .entry)) (now (room .exit)) w scales n) ⌝ }
 {
-    let Shape { n, w, scales } = shape;
     let factors = scales + n;
     let mut bits = [0usize; 4];
     let mut up = [0.0f64; 16];
@@ -67,21 +70,18 @@ pub fn sweep_forward(room: &mut [f64], plan: &[usize], shape: Shape, per_element
         room[scales + t] = scale;
         let dst = place_for(forward_place(plan, last), src);
         let due = is_due(per_element, 3, last);
-        let pass = Pass {
+        most = forward_through(
+            room,
             factors,
+            plan,
             w,
             t,
             last,
-            way: Way::Forward,
             scale,
-            then: 1.0,
+            1.0,
+            false,
             src,
             dst,
-        };
-        most = step_through(
-            room,
-            plan,
-            pass,
             due,
             &mut bits,
             &mut up,

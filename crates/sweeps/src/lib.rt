@@ -13,7 +13,6 @@ mod target;
 
 pub use backward::sweep_backward;
 pub use forward::sweep_forward;
-use vertex::Shape;
 
 // Both sweeps: what the pairs are answered from. The kept backward vectors from vertex `changed` on stand already, and are not worked out
 // again; none does where `changed` is the last vertex or more.
@@ -31,7 +30,6 @@ pub fn sweep(
     ensures { λ _. ⌜ ((J : Job Float) → PlanOf J (now (plan .entry)) (drop (scales + n) (now (room .entry))) n w «per_element»
         → Stands J (now (plan .entry)) (now (room .entry)) n w changed → Swept J (now (plan .entry)) (now (room .exit)) n w scales) ⌝ }
 {
-    let shape = Shape { n, w, scales };
-    sweep_forward(room, plan, shape, per_element);
-    sweep_backward(room, plan, shape, per_element, changed);
+    sweep_forward(room, plan, n, w, scales, per_element);
+    sweep_backward(room, plan, n, w, scales, per_element, changed);
 }

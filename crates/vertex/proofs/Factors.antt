@@ -1,14 +1,15 @@
 -- The factors in the room, read by edge.
 use mathlib.Core.Path.{_≡_, refl, sym, ap, _∙_, subst}
-use mathlib.Core.Bool.{not}
-use mathlib.Core.List.{List}
+use mathlib.Core.Bool.{Bool, true, false, not}
+use mathlib.Core.List.{List, []}
+use mathlib.Core.Option.{Option, none, some}
 use Prim.Native.Nat.{ℕ, zero, suc, _+_, _-_, _≤_, _<_}
 use native.Mathlib.Omega.{arith}
 use lib.Dec.{eqb, eqb·suc-zero}
 use lib.ListN.{getD, drop}
 use lib.Seq.{getD-drop}
 use lib.Ieee.{Float, nan, binary64, div}
-use Rattle.transfer.specs.Job.{Step}
+use Rattle.transfer.specs.Job.{Back, Step}
 use Rattle.plan.specs.Layout.{Vertex, named, nearFrom, stepIn, leftEdge as leftOf, nearCount, nearEdge, nearBit}
 use Rattle.transfer.specs.Rounded.{ieee}
 use Rattle.transfer.specs.Sweep as S

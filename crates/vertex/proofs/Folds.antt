@@ -1,5 +1,5 @@
 -- In a wide window a backward step reads its half there, and not back.
-use mathlib.Core.Path.{_≡_, ap, _∙_}
+use mathlib.Core.Path.{_≡_, _∙_}
 use mathlib.Core.List.{List}
 use Prim.Native.Nat.{ℕ, _+_, _*_, _-_, _^_, _≤_, _<_, min}
 use native.Mathlib.Omega.{arith}
@@ -25,16 +25,11 @@ step-same w s sc f g wide same j b =
     rw (same (2 * k) (omega arith), same (2 * k + 1) (omega arith))
 
 -- two steps, the one by s after the one by s′
-fold-both : (w : ℕ) (s : Step Float) (sc : Float) (s′ : Step Float) (sc′ : Float) (h : ℕ → Float) → 4 ≤ w
+pub fold-twice : (w : ℕ) (s : Step Float) (sc : Float) (s′ : Step Float) (sc′ : Float) (h : ℕ → Float) → 4 ≤ w
     → tabulate (backwardFold w s sc (backwardFold w s′ sc′ h)) (2 ^ (w - 1)) ≡ tabulate (backwardHalf w s sc (backwardHalf w s′ sc′ h)) (2 ^ (w - 1))
-fold-both w s sc s′ sc′ h wide =
+fold-twice w s sc s′ sc′ h wide =
     let wide′ : 2 ≤ w = omega arith in
     tabulate-ext (backwardFold w s sc (backwardFold w s′ sc′ h)) (backwardHalf w s sc (backwardHalf w s′ sc′ h)) (2 ^ (w - 1))
     (λ j b.
     fold-wide w s sc (backwardFold w s′ sc′ h) j b wide′
     ∙ step-same w s sc (backwardFold w s′ sc′ h) (backwardHalf w s′ sc′ h) wide′ (λ i c. fold-wide w s′ sc′ h i c wide′) j b)
-
--- so the room is the same by either
-pub fold-twice : (w : ℕ) (s : Step Float) (sc : Float) (s′ : Step Float) (sc′ : Float) (h : ℕ → Float) → 4 ≤ w → (r : List Float) (p : ℕ)
-    → half-to r w p (2 ^ (w - 1)) (backwardFold w s sc (backwardFold w s′ sc′ h)) ≡ half-to r w p (2 ^ (w - 1)) (backwardHalf w s sc (backwardHalf w s′ sc′ h))
-fold-twice w s sc s′ sc′ h wide r p = ap (hold r w p) (fold-both w s sc s′ sc′ h wide)

@@ -1,6 +1,6 @@
 -- What a half vector that is written to a place leaves as it was: the room's length, the other places, and what lies behind the places.
-use mathlib.Core.Path.{_≡_, sym, ap, _∙_, subst}
-use mathlib.Core.List.{List}
+use mathlib.Core.Path.{_≡_, refl, sym, ap, _∙_, subst}
+use mathlib.Core.List.{List, []}
 use mathlib.Core.Logic.{_⊎_, inl, inr, dite}
 use Prim.Native.Nat.{ℕ, zero, suc, _+_, _*_, _-_, _^_, _≤_, _<_}
 use native.Mathlib.Decide.{decLt}
@@ -11,7 +11,7 @@ use lib.Seq.{ext-getD, getD-drop, getD-set-other}
 use lib.Ieee.{Float, nan}
 use Rattle.vector.specs.Power.{pow-double}
 use Rattle.vector.specs.Tabulate.{tabulate, tabulate-at}
-use Rattle.vector.specs.Part.{Apart, part-length, part-at, put-length, put-out, part-put, part-put-out}
+use Rattle.vector.specs.Part.{part, put, Apart, part-length, part-at, put-length, put-out, part-put, part-put-out}
 use Rattle.sweep.specs.Place.{held, hold}
 use Rattle.half_sums.specs.Terms.{halfAt}
 

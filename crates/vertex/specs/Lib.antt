@@ -2,6 +2,5 @@
 pub mod Same
 pub mod Frame
 pub mod Ready
-pub mod Way
 pub mod Through
 pub mod Steady

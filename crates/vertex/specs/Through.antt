@@ -1,6 +1,6 @@
 -- The steps of a sweep at t and then at `last`, in one pass; or the one at t alone, where `last` is t.
-use mathlib.Core.Path.{_≡_, ap, _∙_}
-use mathlib.Core.Bool.{Bool, true, false, cond}
+use mathlib.Core.Path.{_≡_}
+use mathlib.Core.Bool.{Bool, cond}
 use mathlib.Core.List.{List}
 use mathlib.Core.Logic.{_⊎_, inl, inr}
 use Prim.Native.Nat.{ℕ, _≤_}
@@ -10,8 +10,6 @@ use borrow.Author.Tests.{eq-eqb, ne-eqb}
 use Rattle.plan.specs.Layout.{stepIn}
 use Rattle.halves.specs.Half.{forwardHalf, negatedIf}
 use Rattle.half_backward.specs.Fold.{backwardFold}
-use Rattle.vertex.specs.declared.step.Way.{Way}
-use Rattle.vertex.specs.Way.{isBackward, isAntisymmetric}
 use Rattle.vertex.specs.Ready.{Readable}
 
 -- What a second step asks.
@@ -33,9 +31,6 @@ forwardBy plan x w antisymmetric u scale h = forwardHalf w (stepIn plan x u) sca
 abbrev pub backwardBy : (plan : List ℕ) (x : List Float) (w : ℕ) → ℕ → Float → (ℕ → Float) → ℕ → Float
 backwardBy plan x w u scale h = backwardFold w (stepIn plan x u) scale h
 
-abbrev pub stepBy : (plan : List ℕ) (x : List Float) (w : ℕ) → Way → ℕ → Float → (ℕ → Float) → ℕ → Float
-stepBy plan x w way u scale h = cond (isBackward way) (backwardBy plan x w u scale h) (forwardBy plan x w (isAntisymmetric way) u scale h)
-
 -- The step at t with the scale; and then, where `last` is not t, the one at `last` with the other scale.
 unfoldable pub through : (ℕ → Float → (ℕ → Float) → ℕ → Float) → (t last : ℕ) (scale then : Float) → (ℕ → Float) → ℕ → Float
 through step t last scale then h = cond (eqb last t) (step t scale h) (step last then (step t scale h))
@@ -50,20 +45,3 @@ module _ (step : ℕ → Float → (ℕ → Float) → ℕ → Float) (t last : 
   pub through-two : (last ≡ t → ⊥) → through step t last scale then h ≡ step last then (step t scale h)
   unfolding through
   through-two e = rw (ne-eqb last t e)
-
-module _ (plan : List ℕ) (x : List Float) (w : ℕ) (way : Way) where
-  pub backward-by : isBackward way ≡ true → (u : ℕ) (s : Float) (h : ℕ → Float) → stepBy plan x w way u s h ≡ backwardBy plan x w u s h
-  backward-by e u s h = rw e
-
-  pub forward-by : isBackward way ≡ false → (u : ℕ) (s : Float) (h : ℕ → Float)
-      → stepBy plan x w way u s h ≡ forwardBy plan x w (isAntisymmetric way) u s h
-  forward-by e u s h = rw e
-
-  pub backward-both : isBackward way ≡ true → (u v : ℕ) (s r : Float) (h : ℕ → Float)
-      → stepBy plan x w way v r (stepBy plan x w way u s h) ≡ backwardBy plan x w v r (backwardBy plan x w u s h)
-  backward-both e u v s r h = backward-by e v r (stepBy plan x w way u s h) ∙ ap (backwardBy plan x w v r) (backward-by e u s h)
-
-  pub forward-both : isBackward way ≡ false → (u v : ℕ) (s r : Float) (h : ℕ → Float)
-      → stepBy plan x w way v r (stepBy plan x w way u s h)
-      ≡ forwardBy plan x w (isAntisymmetric way) v r (forwardBy plan x w (isAntisymmetric way) u s h)
-  forward-both e u v s r h = forward-by e v r (stepBy plan x w way u s h) ∙ ap (forwardBy plan x w (isAntisymmetric way) v r) (forward-by e u s h)

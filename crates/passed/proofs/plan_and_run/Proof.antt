@@ -1,10 +1,11 @@
-use mathlib.Core.Path.{refl, sym, _∙_, subst}
-use Prim.Native.Nat.{ℕ}
+use mathlib.Core.Path.{_≡_, refl, sym, ap, _∙_, subst}
+use Prim.Native.Nat.{ℕ, _≤_}
 use native.Mathlib.Omega.{arith}
-use lib.ListN.{length}
+use lib.ListN.{length, take}
 use lib.Seq.{length-take-le}
 use Rattle.vertex.specs.Ready.{Ready}
 use Rattle.plan.specs.Layout.{Holds}
+use Rattle.vector.specs.Part.{put-length}
 use Rattle.pair_correlations.specs.Planning.{end-fits, ready, serves}
 use Rattle.passed.proofs.Finishing.{factors-fit, finished}
 use borrow.Author.Needs.{needs}

@@ -14,12 +14,12 @@ sub-if1 c = search needs
 
 returns : tie.Need-returns
 returns c =
-    let s = c .before .before .before .before .before in
-    aimed-direct _ (s .args .room .now) _ _ _ _ _ _ _ (s .pre .0) (s .pre .1) (c .before .before .direct-source .ensures) (omega arith) (s .pre .2) _ refl refl
+    let s = c .before .before .before .before in
+    aimed-direct _ (s .args .room .now) _ _ _ _ _ _ _ (s .pre .0) (s .pre .1) (c .before .direct-source .ensures) (omega arith) (s .pre .2) _ refl refl
 
 propagate-requires : tie.Need-propagate-requires
 propagate-requires c κs =
-    let s = c .before .before .before .before .before .before in
+    let s = c .before .before .before .before .before in
     (s .pre .0, omega (arith, s .pre .1 .order), s .pre .1 .inside, s .pre .1 .propagated (omega arith), s .pre .2)
 
 same-length : tie.Need-same-length
@@ -27,8 +27,8 @@ same-length c = search needs
 
 returns-2 : tie.Need-returns-2
 returns-2 c =
-    let s = c .before .before .before .before .before .before .before .before .before in
-    aimed-far _ _ _ _ _ _ _ _ _ (s .pre .0) (s .pre .1) (c .before .before .before .before .before .before .direct-source .ensures) _ _ (omega arith)
+    let s = c .before .before .before .before .before .before .before .before in
+    aimed-far _ _ _ _ _ _ _ _ _ (s .pre .0) (s .pre .1) (c .before .before .before .before .before .direct-source .ensures) _ _ (omega arith)
     (c .before .before .propagate .ensures) _ refl refl
 
 pub aim-at-spec : {M : Type 1} → statement M

@@ -10,11 +10,11 @@ use Rattle.pair_correlations.proofs.pairs.answer_pairs.Statement.{state
 use Rattle.pair_correlations.proofs.pairs.answer_pairs.Tie as tie
 
 abbrev Inv-loop : tie.InvT-loop
-Inv-loop room₀ plan n w scales us vs order results₀ shape directs all current₀ direct₀ other₀ room results current direct other =
+Inv-loop room₀ plan n w scales us vs order results₀ directs all current₀ direct₀ other₀ room results current direct other =
     Answering plan us vs order room₀ room results n w scales current directs direct other
 
 abbrev μ-loop : tie.MeasureT-loop
-μ-loop room₀ plan n w scales us vs order results₀ shape directs all current₀ direct₀ other₀ room results current direct other =
+μ-loop room₀ plan n w scales us vs order results₀ directs all current₀ direct₀ other₀ room results current direct other =
     directs + length order - (direct + other)
 
 direct-pairs-requires : tie.Need-direct-pairs-requires Inv-loop μ-loop

@@ -8,10 +8,10 @@ use Rattle.propagation.proofs.current.advance.Statement.{statement}
 use Rattle.propagation.proofs.current.advance.Tie as tie
 
 abbrev Inv-loop : tie.InvT-loop
-Inv-loop room₀ plan from to at n w scales factors bits₀ up₀ down₀ bits2₀ up2₀ down2₀ src₀ t₀ room bits up down bits2 up2 down2 src t = (t ≤ to) × Advanced plan room₀ room n w scales from at t src
+Inv-loop room₀ plan n w scales from to at bits₀ up₀ down₀ bits2₀ up2₀ down2₀ src₀ t₀ room bits up down bits2 up2 down2 src t = (t ≤ to) × Advanced plan room₀ room n w scales from at t src
 
 abbrev μ-loop : tie.MeasureT-loop
-μ-loop room₀ plan from to at n w scales factors bits₀ up₀ down₀ bits2₀ up2₀ down2₀ src₀ t₀ room bits up down bits2 up2 down2 src t = to - t
+μ-loop room₀ plan n w scales from to at bits₀ up₀ down₀ bits2₀ up2₀ down2₀ src₀ t₀ room bits up down bits2 up2 down2 src t = to - t
 
 -- the next vertex, and the last one of the iteration
 order : (c : tie.In-loop Inv-loop μ-loop) → c .before .loop .t + 1 ≤ c .before .before .before .before .args .to
@@ -20,9 +20,6 @@ order c = omega arith
 ends : (c : tie.After-advance-last Inv-loop μ-loop)
     → (c .before .before .loop .t + 1 ≤ c .advance-last .result) × (c .advance-last .result ≤ c .before .before .before .before .before .args .to)
 ends c = steps-inside (c .advance-last .ensures) (order (c .before))
-
-add-factors : tie.Need-add-factors Inv-loop μ-loop
-add-factors c = omega arith
 
 loop-holds : tie.Need-loop-holds Inv-loop μ-loop
 loop-holds c =
@@ -56,8 +53,11 @@ slice-read-then c = omega (arith, ends (c .before .before))
 sub-dst : tie.Need-sub-dst Inv-loop μ-loop
 sub-dst c = omega arith
 
-step-through-requires : tie.Need-step-through-requires Inv-loop μ-loop
-step-through-requires c κs =
+add-forward-through : tie.Need-add-forward-through Inv-loop μ-loop
+add-forward-through c = omega arith
+
+forward-through-requires : tie.Need-forward-through-requires Inv-loop μ-loop
+forward-through-requires c κs =
     let last = c .before .before .before .before .before .before .before .before .before in
     let at = last .before .before in
     let s = at .before .before .before in
@@ -76,7 +76,7 @@ loop-again c =
     let s = at .before .before .before in
     let steps = last .advance-last .ensures in (
       ends last .1,
-      advance-steps _ _ _ _ _ _ _ _ _ _ (s .pre .0) (at .loop .inv .1) steps (order (last .before)) (s .pre .2) _ _ _ refl refl (c .before .before .step-through .ensures .0),
+      advance-steps _ _ _ _ _ _ _ _ _ _ (s .pre .0) (at .loop .inv .1) steps (order (last .before)) (s .pre .2) _ _ _ refl refl (c .before .before .forward-through .ensures .0),
     )
 
 same-length : tie.Need-same-length Inv-loop μ-loop
@@ -94,7 +94,6 @@ advance-spec =
     (tie.spec
     Inv-loop
     μ-loop
-    add-factors
     loop-holds
     add-next
     advance-last-requires
@@ -105,7 +104,8 @@ advance-spec =
     mul-then
     slice-read-then
     sub-dst
-    step-through-requires
+    add-forward-through
+    forward-through-requires
     loop-less
     loop-again
     same-length

@@ -16,7 +16,7 @@ same-length c = search needs
 returns : tie.Need-returns
 returns c =
     let s = c .before .before .before .before .before .before .before .before .before .before in
-    let b : s .args .u < s .args .shape .n = omega arith in
+    let b : s .args .u < s .args .n = omega arith in
     let e : s .args .current .vertex ≡ s .args .u = omega arith in
     propagated-on _ _ _ _ _ _ _ _ _ _ b e (c .before .before .advance .ensures)
 
@@ -26,7 +26,7 @@ forward-place-requires c κs = search needs
 half-alternate-requires : tie.Need-half-alternate-requires
 half-alternate-requires c κs =
     let s = c .before .before .before .before .before .before in
-    let b : s .args .u < s .args .shape .n = omega arith in
+    let b : s .args .u < s .args .n = omega arith in
     rw (c .before .forward-place .ensures) (start-places _ (s .args .room .now) _ _ _ _ (s .pre .0) b (s .pre .3))
 
 advance-requires-2 : tie.Need-advance-requires-2
@@ -41,7 +41,7 @@ returns-2 : tie.Need-returns-2
 returns-2 c =
     let at = c .before .before .before .before .before .before in
     let s = c .before .before .before .before .before .before .before .before .before .before .before .before .before in
-    let b : s .args .u < s .args .shape .n = omega arith in
+    let b : s .args .u < s .args .n = omega arith in
     let e = rw (at .before .before .forward-place .ensures) at (at .half-alternate .ensures) in
     propagated-anew _ _ _ _ _ _ (s .pre .0) b (s .pre .3) _ e _ _ _ _ (c .before .before .advance2 .ensures)
 

@@ -1,8 +1,8 @@
 -- The first k pairs are direct.
 use mathlib.Core.Path.{sym, _∙_}
-use Prim.Native.Nat.{_-_, _≤_}
+use Prim.Native.Nat.{_-_, _≤_, _<_}
 use native.Mathlib.Omega.{arith}
-use lib.ListN.{length}
+use lib.ListN.{length, getD}
 use borrow.Author.Needs.{needs}
 use Rattle.propagation.proofs.Pairings.{Front, front-more}
 use Rattle.propagation.proofs.together.direct_pairs.Statement.{statement}

@@ -10,15 +10,15 @@ use Rattle.vertex.specs.Ready.{tail-factors}
 use Rattle.sweeps.specs.Target.{Target}
 use Rattle.sweeps.specs.BackwardInvariant.{BackwardInvariant}
 use Rattle.sweeps.proofs.Frames.{place-of, since-then}
-use Rattle.sweeps.proofs.BackwardIteration.{written-fits, begun-since, begun-invariant, begun-stands, steps-inside, backward-stepping, backward-through, backward-iteration}
+use Rattle.sweeps.proofs.BackwardIteration.{written-fits, begun-since, begun-invariant, begun-stands, steps-inside, backward-fits, backward-stepping, backward-steps, backward-iteration}
 use Rattle.sweeps.proofs.backward.sweep_backward.Statement.{statement}
 use Rattle.sweeps.proofs.backward.sweep_backward.Tie as tie
 
 abbrev Inv-loop : tie.InvT-loop
-Inv-loop room₀ plan per-element changed n w scales factors bits₀ up₀ down₀ bits2₀ up2₀ down2₀ t₀ src₀ most₀ room bits up down bits2 up2 down2 t src most = BackwardInvariant plan room₀ room n w scales per-element t₀ t src most
+Inv-loop room₀ plan n w scales per-element changed factors bits₀ up₀ down₀ bits2₀ up2₀ down2₀ t₀ src₀ most₀ room bits up down bits2 up2 down2 t src most = BackwardInvariant plan room₀ room n w scales per-element t₀ t src most
 
 abbrev μ-loop : tie.MeasureT-loop
-μ-loop room₀ plan per-element changed n w scales factors bits₀ up₀ down₀ bits2₀ up2₀ down2₀ t₀ src₀ most₀ room bits up down bits2 up2 down2 t src most = t
+μ-loop room₀ plan n w scales per-element changed factors bits₀ up₀ down₀ bits2₀ up2₀ down2₀ t₀ src₀ most₀ room bits up down bits2 up2 down2 t src most = t
 
 -- the place of the vertex where the sweep begins
 first : (c : tie.After-place-for Inv-loop μ-loop)
@@ -78,19 +78,19 @@ place-for-requires-2 c κs = search needs
 is-due-requires : tie.Need-is-due-requires Inv-loop μ-loop
 is-due-requires c κs = tt
 
-step-through-requires : tie.Need-step-through-requires Inv-loop μ-loop
-step-through-requires c κs =
+backward-through-requires : tie.Need-backward-through-requires Inv-loop μ-loop
+backward-through-requires c κs =
     let placed = c .before .before .before .before .before .before .before .before in
     let g = placed .before .before .before .before .loop .inv in
     let steps = placed .before .before .backward-last .ensures in
-    (backward-stepping _ g steps (next placed) (target placed), backward-through _ g steps (next placed) (target placed))
+    (backward-stepping _ g steps (next placed) (target placed), backward-steps _ g steps (next placed) (target placed))
 
 loop-less : tie.Need-loop-less Inv-loop μ-loop
 loop-less c = omega (arith, ends (c .before .before .before .before .before .before .before .before .before .before .before .before .before))
 
 loop-again : tie.Need-loop-again Inv-loop μ-loop
 loop-again c =
-    let stepped = c .before .before .step-through .ensures in
+    let stepped = c .before .before .backward-through .ensures in
     let due = c .before .before .before .before .before .before .before .before .before .before .is-due .ensures in
     let placed = c .before .before .before .before .before .before .before .before .before .before .before in
     let g = placed .before .before .before .before .loop .inv in
@@ -111,7 +111,7 @@ returns c =
       since-then start (g .since),
       λ J of given.
           rw none at
-          (g .newest J (rw (tail-factors _ _ _ (s .args .shape .n) (start .tail)) of) (begun-stands (s .args .room .now) (s .pre .1) from (first placed) begun J given) .kept),
+          (g .newest J (rw (tail-factors _ _ _ (s .args .n) (start .tail)) of) (begun-stands (s .args .room .now) (s .pre .1) from (first placed) begun J given) .kept),
     )
 
 pub sweep-backward-spec : {M : Type 1} → statement M
@@ -131,7 +131,7 @@ sweep-backward-spec =
     backward-place-requires-2
     place-for-requires-2
     is-due-requires
-    step-through-requires
+    backward-through-requires
     loop-less
     loop-again
     same-length

@@ -2,7 +2,7 @@
 use mathlib.Core.Path.{_≡_, _∙_}
 use Prim.Native.Nat.{_-_, _≤_, _<_}
 use native.Mathlib.Omega.{arith}
-use lib.ListN.{length-set}
+use lib.ListN.{length, length-set}
 use borrow.Author.Needs.{needs}
 use Rattle.plan.specs.Layout.{forwardPlace}
 use Rattle.sweep.specs.Constants.{one-is}
@@ -11,20 +11,20 @@ use Rattle.vertex.specs.Frame.{moving-fits}
 use Rattle.sweeps.specs.Target.{Target}
 use Rattle.sweeps.specs.ForwardInvariant.{ForwardInvariant}
 use Rattle.sweeps.proofs.Frames.{place-of, since-then}
-use Rattle.sweeps.proofs.ForwardIteration.{start-same, forward-start, steps-inside, forward-stepping, forward-through, forward-iteration}
+use Rattle.sweeps.proofs.ForwardIteration.{start-same, forward-start, steps-inside, forward-fits, forward-stepping, forward-steps, forward-iteration}
 use Rattle.sweeps.proofs.forward.sweep_forward.Statement.{statement}
 use Rattle.sweeps.proofs.forward.sweep_forward.Tie as tie
 
 abbrev Inv-loop : tie.InvT-loop
-Inv-loop room₀ plan per-element n w scales factors bits₀ up₀ down₀ bits2₀ up2₀ down2₀ src₀ most₀ t₀ room bits up down bits2 up2 down2 src most t = ForwardInvariant plan room₀ room n w scales per-element t src most
+Inv-loop room₀ plan n w scales per-element factors bits₀ up₀ down₀ bits2₀ up2₀ down2₀ src₀ most₀ t₀ room bits up down bits2 up2 down2 src most t = ForwardInvariant plan room₀ room n w scales per-element t src most
 
 abbrev μ-loop : tie.MeasureT-loop
-μ-loop room₀ plan per-element n w scales factors bits₀ up₀ down₀ bits2₀ up2₀ down2₀ src₀ most₀ t₀ room bits up down bits2 up2 down2 src most t = n - t
+μ-loop room₀ plan n w scales per-element factors bits₀ up₀ down₀ bits2₀ up2₀ down2₀ src₀ most₀ t₀ room bits up down bits2 up2 down2 src most t = n - t
 
 -- the last vertex of the iteration
 ends : (c : tie.After-forward-last Inv-loop μ-loop)
     → let l = c .before .before .loop in
-    (l .t ≤ c .forward-last .result) × (c .forward-last .result < c .before .before .before .before .before .before .before .before .before .args .shape .n)
+    (l .t ≤ c .forward-last .result) × (c .forward-last .result < c .before .before .before .before .before .before .before .before .before .args .n)
 ends c = steps-inside (c .forward-last .ensures) (c .before .loop-test .taken)
 
 -- the target of its step
@@ -74,24 +74,24 @@ place-for-requires c κs = search needs
 is-due-requires : tie.Need-is-due-requires Inv-loop μ-loop
 is-due-requires c κs = tt
 
-step-through-requires : tie.Need-step-through-requires Inv-loop μ-loop
-step-through-requires c κs =
+forward-through-requires : tie.Need-forward-through-requires Inv-loop μ-loop
+forward-through-requires c κs =
     let placed = c .before .before .before .before .before .before .before .before in
     let in-loop = placed .before .before .before in
     let g = in-loop .before .loop .inv in
     let b = in-loop .loop-test .taken in
     let steps = placed .before .before .forward-last .ensures in
-    (forward-stepping g b steps (target placed) _ _, forward-through g b steps (target placed) _ _)
+    (forward-stepping g b steps (target placed) _ _, forward-steps g b steps (target placed) _ _)
 
 add-t : tie.Need-add-t Inv-loop μ-loop
-add-t c = let s = c .before .before .before .before .before .before .before .before .before .before .before .before .before .before .before .before .before .before .before .before .before .before in omega (arith, ends (c .before .before .before .before .before .before .before .before .before .before .before .before .before), s .pre .ends, s .good)
+add-t c = omega (arith, ends (c .before .before .before .before .before .before .before .before .before .before .before .before .before), c .before .before .before .before .before .before .before .before .before .before .before .before .before .before .before .before .before .before .before .before .before .before .fits)
 
 loop-less : tie.Need-loop-less Inv-loop μ-loop
 loop-less c = omega (arith, ends (c .before .before .before .before .before .before .before .before .before .before .before .before .before))
 
 loop-again : tie.Need-loop-again Inv-loop μ-loop
 loop-again c =
-    let stepped = c .before .before .step-through .ensures in
+    let stepped = c .before .before .forward-through .ensures in
     let due = c .before .before .before .before .before .before .before .before .before .before .is-due .ensures in
     let placed = c .before .before .before .before .before .before .before .before .before .before .before in
     let in-loop = placed .before .before .before in
@@ -106,7 +106,7 @@ returns c =
     let s = c .before .before .before .before .before .before .before .before in
     let g = c .before .loop .inv in
     let first = start-same (s .args .room .now) (s .pre) (c .before .before .before .before .start-at .ensures) in
-    let all : c .before .loop .t ≡ s .args .shape .n = omega (arith, g .below) in (
+    let all : c .before .loop .t ≡ s .args .n = omega (arith, g .below) in (
       since-then first (g .since),
       λ J of. rw all at (g .newest J (rw (first .tail) of) .kept),
     )
@@ -130,7 +130,7 @@ sweep-forward-spec =
     forward-place-requires
     place-for-requires
     is-due-requires
-    step-through-requires
+    forward-through-requires
     add-t
     loop-less
     loop-again

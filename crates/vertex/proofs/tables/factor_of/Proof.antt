@@ -1,5 +1,6 @@
 use mathlib.Core.Path.{refl}
 use native.Mathlib.Omega.{arith}
+use borrow.Author.Tests.{eqb-true}
 use Rattle.vertex.proofs.Factors.{factor-is}
 use borrow.Author.Needs.{needs}
 use Rattle.vertex.proofs.tables.factor_of.Statement.{statement}
