@@ -1,5 +1,5 @@
 -- What the checks give of a graph that none of them refuses.
-use mathlib.Core.Path.{_≡_, refl, sym}
+use mathlib.Core.Path.{_≡_, refl, sym, _∙_}
 use mathlib.Core.Bool.{Bool, true, false, cond, not, _||_}
 use mathlib.Core.List.{List, [], _∷_, _++_}
 use Prim.Native.Nat.{ℕ, zero, suc, _≤_, _<_, min, max}
@@ -10,11 +10,14 @@ use lib.Ieee.{Float, nan}
 use lib.ListN.{length, getD, length-append, List·getD-append, List·getD-map}
 use lib.Seq.{getD-at}
 use borrow.Author.Tests.{eqb-true, eqb-false, ltb-false, leb-false, not-false}
+use Rattle.limits.specs.Limits.{mostVertices, mostEdges, mostPairs, mostBetas}
 use Rattle.vector.specs.Search.{some, or-false, none-at}
 use Rattle.checks.specs.Edges.{Kept, keptAt, keptOf, kept, isZero, earlyEnds, lateEnds}
-use Rattle.checks.specs.Request.{graphRequest, badLists, badEdge, joinedTwice}
-use Rattle.checks.specs.Refusal.{checks, refusal, ofGraph}
-use Rattle.checks.specs.First.{passed, checks-numbered}
+use Rattle.checks.specs.Request.{graphRequest, jobRequest, badLists, badEnds, someOversized, joinedTwice}
+use Rattle.checks.specs.Key.{Key}
+use Rattle.checks.specs.Refusal.{refusal, ofRawGraph, ofGraph}
+use Rattle.checks.specs.First.{passed-at}
+use Rattle.checks.specs.Later.{orElse, both-passed, refusal-in-parts}
 
 -- an edge inside a graph of n vertices, smaller end first
 pub record Inside (n : ℕ) (e : Kept) : Type 0 where
@@ -22,62 +25,111 @@ pub record Inside (n : ℕ) (e : Kept) : Type 0 where
   pub inside : e .late < n
 
 -- a vertex count that check 1 passes
-pub low-count : (n : ℕ) → (eqb n 0 || ltb 1024 n) ≡ false → n ≤ 1024
-low-count n h = ltb-false 1024 n (or-false (eqb n 0) (ltb 1024 n) h .1)
+pub low-count : (n : ℕ) → (eqb n 0 || ltb mostVertices n) ≡ false → n ≤ mostVertices
+low-count n h = ltb-false mostVertices n (or-false (eqb n 0) (ltb mostVertices n) h .1)
 
-pub some-count : (n : ℕ) → (eqb n 0 || ltb 1024 n) ≡ false → 1 ≤ n
-some-count n h = pos n (eqb-false n 0 (or-false (eqb n 0) (ltb 1024 n) h .0))
+pub some-count : (n : ℕ) → (eqb n 0 || ltb mostVertices n) ≡ false → 1 ≤ n
+some-count n h = pos n (eqb-false n 0 (or-false (eqb n 0) (ltb mostVertices n) h .0))
   where
     pos : (n : ℕ) → (n ≡ 0 → ⊥) → 1 ≤ n
     pos zero f = absurd (f refl)
     pos (suc n) f = omega arith
 
--- lists that check 2 passes
+-- edges that check 2 passes
 pub record Lengths (a b : List ℕ) (m : List Float) : Type 0 where
   pub others : length b ≡ length a
   pub magnitudes : length m ≡ length a
-  pub few-edges : length a ≤ 4096
+  pub few-edges : length a ≤ mostEdges
 
--- what it asks of the edges
-abbrev pub badEdgeLists : List ℕ → List ℕ → List Float → Bool
-badEdgeLists a b m = not (eqb (length a) (length b)) || not (eqb (length a) (length m)) || ltb 4096 (length a)
+-- betas that 2 and 4 pass
+pub record AcceptedBetas (betas : List Float) : Type 0 where
+  pub few : length betas ≤ mostBetas
+  pub sized : someOversized betas ≡ false
 
-pub edge-lengths : (a b : List ℕ) (m : List Float) → badEdgeLists a b m ≡ false → Lengths a b m
-edge-lengths a b m h =
-    let l3 = or-false _ _ h in
-    let l2 = or-false _ _ (l3 .0) in
-    record {
-      others = sym (eqb-true _ _ (not-false _ (l2 .0)));
-      magnitudes = sym (eqb-true _ _ (not-false _ (l2 .1)));
-      few-edges = ltb-false 4096 (length a) (l3 .1);
-    }
+-- what the checks pass that read the lists as they are lent
+pub record AcceptedRaw (n : ℕ) (a b : List ℕ) (m : List Float) (us vs : List ℕ) (betas : List Float) : Type 0 where
+  pub some-vertex : 1 ≤ n
+  pub few-vertices : n ≤ mostVertices
+  pub lists : Lengths a b m
+  pub matched : length us ≡ length vs
+  pub few-pairs : length us ≤ mostPairs
+  pub edges : some (badEnds n a b) (length a) ≡ false
+  pub betas-pass : AcceptedBetas betas
 
-pub lengths : (a b : List ℕ) (m : List Float) → badLists (graphRequest 0 a b m false) ≡ false → Lengths a b m
-lengths a b m h = edge-lengths a b m (or-false _ _ (or-false _ _ h .0) .0)
-
+-- a graph that 1 to 5 pass
 pub record Accepted (n : ℕ) (a b : List ℕ) (m : List Float) : Type 0 where
   pub some-vertex : 1 ≤ n
-  pub few-vertices : n ≤ 1024
+  pub few-vertices : n ≤ mostVertices
   pub lists : Lengths a b m
-  pub edges : some (badEdge n a b) (length a) ≡ false
+  pub edges : some (badEnds n a b) (length a) ≡ false
   pub apart : joinedTwice (earlyEnds (kept a b m)) (lateEnds (kept a b m)) ≡ false
 
+module _ (n floor : ℕ) (a b : List ℕ) (m : List Float) (us vs : List ℕ) (betas : List Float) where
+  -- the lists that check 2 passes
+  pub accepted-lengths : badLists (jobRequest n floor a b m us vs betas) ≡ false
+      → Lengths a b m × (length us ≡ length vs) × (length us ≤ mostPairs) × (length betas ≤ mostBetas)
+  accepted-lengths h =
+      let all = or-false _ _ h in
+      let many = or-false _ _ (all .0) in
+      let pairs = or-false _ _ (many .0) in
+      let edges = or-false _ _ (pairs .0) in
+      let ends = or-false _ _ (edges .0) in (
+        record {
+          others = sym (eqb-true _ _ (not-false _ (ends .0)));
+          magnitudes = sym (eqb-true _ _ (not-false _ (ends .1)));
+          few-edges = ltb-false mostEdges (length a) (edges .1);
+        },
+        eqb-true _ _ (not-false _ (pairs .1)),
+        ltb-false mostPairs (length us) (many .1),
+        ltb-false mostBetas (length betas) (all .1),
+      )
+
+  pub accepted-raw : refusal ofRawGraph (jobRequest n floor a b m us vs betas) ≡ 0 → AcceptedRaw n a b m us vs betas
+  accepted-raw h =
+      let q = jobRequest n floor a b m us vs betas in
+      let vertices = passed-at ofRawGraph q h Key.vertexCount refl in
+      let lists = accepted-lengths (passed-at ofRawGraph q h Key.listLengths refl) in
+      record {
+        some-vertex = some-count n vertices;
+        few-vertices = low-count n vertices;
+        lists = lists .0;
+        matched = lists .1;
+        few-pairs = lists .2;
+        edges = passed-at ofRawGraph q h Key.edgeEnds refl;
+        betas-pass = record {
+          few = lists .3;
+          sized = or-false (someOversized m) (someOversized betas) (passed-at ofRawGraph q h Key.sizes refl) .1;
+        };
+      }
+
+  -- the checks that read the lists, then those of the kept edges
+  pub graph-in-parts : refusal ofGraph (jobRequest n floor a b m us vs betas)
+      ≡ orElse (refusal ofRawGraph (jobRequest n floor a b m us vs betas)) (cond (joinedTwice (earlyEnds (kept a b m)) (lateEnds (kept a b m))) 5 0)
+  graph-in-parts = refusal-in-parts ofRawGraph (Key.parallelEdges ∷ []) (jobRequest n floor a b m us vs betas) refl
+
+  -- a graph with betas and pairs that 1 to 5 pass
+  pub accepted-graph : refusal ofGraph (jobRequest n floor a b m us vs betas) ≡ 0 → Accepted n a b m × AcceptedRaw n a b m us vs betas
+  accepted-graph h =
+      let raw = accepted-raw (both-passed _ _ (sym graph-in-parts ∙ h) .0) in (
+        record {
+          some-vertex = raw .some-vertex;
+          few-vertices = raw .few-vertices;
+          lists = raw .lists;
+          edges = raw .edges;
+          apart = passed-at ofGraph (jobRequest n floor a b m us vs betas) h Key.parallelEdges refl;
+        },
+        raw,
+      )
+
+-- the same of a graph alone
 pub accepted : (n : ℕ) (a b : List ℕ) (m : List Float) (misfit : Bool) → refusal ofGraph (graphRequest n a b m misfit) ≡ 0 → Accepted n a b m
-accepted n a b m misfit h =
-    let none = passed checks ofGraph (graphRequest n a b m misfit) checks-numbered h in
-    record {
-      some-vertex = some-count n (none .0);
-      few-vertices = low-count n (none .0);
-      lists = lengths a b m (none .1 .0);
-      edges = none .1 .1 .0;
-      apart = none .1 .1 .1 .1 .0;
-    }
+accepted n a b m misfit h = accepted-graph n 0 a b m [] [] [] h .0
 
 -- ---- the kept edges lie inside the graph
-module _ (n : ℕ) (a b : List ℕ) (m : List Float) (ok : some (badEdge n a b) (length a) ≡ false) where
+module _ (n : ℕ) (a b : List ℕ) (m : List Float) (ok : some (badEnds n a b) (length a) ≡ false) where
   kept-at : (i : ℕ) → i < length a → Inside n (keptAt a b m i)
   kept-at i h =
-      let t = or-false _ _ (none-at (badEdge n a b) (length a) i h ok) in
+      let t = or-false _ _ (none-at (badEnds n a b) (length a) i h ok) in
       let o = or-false _ _ (t .1) in
       let x : getD a i 0 < n = leb-false n (getD a i 0) (o .0) in
       let y : getD b i 0 < n = leb-false n (getD b i 0) (o .1) in

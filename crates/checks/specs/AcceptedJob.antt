@@ -12,18 +12,18 @@ use lib.Ieee.{Float, nan, inf, fin, up, down, lt, ofBits}
 use lib.Ieee.Positive.{positive}
 use lib.ListN.{length, getD}
 use borrow.Author.Tests.{eqb-true, eqb-false, ltb-true, ltb-false, leb-false, not-false}
+use Rattle.limits.specs.Limits.{mostPairs, mostWindow}
 use Rattle.vector.specs.Search.{or-false, none-at}
 use Rattle.transfer.specs.Job.{windowOf, tooManyNear}
 use Rattle.transfer.specs.Configuration.{numbered}
 use Rattle.transfer.specs.Room as Room
 use Rattle.checks.specs.Edges.{kept, earlyEnds, lateEnds, windowFrom}
-use Rattle.checks.specs.Request.{Request, graphRequest, jobRequest, roomRequest, correlationRequest}
-use Rattle.checks.specs.Request.{badVertices, badLengths, badLists, badEdges, badMagnitudes, badBetas, parallelEdges, outside, badPair}
-use Rattle.checks.specs.Request.{badFactorList, passes}
-use Rattle.checks.specs.Refusal.{checks, among, refusal, ofGraph, ofRoom, ofLists, ofCorrelations}
-use Rattle.checks.specs.First.{unless, passed, checks-numbered}
-use Rattle.checks.specs.Later.{and-true, orElse, inOrder, in-parts, is-among}
-use Rattle.checks.specs.Accepted.{low-count, some-count, badEdgeLists, edge-lengths, Accepted}
+use Rattle.checks.specs.Key.{Key}
+use Rattle.checks.specs.Request.{Request, jobRequest, roomRequest, correlationRequest, outside, badEnds, badFactorList, passes}
+use Rattle.checks.specs.Refusal.{checks, refusal, ofGraph, ofKept, ofRoom, ofLists, ofSweeps, ofCorrelations}
+use Rattle.checks.specs.First.{unless, passed-at}
+use Rattle.checks.specs.Later.{and-true, orElse, both-passed, inOrder, refusal-in-parts, answerable, is-among}
+use Rattle.checks.specs.Accepted.{Accepted, AcceptedBetas, accepted-graph}
 
 -- ---- in parts
 
@@ -36,44 +36,11 @@ abbrev pub listsRefusal : (n w edges : ℕ) → List ℕ → List ℕ → List F
 listsRefusal n w edges us vs factors results work =
     cond (badFactorList factors edges) 10 (buffersRefusal n w edges us vs (not (eqb results (length us))) work)
 
--- The refusal by 1 to 5 of a graph with betas, bad ones or not, from that of the graph alone, which 1 and 2 pass:
--- a bad beta is 4, so it comes behind 3, and before 5.
-abbrev pub withBetas : Bool → ℕ → ℕ
-withBetas bad graph = cond (eqb graph 3) 3 (cond bad 4 graph)
-
-with-betas : (ends bad sizes twice : Bool)
-    → cond ends 3 (cond (bad || sizes) 4 (cond twice 5 0)) ≡ withBetas bad (cond ends 3 (cond sizes 4 (cond twice 5 0)))
-with-betas true bad sizes twice = refl
-with-betas false true true twice = refl
-with-betas false true false true = refl
-with-betas false true false false = refl
-with-betas false false true twice = refl
-with-betas false false false true = refl
-with-betas false false false false = refl
-
 module _ (n floor : ℕ) (a b : List ℕ) (m : List Float) (us vs : List ℕ) where
-  module _ (betas : List Float) where
-    -- the lists that check 2 passes
-    pub job-lists : badLists (jobRequest n floor a b m us vs betas) ≡ false
-        → (badEdgeLists a b m ≡ false) × (length us ≡ length vs) × (length us ≤ 256) × (length betas ≤ 64)
-    job-lists h =
-        let all = or-false (ltb 64 (length betas)) (badLengths (roomRequest n floor a b m us vs)) h in
-        let lists = or-false _ _ (all .1) in
-        let pairLists = or-false _ _ (lists .0) in
-        (pairLists .0, eqb-true _ _ (not-false _ (pairLists .1)), ltb-false 256 (length us) (lists .1), ltb-false 64 (length betas) (all .0))
-
-    -- Where 1 passes, and 2 the lists of the pairs and betas with those of the edges, the graph alone tells how the job is refused by 1 to 5.
-    pub graph-alone : badVertices (graphRequest n a b m false) ≡ false → badLists (jobRequest n floor a b m us vs betas) ≡ false
-        → refusal ofGraph (jobRequest n floor a b m us vs betas) ≡ withBetas (badBetas betas) (refusal ofGraph (graphRequest n a b m false))
-    graph-alone v h =
-        let l : badLists (graphRequest n a b m false) ≡ false = rw (job-lists h .0) in
-        rw (v, h, l) (with-betas (badEdges (graphRequest n a b m false)) (badBetas betas) (badMagnitudes (graphRequest n a b m false))
-        (parallelEdges (graphRequest n a b m false)))
-
-    -- a job is asked the graph's checks, then these three
-    pub job-in-parts : refusal ofRoom (jobRequest n floor a b m us vs betas)
-        ≡ orElse (refusal ofGraph (jobRequest n floor a b m us vs betas)) (refusal (6 ∷ 7 ∷ 8 ∷ []) (roomRequest n floor a b m us vs))
-    job-in-parts = in-parts checks ofGraph (6 ∷ 7 ∷ 8 ∷ []) (jobRequest n floor a b m us vs betas) checks-numbered refl
+  -- a job is asked the graph's checks, then those of the kept edges and the pairs
+  pub job-in-parts : (betas : List Float) → refusal ofRoom (jobRequest n floor a b m us vs betas)
+      ≡ orElse (refusal ofGraph (jobRequest n floor a b m us vs betas)) (refusal ofKept (roomRequest n floor a b m us vs))
+  job-in-parts betas = refusal-in-parts ofGraph ofKept (jobRequest n floor a b m us vs betas) refl
 
   -- `correlations` asks the checks of `room`, then of the lists that it is lent, then of every Z
   pub correlations-in-parts : (factors : List Float) (results work : ℕ) (unsound : Bool)
@@ -82,22 +49,17 @@ module _ (n floor : ℕ) (a b : List ℕ) (m : List Float) (us vs : List ℕ) wh
       (orElse (listsRefusal n (windowFrom floor a b m) (length (kept a b m)) us vs factors results work) (cond unsound 14 0))
   correlations-in-parts factors results work unsound =
       let r = correlationRequest n floor a b m us vs factors results work unsound in
-      in-parts checks ofRoom (10 ∷ 12 ∷ 13 ∷ 14 ∷ []) r checks-numbered refl
-      ∙ ap (orElse (refusal ofRoom (roomRequest n floor a b m us vs))) (in-parts checks ofLists (14 ∷ []) r checks-numbered refl)
-
--- where neither part refuses
-pub both-passed : (x y : ℕ) → orElse x y ≡ 0 → (x ≡ 0) × (y ≡ 0)
-both-passed zero y h = (refl, h)
-both-passed (suc x) y h = absurd (omega arith)
+      refusal-in-parts ofRoom (ofLists ++ ofSweeps) r refl
+      ∙ ap (orElse (refusal ofRoom (roomRequest n floor a b m us vs))) (refusal-in-parts ofLists ofSweeps r refl)
 
 -- ---- a job that the checks 1 to 8 pass
 
 pub record AcceptedJob (n floor : ℕ) (a b : List ℕ) (m : List Float) (us vs : List ℕ) : Type 0 where
   pub graph : Accepted n a b m
   pub matched : length us ≡ length vs
-  pub few-pairs : length us ≤ 256
+  pub few-pairs : length us ≤ mostPairs
   pub wide : 1 ≤ windowFrom floor a b m
-  pub narrow : windowFrom floor a b m ≤ 24
+  pub narrow : windowFrom floor a b m ≤ mostWindow
   pub near : tooManyNear n (windowFrom floor a b m) (numbered (earlyEnds (kept a b m)) (lateEnds (kept a b m))) ≡ false
   pub first-inside : (i : ℕ) → i < length us → getD us i 0 < n
   pub second-inside : (i : ℕ) → i < length us → getD vs i 0 < n
@@ -107,48 +69,26 @@ pub window-wide : (floor : ℕ) (early late : List ℕ) → 1 ≤ windowOf floor
 unfolding windowOf
 window-wide floor early late = omega arith
 
--- betas that 2 and 4 pass
-pub record AcceptedBetas (betas : List Float) : Type 0 where
-  pub few : length betas ≤ 64
-  pub sized : badBetas betas ≡ false
-
 module _ (n floor : ℕ) (a b : List ℕ) (m : List Float) (us vs : List ℕ) (betas : List Float) where
-  -- a graph with betas that 1 to 5 pass
-  pub accepted-graph : refusal ofGraph (jobRequest n floor a b m us vs betas) ≡ 0 → Accepted n a b m × AcceptedBetas betas
-  accepted-graph h =
-      let none = passed checks ofGraph (jobRequest n floor a b m us vs betas) checks-numbered h in
-      let lists = job-lists n floor a b m us vs betas (none .1 .0) in (
-        record {
-          some-vertex = some-count n (none .0);
-          few-vertices = low-count n (none .0);
-          lists = edge-lengths a b m (lists .0);
-          edges = none .1 .1 .0;
-          apart = none .1 .1 .1 .1 .0;
-        },
-        record { few = lists .3; sized = or-false _ _ (none .1 .1 .1 .0) .0 },
-      )
-
   pub accepted-with : refusal ofRoom (jobRequest n floor a b m us vs betas) ≡ 0 → AcceptedJob n floor a b m us vs × AcceptedBetas betas
   accepted-with h =
-      let none = passed checks ofRoom (jobRequest n floor a b m us vs betas) checks-numbered h in
-      let graph = accepted-graph (both-passed _ _ (sym (job-in-parts n floor a b m us vs betas) ∙ h) .0) in
-      let lists = job-lists n floor a b m us vs betas (none .1 .0) in
-      let past = none .1 .1 .1 .1 .1 in
+      let q = jobRequest n floor a b m us vs betas in
+      let graph = accepted-graph n floor a b m us vs betas (both-passed _ _ (sym (job-in-parts n floor a b m us vs betas) ∙ h) .0) in
       let apart : (i : ℕ) → i < length us → (eqb (getD us i 0) (getD vs i 0) ≡ false) × (outside n (getD us i 0) (getD vs i 0) ≡ false) = λ i l.
-      or-false _ _ (none-at (badPair false n us vs) (length us) i l (past .1 .1 .0)) in
+      or-false _ _ (none-at (badEnds n us vs) (length us) i l (passed-at ofRoom q h Key.pairEnds refl)) in
       let inside : (i : ℕ) → i < length us → (leb n (getD us i 0) ≡ false) × (leb n (getD vs i 0) ≡ false) = λ i l. or-false _ _ (apart i l .1) in (
         record {
           graph = graph .0;
-          matched = lists .1;
-          few-pairs = lists .2;
+          matched = graph .1 .matched;
+          few-pairs = graph .1 .few-pairs;
           wide = window-wide floor (earlyEnds (kept a b m)) (lateEnds (kept a b m));
-          narrow = ltb-false 24 (windowFrom floor a b m) (past .0);
-          near = past .1 .0;
+          narrow = ltb-false mostWindow (windowFrom floor a b m) (passed-at ofRoom q h Key.window refl);
+          near = passed-at ofRoom q h Key.nearEdges refl;
           first-inside = λ i l. leb-false n (getD us i 0) (inside i l .0);
           second-inside = λ i l. leb-false n (getD vs i 0) (inside i l .1);
           ends-apart = λ i l. eqb-false _ _ (apart i l .0);
         },
-        graph .1,
+        graph .1 .betas-pass,
       )
 
 pub accepted-job : (n floor : ℕ) (a b : List ℕ) (m : List Float) (us vs : List ℕ) → refusal ofRoom (roomRequest n floor a b m us vs) ≡ 0
@@ -207,16 +147,16 @@ accepted-lists n w edges us vs factors results work h =
 
 -- ---- A call that is accepted, or refused by 14 alone, has passed all before it.
 
--- 14 stands behind the checks of `front`, and is not one of them
-pub before-14 : (front : List ℕ) (q : Request) (r : ℕ) → inOrder checks front (14 ∷ []) ≡ true → among front 14 ≡ false
-    → refusal (front ++ (14 ∷ [])) q ≡ r → (r ≡ 0) ⊎ (r ≡ 14) → refusal front q ≡ 0
-before-14 front q r o a e h = go (refusal front q) (is-among front q checks) (sym (in-parts checks front (14 ∷ []) q checks-numbered o) ∙ e) h
+-- 14 stands behind the checks of `front`, none of which answers it
+pub before-14 : (front : List Key) (q : Request) (r : ℕ) → inOrder checks front ofSweeps ≡ true → answerable checks front 14 ≡ false
+    → refusal (front ++ ofSweeps) q ≡ r → (r ≡ 0) ⊎ (r ≡ 14) → refusal front q ≡ 0
+before-14 front q r o a e h = go (refusal front q) (is-among front q checks) (sym (refusal-in-parts front ofSweeps q o) ∙ e) h
   where
-    go : (k : ℕ) → ((k ≡ 0 → ⊥) → among front k ≡ true) → orElse k (refusal (14 ∷ []) q) ≡ r → (r ≡ 0) ⊎ (r ≡ 14) → k ≡ 0
+    go : (k : ℕ) → ((k ≡ 0 → ⊥) → answerable checks front k ≡ true) → orElse k (refusal ofSweeps q) ≡ r → (r ≡ 0) ⊎ (r ≡ 14) → k ≡ 0
     go zero t e h = refl
     go (suc k) t e (inl z) = absurd (omega (arith, e, z))
     go (suc k) t e (inr z) =
-        let v : true ≡ false = sym (t (λ p. omega arith)) ∙ ap (among front) (e ∙ z) ∙ a in
+        let v : true ≡ false = sym (t (λ p. omega arith)) ∙ ap (answerable checks front) (e ∙ z) ∙ a in
         absurd (let z : _≡_ {A = ℕ} 0 1 = cc in omega arith)
 
 pub record AcceptedCorrelations (n floor : ℕ) (a b : List ℕ) (m : List Float) (us vs : List ℕ) (factors : List Float) (results work : ℕ)
@@ -230,5 +170,5 @@ pub accepted-correlations : (n floor : ℕ) (a b : List ℕ) (m : List Float) (u
 accepted-correlations n floor a b m us vs factors results work unsound r e h =
     let q = correlationRequest n floor a b m us vs factors results work unsound in
     let z = before-14 (ofRoom ++ ofLists) q r refl refl e h in
-    let parts = both-passed _ _ (sym (in-parts checks ofRoom ofLists q checks-numbered refl) ∙ z) in
+    let parts = both-passed _ _ (sym (refusal-in-parts ofRoom ofLists q refl) ∙ z) in
     record { job = accepted-job n floor a b m us vs (parts .0); lists = accepted-lists n _ _ us vs factors results work (parts .1) }

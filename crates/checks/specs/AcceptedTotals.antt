@@ -11,17 +11,17 @@ use lib.Dec.{eqb, ltb}
 use lib.Ieee.{Float, nan}
 use lib.ListN.{length, getD}
 use borrow.Author.Tests.{lt-ltb, le-ltb, ltb-false}
-use Rattle.vector.specs.Search.{some}
+use Rattle.limits.specs.Limits.{mostSamples}
 use Rattle.transfer.specs.Room as Room
 use Rattle.checks.specs.Edges.{kept, windowFrom}
 use Rattle.checks.specs.Request.{couplingRequest, jobRequest, enumerationRequest, samplingRequest, signedFactors}
-use Rattle.checks.specs.Request.{oversized, badBetas, badFactorList, passes, tooManyChunks}
-use Rattle.checks.specs.Refusal.{checks, refusal, ofGraph, ofRoom, ofCouplings, ofEnumeration, ofEnumerationLists, ofSampling, ofSamplingLists}
-use Rattle.checks.specs.First.{unless, checks-numbered}
-use Rattle.checks.specs.Later.{orElse, in-parts, Then}
-use Rattle.checks.specs.Accepted.{Accepted}
-use Rattle.checks.specs.AcceptedJob.{AcceptedJob, AcceptedBetas, buffersRefusal, both-passed, before-14}
-use Rattle.checks.specs.AcceptedJob.{accepted-graph, accepted-with, accepted-factors, accepted-buffers}
+use Rattle.checks.specs.Request.{badFactorList, passes, tooManyChunks}
+use Rattle.checks.specs.Key.{Key}
+use Rattle.checks.specs.Refusal.{refusal, ofGraph, ofRoom, ofCouplings, ofEnumeration, ofEnumerationLists, ofSampling, ofSamplingLists, ofSweeps}
+use Rattle.checks.specs.First.{unless}
+use Rattle.checks.specs.Later.{orElse, both-passed, refusal-in-parts, Then}
+use Rattle.checks.specs.Accepted.{Accepted, AcceptedBetas, accepted-graph}
+use Rattle.checks.specs.AcceptedJob.{AcceptedJob, buffersRefusal, before-14, accepted-with, accepted-factors, accepted-buffers}
 
 -- ---- in parts
 
@@ -50,7 +50,7 @@ misfits-alone wanted stored = twice (not (eqb stored wanted))
 -- `couplings` asks the graph's checks, with the betas, and of its buffer
 pub couplings-in-parts : (n : ℕ) (a b : List ℕ) (m betas : List Float) (misfit : Bool)
     → Then (refusal ofCouplings (couplingRequest n a b m betas misfit)) (refusal ofGraph (jobRequest n 0 a b m [] [] betas)) misfit 12
-couplings-in-parts n a b m betas misfit = record { is = in-parts checks ofGraph (12 ∷ []) (couplingRequest n a b m betas misfit) checks-numbered refl }
+couplings-in-parts n a b m betas misfit = record { is = refusal-in-parts ofGraph (Key.buffers ∷ []) (couplingRequest n a b m betas misfit) refl }
 
 module _ (n floor : ℕ) (a b : List ℕ) (m : List Float) (us vs : List ℕ) (betas factors : List Float) where
   -- totals ask a job's checks, then of the configurations and the lists that they are lent, then of every Z
@@ -61,8 +61,8 @@ module _ (n floor : ℕ) (a b : List ℕ) (m : List Float) (us vs : List ℕ) (b
       (cond unsound 14 0))
   enumeration-in-parts free most misfit work unsound =
       let r = enumerationRequest n floor a b m us vs betas factors free most misfit work unsound in
-      in-parts checks ofRoom (ofEnumerationLists ++ (14 ∷ [])) r checks-numbered refl
-      ∙ ap (orElse (refusal ofRoom (jobRequest n floor a b m us vs betas))) (in-parts checks ofEnumerationLists (14 ∷ []) r checks-numbered refl)
+      refusal-in-parts ofRoom (ofEnumerationLists ++ ofSweeps) r refl
+      ∙ ap (orElse (refusal ofRoom (jobRequest n floor a b m us vs betas))) (refusal-in-parts ofEnumerationLists ofSweeps r refl)
 
   pub sampling-in-parts : (start end samples : ℕ) (misfit : Bool) (work : ℕ) (unsound : Bool)
       → refusal ofSampling (samplingRequest n floor a b m us vs betas factors start end samples misfit work unsound)
@@ -71,41 +71,19 @@ module _ (n floor : ℕ) (a b : List ℕ) (m : List Float) (us vs : List ℕ) (b
       (cond unsound 14 0))
   sampling-in-parts start end samples misfit work unsound =
       let r = samplingRequest n floor a b m us vs betas factors start end samples misfit work unsound in
-      in-parts checks ofRoom (ofSamplingLists ++ (14 ∷ [])) r checks-numbered refl
-      ∙ ap (orElse (refusal ofRoom (jobRequest n floor a b m us vs betas))) (in-parts checks ofSamplingLists (14 ∷ []) r checks-numbered refl)
-
--- ---- a search over the betas by their places
-
-or-none : (x : Bool) → (x || false) ≡ x
-or-none true = refl
-or-none false = refl
-
-or-or : (x y z : Bool) → ((x || y) || z) ≡ (x || (y || z))
-or-or true y z = refl
-or-or false y z = refl
-
-some-front : (test : ℕ → Bool) (n : ℕ) → some test (suc n) ≡ (test 0 || some (λ e. test (suc e)) n)
-unfolding some
-some-front test zero = sym (or-none (test 0))
-some-front test (suc n) =
-    ap (λ (x : Bool). x || test (suc n)) (some-front test n) ∙ or-or (test 0) (some (λ e. test (suc e)) n) (test (suc n))
-
-pub betas-each : (betas : List Float) → some (λ e. oversized (getD betas e nan)) (length betas) ≡ badBetas betas
-unfolding some
-betas-each [] = refl
-betas-each (beta ∷ betas) =
-    some-front (λ e. oversized (getD (beta ∷ betas) e nan)) (length betas) ∙ ap (λ (x : Bool). oversized beta || x) (betas-each betas)
+      refusal-in-parts ofRoom (ofSamplingLists ++ ofSweeps) r refl
+      ∙ ap (orElse (refusal ofRoom (jobRequest n floor a b m us vs betas))) (refusal-in-parts ofSamplingLists ofSweeps r refl)
 
 -- ---- chunks times samples, without their product
 
 pub chunks-over : (start end samples : ℕ) → start < end → 0 < samples
-    → ltb (4294967296 / samples) (end - start) ≡ tooManyChunks start end samples
-chunks-over start end samples l p = rw (lt-ltb start end l) (go (decLt (4294967296 / samples) (end - start)))
+    → ltb (mostSamples / samples) (end - start) ≡ tooManyChunks start end samples
+chunks-over start end samples l p = rw (lt-ltb start end l) (go (decLt (mostSamples / samples) (end - start)))
   where
-    go : Dec (4294967296 / samples < end - start) → ltb (4294967296 / samples) (end - start) ≡ ltb 4294967296 ((end - start) * samples)
+    go : Dec (mostSamples / samples < end - start) → ltb (mostSamples / samples) (end - start) ≡ ltb mostSamples ((end - start) * samples)
     go (yes h) = lt-ltb _ _ h ∙ sym (lt-ltb _ _ (div-lt-iff-lt-mul p .0 h))
     go (no h) =
-        let most : end - start ≤ 4294967296 / samples = omega arith in
+        let most : end - start ≤ mostSamples / samples = omega arith in
         le-ltb _ _ most ∙ sym (le-ltb _ _ (le-div-iff-mul-le p .0 most))
 
 -- of no chunk, or chunks without samples, there are never too many
@@ -121,11 +99,11 @@ no-samples start end samples z =
     and-none true = refl
     and-none false = refl
 
-pub few-samples : (start end samples : ℕ) → tooManyChunks start end samples ≡ false → (end - start) * samples ≤ 4294967296
+pub few-samples : (start end samples : ℕ) → tooManyChunks start end samples ≡ false → (end - start) * samples ≤ mostSamples
 few-samples start end samples h = go (decLt start end)
   where
-    go : Dec (start < end) → (end - start) * samples ≤ 4294967296
-    go (yes l) = ltb-false 4294967296 ((end - start) * samples) (rw (lt-ltb start end l) at h)
+    go : Dec (start < end) → (end - start) * samples ≤ mostSamples
+    go (yes l) = ltb-false mostSamples ((end - start) * samples) (rw (lt-ltb start end l) at h)
     go (no l) =
         let z : end - start ≡ 0 = omega arith in
         rw (z, zero-mul samples) (omega arith)
@@ -138,7 +116,7 @@ accepted-couplings n a b m betas misfit h =
     let parts = both-passed (refusal ofGraph (jobRequest n 0 a b m [] [] betas)) (cond misfit 12 0)
     (sym (couplings-in-parts n a b m betas misfit .is) ∙ h) in
     let graph = accepted-graph n 0 a b m [] [] betas (parts .0) in
-    (graph .0, graph .1, unless misfit {k = 12} (omega arith) (parts .1) .0)
+    (graph .0, graph .1 .betas-pass, unless misfit {k = 12} (omega arith) (parts .1) .0)
 
 -- a call for totals, behind 9 and 11
 pub record AcceptedTotals (n floor : ℕ) (a b : List ℕ) (m : List Float) (us vs : List ℕ) (betas factors : List Float) (misfit : Bool) (work : ℕ)
@@ -177,7 +155,7 @@ module _ (n floor : ℕ) (a b : List ℕ) (m : List Float) (us vs : List ℕ) (b
       let z = before-14 (ofRoom ++ ofEnumerationLists) q r refl refl e h in
       let lists = enumerationLists n (windowFrom floor a b m) (length (kept a b m)) us vs (length betas) factors free most misfit work in
       let parts = both-passed (refusal ofRoom (jobRequest n floor a b m us vs betas)) lists
-      (sym (in-parts checks ofRoom ofEnumerationLists q checks-numbered refl) ∙ z) in
+      (sym (refusal-in-parts ofRoom ofEnumerationLists q refl) ∙ z) in
       let t9 = unless (ltb most free) (omega arith) (parts .1) in
       let t10 = unless (badFactorList factors (signedFactors (length betas) (length (kept a b m)))) (omega arith) (t9 .1) in
       (accepted-totals misfit work (parts .0) (t10 .0) (t10 .1), ltb-false most free (t9 .0))
@@ -185,13 +163,13 @@ module _ (n floor : ℕ) (a b : List ℕ) (m : List Float) (us vs : List ℕ) (b
   -- or the samples.
   pub accepted-sampling : (start end samples : ℕ) (misfit : Bool) (work : ℕ) (unsound : Bool) (r : ℕ)
       → refusal ofSampling (samplingRequest n floor a b m us vs betas factors start end samples misfit work unsound) ≡ r → (r ≡ 0) ⊎ (r ≡ 14)
-      → AcceptedTotals n floor a b m us vs betas factors misfit work × ((end - start) * samples ≤ 4294967296)
+      → AcceptedTotals n floor a b m us vs betas factors misfit work × ((end - start) * samples ≤ mostSamples)
   accepted-sampling start end samples misfit work unsound r e h =
       let q = samplingRequest n floor a b m us vs betas factors start end samples misfit work unsound in
       let z = before-14 (ofRoom ++ ofSamplingLists) q r refl refl e h in
       let lists = samplingLists n (windowFrom floor a b m) (length (kept a b m)) us vs (length betas) factors start end samples misfit work in
       let parts = both-passed (refusal ofRoom (jobRequest n floor a b m us vs betas)) lists
-      (sym (in-parts checks ofRoom ofSamplingLists q checks-numbered refl) ∙ z) in
+      (sym (refusal-in-parts ofRoom ofSamplingLists q refl) ∙ z) in
       let t10 = unless (badFactorList factors (signedFactors (length betas) (length (kept a b m)))) (omega arith) (parts .1) in
       let t11 = unless (tooManyChunks start end samples) (omega arith) (t10 .1) in
       (accepted-totals misfit work (parts .0) (t10 .0) (t11 .1), few-samples start end samples (t11 .0))

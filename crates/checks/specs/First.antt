@@ -4,7 +4,9 @@ use mathlib.Core.Bool.{Bool, true, false, cond, _&&_}
 use mathlib.Core.List.{List, [], _∷_}
 use Prim.Native.Nat.{ℕ, _<_}
 use native.Mathlib.Omega.{arith}
-use Rattle.checks.specs.Refusal.{Check, checks, among, first}
+use Rattle.checks.specs.Key.{Key, same, among, among-same}
+use Rattle.checks.specs.Request.{Request}
+use Rattle.checks.specs.Refusal.{Check, checks, first, refusal}
 
 pub here : (t : Bool) (k rest : ℕ) → t ≡ true → k ≡ cond t k rest
 here t k rest e = rw e
@@ -16,36 +18,39 @@ past t k r rest e h = rw e h
 pub told : {r t b : Bool} → r ≡ t → r ≡ b → t ≡ b
 told p q = sym p ∙ q
 
--- of a check with the test t, where it concerns the call, that it does not fit; and the rest
-abbrev pub Unfit : Bool → Bool → Type 0 → Type 0
-Unfit true t rest = (t ≡ false) × rest
-Unfit false t rest = rest
-
--- no check that concerns the call fits: one fact for each of them, so that a check of other calls moves none
-abbrev pub Passed : {A : Type 0} → List (Check A) → List ℕ → A → Type 0
-Passed [] concerned r = Unit
-Passed (c ∷ cs) concerned r = Unfit (among concerned (c .number)) (c .fits r) (Passed cs concerned r)
+-- a check that might have answered did not
+pub unless : (t : Bool) {k rest : ℕ} → 0 < k → cond t k rest ≡ 0 → (t ≡ false) × (rest ≡ 0)
+unless true p h = absurd (omega arith)
+unless false p h = (refl, h)
 
 -- no check has the number 0
 abbrev pub Numbered : {A : Type 0} → List (Check A) → Type 0
 Numbered [] = Unit
 Numbered (c ∷ cs) = (0 < c .number) × Numbered cs
 
--- a check that might have answered did not
-pub unless : (t : Bool) {k rest : ℕ} → 0 < k → cond t k rest ≡ 0 → (t ≡ false) × (rest ≡ 0)
-unless true p h = absurd (omega arith)
-unless false p h = (refl, h)
-
-pub passed : {A : Type 0} (cs : List (Check A)) (concerned : List ℕ) (r : A) → Numbered cs → first cs concerned r ≡ 0 → Passed cs concerned r
-passed [] concerned r numbered h = tt
-passed (c ∷ cs) concerned r numbered h = go (among concerned (c .number)) h (passed cs concerned r (numbered .1))
-  where
-    go : (asked : Bool) → cond (asked && c .fits r) (c .number) (first cs concerned r) ≡ 0 → (first cs concerned r ≡ 0 → Passed cs concerned r)
-        → Unfit asked (c .fits r) (Passed cs concerned r)
-    go true h ih =
-        let p = unless (c .fits r) (numbered .0) h in
-        (p .0, ih (p .1))
-    go false h ih = ih h
-
 pub checks-numbered : Numbered checks
 checks-numbered = search arith
+
+-- the test of the check with this key
+abbrev pub testOf : {A : Type 0} → List (Check A) → Key → A → Bool
+testOf [] k r = false
+testOf (c ∷ cs) k r = cond (same (c .key) k) (c .fits r) (testOf cs k r)
+
+-- where none of the checks that concern a call fits, the check of each of their keys does not
+pub key-passed : {A : Type 0} (cs : List (Check A)) (concerned : List Key) (r : A) → Numbered cs → first cs concerned r ≡ 0
+    → (k : Key) → among concerned k ≡ true → testOf cs k r ≡ false
+key-passed [] concerned r numbered h k a = refl
+key-passed (c ∷ cs) concerned r numbered h k a =
+    go (same (c .key) k) (among concerned (c .key)) (c .fits r) (λ e. among-same concerned (c .key) k e ∙ a) h
+    (λ z. key-passed cs concerned r (numbered .1) z k a)
+  where
+    go : (is asked t : Bool) → (is ≡ true → asked ≡ true) → cond (asked && t) (c .number) (first cs concerned r) ≡ 0
+        → (first cs concerned r ≡ 0 → testOf cs k r ≡ false) → cond is t (testOf cs k r) ≡ false
+    go true true t e h later = unless t (numbered .0) h .0
+    go true false t e h later = absurd (let z : true ≡ false = sym (e refl) in (let z : _≡_ {A = ℕ} 0 1 = cc in omega arith))
+    go false true t e h later = later (unless t (numbered .0) h .1)
+    go false false t e h later = later h
+
+-- of the checks of a job
+pub passed-at : (concerned : List Key) (r : Request) → refusal concerned r ≡ 0 → (k : Key) → among concerned k ≡ true → testOf checks k r ≡ false
+passed-at concerned r h k a = key-passed checks concerned r checks-numbered h k a

@@ -1,4 +1,5 @@
 pub mod Edges
+pub mod Key
 pub mod Request
 pub mod Refusal
 pub mod Controls

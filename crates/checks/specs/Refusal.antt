@@ -1,81 +1,93 @@
 -- The checks in checking order, as one list: a call applies those that concern it, and the first that fits is answered alone.
-use mathlib.Core.Bool.{Bool, false, cond, _||_, _&&_}
-use mathlib.Core.List.{List, [], _∷_}
+use mathlib.Core.Bool.{Bool, cond, _&&_}
+use mathlib.Core.List.{List, [], _∷_, _++_}
 use Prim.Native.Nat.{ℕ}
-use lib.Dec.{eqb}
+use Rattle.limits.specs.Limits.{mostWindow}
+use Rattle.checks.specs.Key.{Key, among}
 use Rattle.checks.specs.Request.{Request, badVertices, badLists, badEdges, badSizes, parallelEdges}
-use Rattle.checks.specs.Request.{wideWindow, manyNear, badPairs, manyFree, badFactors, manySamples, shortWork}
+use Rattle.checks.specs.Request.{wideWindow, manyNear, badPairs, outsidePairs, manyFree, badFactors, manySamples, shortWork}
 
--- a check of the requests of one kind
+-- A check of the requests of one kind: its name, the number that it answers, and its test.
 pub record Check (A : Type 0) : Type 0 where
+  pub key : Key
   pub number : ℕ
   pub fits : A → Bool
 
-abbrev pub check : {A : Type 0} → ℕ → (A → Bool) → Check A
-check k test = record { number = k; fits = test }
+abbrev pub check : {A : Type 0} → Key → ℕ → (A → Bool) → Check A
+check k n test = record { key = k; number = n; fits = test }
 
 abbrev pub checks : List (Check Request)
 checks =
-    check 1 badVertices
-    ∷ check 2 badLists
-    ∷ check 3 badEdges
-    ∷ check 4 badSizes
-    ∷ check 5 parallelEdges
-    ∷ check 6 wideWindow
-    ∷ check 7 manyNear
-    ∷ check 8 badPairs
-    ∷ check 9 manyFree
-    ∷ check 10 badFactors
-    ∷ check 11 manySamples
-    ∷ check 12 (λ r. r .misfit)
-    ∷ check 13 shortWork
-    ∷ check 14 (λ r. r .unsound)
+    check Key.vertexCount 1 badVertices
+    ∷ check Key.listLengths 2 badLists
+    ∷ check Key.edgeEnds 3 badEdges
+    ∷ check Key.sizes 4 badSizes
+    ∷ check Key.parallelEdges 5 parallelEdges
+    ∷ check Key.window 6 (wideWindow mostWindow)
+    ∷ check Key.nearEdges 7 manyNear
+    ∷ check Key.pairEnds 8 badPairs
+    ∷ check Key.walkEnds 8 outsidePairs
+    ∷ check Key.freeEdges 9 (λ r. manyFree (r .configurations .most) r)
+    ∷ check Key.factors 10 badFactors
+    ∷ check Key.samples 11 manySamples
+    ∷ check Key.buffers 12 (λ r. r .misfit)
+    ∷ check Key.workMemory 13 shortWork
+    ∷ check Key.partitionSums 14 (λ r. r .unsound)
     ∷ []
 
-abbrev pub among : List ℕ → ℕ → Bool
-among [] k = false
-among (c ∷ cs) k = eqb c k || among cs k
-
 -- The number of the first check that concerns the call and fits; 0 where none does.
-abbrev pub first : {A : Type 0} → List (Check A) → List ℕ → A → ℕ
+abbrev pub first : {A : Type 0} → List (Check A) → List Key → A → ℕ
 first [] concerned r = 0
-first (c ∷ cs) concerned r = cond (among concerned (c .number) && c .fits r) (c .number) (first cs concerned r)
+first (c ∷ cs) concerned r = cond (among concerned (c .key) && c .fits r) (c .number) (first cs concerned r)
 
-abbrev pub refusal : List ℕ → Request → ℕ
+abbrev pub refusal : List Key → Request → ℕ
 refusal concerned r = first checks concerned r
 
 -- ---- which checks concern which call
-abbrev pub ofGraph : List ℕ
-ofGraph = 1 ∷ 2 ∷ 3 ∷ 4 ∷ 5 ∷ []
 
-abbrev pub ofGraphWithBuffers : List ℕ
-ofGraphWithBuffers = 1 ∷ 2 ∷ 3 ∷ 4 ∷ 5 ∷ 12 ∷ []
+-- those that read the lists as they are lent, before an edge is kept
+abbrev pub ofRawGraph : List Key
+ofRawGraph = Key.vertexCount ∷ Key.listLengths ∷ Key.edgeEnds ∷ Key.sizes ∷ []
 
-abbrev pub ofDistance : List ℕ
-ofDistance = 1 ∷ 2 ∷ 3 ∷ 4 ∷ 5 ∷ 8 ∷ []
+abbrev pub ofGraph : List Key
+ofGraph = ofRawGraph ++ (Key.parallelEdges ∷ [])
 
-abbrev pub ofRoom : List ℕ
-ofRoom = 1 ∷ 2 ∷ 3 ∷ 4 ∷ 5 ∷ 6 ∷ 7 ∷ 8 ∷ []
+abbrev pub ofGraphWithBuffers : List Key
+ofGraphWithBuffers = ofGraph ++ (Key.buffers ∷ [])
 
--- behind those of `room`: what a call is lent for its sweeps
-abbrev pub ofLists : List ℕ
-ofLists = 10 ∷ 12 ∷ 13 ∷ []
-
-abbrev pub ofCorrelations : List ℕ
-ofCorrelations = 1 ∷ 2 ∷ 3 ∷ 4 ∷ 5 ∷ 6 ∷ 7 ∷ 8 ∷ 10 ∷ 12 ∷ 13 ∷ 14 ∷ []
-
-abbrev pub ofCouplings : List ℕ
+abbrev pub ofCouplings : List Key
 ofCouplings = ofGraphWithBuffers
 
--- behind those of `room` for totals: sampling has no limit of free edges, and enumeration no chunks to ask of
-abbrev pub ofEnumerationLists : List ℕ
-ofEnumerationLists = 9 ∷ 10 ∷ 12 ∷ 13 ∷ []
+abbrev pub ofDistance : List Key
+ofDistance = ofGraph ++ (Key.walkEnds ∷ [])
 
-abbrev pub ofSamplingLists : List ℕ
-ofSamplingLists = 10 ∷ 11 ∷ 12 ∷ 13 ∷ []
+-- those that read the kept edges and the pairs
+abbrev pub ofKept : List Key
+ofKept = Key.window ∷ Key.nearEdges ∷ Key.pairEnds ∷ []
 
-abbrev pub ofEnumeration : List ℕ
-ofEnumeration = 1 ∷ 2 ∷ 3 ∷ 4 ∷ 5 ∷ 6 ∷ 7 ∷ 8 ∷ 9 ∷ 10 ∷ 12 ∷ 13 ∷ 14 ∷ []
+abbrev pub ofRoom : List Key
+ofRoom = ofGraph ++ ofKept
 
-abbrev pub ofSampling : List ℕ
-ofSampling = 1 ∷ 2 ∷ 3 ∷ 4 ∷ 5 ∷ 6 ∷ 7 ∷ 8 ∷ 10 ∷ 11 ∷ 12 ∷ 13 ∷ 14 ∷ []
+-- behind those of `room`: what a call is lent for its sweeps
+abbrev pub ofLists : List Key
+ofLists = Key.factors ∷ Key.buffers ∷ Key.workMemory ∷ []
+
+-- the same for totals: sampling has no limit of free edges, and enumeration no chunks to ask of
+abbrev pub ofEnumerationLists : List Key
+ofEnumerationLists = Key.freeEdges ∷ ofLists
+
+abbrev pub ofSamplingLists : List Key
+ofSamplingLists = Key.samples ∷ ofLists
+
+-- behind all others: what the sweeps found
+abbrev pub ofSweeps : List Key
+ofSweeps = Key.partitionSums ∷ []
+
+abbrev pub ofCorrelations : List Key
+ofCorrelations = ofRoom ++ (ofLists ++ ofSweeps)
+
+abbrev pub ofEnumeration : List Key
+ofEnumeration = ofRoom ++ (ofEnumerationLists ++ ofSweeps)
+
+abbrev pub ofSampling : List Key
+ofSampling = ofRoom ++ (ofSamplingLists ++ ofSweeps)

@@ -5,6 +5,8 @@ use Prim.Native.Nat.{ℕ, _-_, _*_}
 use lib.Dec.{eqb, ltb, leb}
 use lib.Ieee.{Float, nan, inf, binary64, le, lt, neg, ofBits}
 use lib.ListN.{length, getD}
+use Rattle.limits.specs.Limits.{mostVertices, mostEdges, mostPairs, mostBetas, mostSamples}
+pub use Rattle.limits.specs.Limits.{mostCounted, mostStored}
 use Rattle.vector.specs.Search.{some}
 use Rattle.transfer.specs.Job.{tooManyNear}
 use Rattle.transfer.specs.Configuration.{numbered}
@@ -21,22 +23,15 @@ pub record Configurations : Type 0 where
   pub end : ℕ
   pub samples : ℕ
 
--- none: the caller's factors are of one configuration
-abbrev pub single : Configurations
-single = record { free = 0; most = 0; start = 0; end = 0; samples = 0 }
-
 abbrev pub enumerated : (free most : ℕ) → Configurations
 enumerated free most = record { free = free; most = most; start = 0; end = 0; samples = 0 }
 
+-- none: the caller's factors are of one configuration
+abbrev pub single : Configurations
+single = enumerated 0 0
+
 abbrev pub sampled : (start end samples : ℕ) → Configurations
 sampled start end samples = record { free = 0; most = 0; start = start; end = end; samples = samples }
-
--- the most free edges of enumerated totals, and of stored correlations
-abbrev pub mostCounted : ℕ
-mostCounted = 34
-
-abbrev pub mostStored : ℕ
-mostStored = 24
 
 -- A part that a call does not have is empty.
 pub record Request : Type 0 where
@@ -47,10 +42,9 @@ pub record Request : Type 0 where
   pub magnitudes : List Float
   -- the caller's floor of the window
   pub floor : ℕ
-  -- the pairs, and whether one may have equal ends
+  -- the pairs
   pub firsts : List ℕ
   pub seconds : List ℕ
-  pub equalEnds : Bool
   pub betas : List Float
   pub configurations : Configurations
   -- the lent factors, and how many there should be
@@ -63,75 +57,8 @@ pub record Request : Type 0 where
   -- whether some pair's Z is not finite and above zero
   pub unsound : Bool
 
--- The request of `couplings`: a graph and betas.
-abbrev pub couplingRequest : ℕ → List ℕ → List ℕ → (m betas : List Float) → Bool → Request
-couplingRequest n a b m betas misfit = record {
-  vertices = n;
-  ones = a;
-  others = b;
-  magnitudes = m;
-  floor = 0;
-  firsts = [];
-  seconds = [];
-  equalEnds = false;
-  betas = betas;
-  configurations = single;
-  factors = [];
-  factorCount = 0;
-  misfit = misfit;
-  work = 0;
-  unsound = false;
-}
-
--- The request of a call that is given a graph alone.
-abbrev pub graphRequest : ℕ → List ℕ → List ℕ → List Float → Bool → Request
-graphRequest n a b m misfit = couplingRequest n a b m [] misfit
-
--- The request of `distance`: a graph and one pair, whose ends may be equal.
-abbrev pub distanceRequest : ℕ → List ℕ → List ℕ → List Float → ℕ → ℕ → Request
-distanceRequest n a b m u v = record {
-  vertices = n;
-  ones = a;
-  others = b;
-  magnitudes = m;
-  floor = 0;
-  firsts = u ∷ [];
-  seconds = v ∷ [];
-  equalEnds = true;
-  betas = [];
-  configurations = single;
-  factors = [];
-  factorCount = 0;
-  misfit = false;
-  work = 0;
-  unsound = false;
-}
-
--- What the checks 1 to 8 read of a call for totals: a graph, the floor of its window, pairs, and betas.
-abbrev pub jobRequest : (n floor : ℕ) → (a b : List ℕ) → List Float → (us vs : List ℕ) → List Float → Request
-jobRequest n floor a b m us vs betas = record {
-  vertices = n;
-  ones = a;
-  others = b;
-  magnitudes = m;
-  floor = floor;
-  firsts = us;
-  seconds = vs;
-  equalEnds = false;
-  betas = betas;
-  configurations = single;
-  factors = [];
-  factorCount = 0;
-  misfit = false;
-  work = 0;
-  unsound = false;
-}
-
--- The request of `room`: a job without betas.
-abbrev pub roomRequest : ℕ → ℕ → List ℕ → List ℕ → List Float → List ℕ → List ℕ → Request
-roomRequest n floor a b m us vs = jobRequest n floor a b m us vs []
-
 -- The request of a call that sweeps: besides a job, which configurations it sweeps, so many factors, result buffers, and work memory.
+-- Every other request is this one with parts that are empty.
 abbrev pub sweepRequest : (n floor : ℕ) → (a b : List ℕ) → List Float → (us vs : List ℕ) → List Float → Configurations
     → List Float → (count : ℕ) → (misfit : Bool) → (work : ℕ) → Bool → Request
 sweepRequest n floor a b m us vs betas configurations factors count misfit work unsound = record {
@@ -142,7 +69,6 @@ sweepRequest n floor a b m us vs betas configurations factors count misfit work 
   floor = floor;
   firsts = us;
   seconds = vs;
-  equalEnds = false;
   betas = betas;
   configurations = configurations;
   factors = factors;
@@ -151,6 +77,30 @@ sweepRequest n floor a b m us vs betas configurations factors count misfit work 
   work = work;
   unsound = unsound;
 }
+
+-- The request of a call that sweeps nothing: a job, and result buffers.
+abbrev pub plainRequest : (n floor : ℕ) → (a b : List ℕ) → List Float → (us vs : List ℕ) → List Float → (misfit : Bool) → Request
+plainRequest n floor a b m us vs betas misfit = sweepRequest n floor a b m us vs betas single [] 0 misfit 0 false
+
+-- The request of `couplings`: a graph and betas.
+abbrev pub couplingRequest : ℕ → List ℕ → List ℕ → (m betas : List Float) → Bool → Request
+couplingRequest n a b m betas misfit = plainRequest n 0 a b m [] [] betas misfit
+
+-- The request of a call that is given a graph alone.
+abbrev pub graphRequest : ℕ → List ℕ → List ℕ → List Float → Bool → Request
+graphRequest n a b m misfit = couplingRequest n a b m [] misfit
+
+-- The request of `distance`: a graph and one pair.
+abbrev pub distanceRequest : ℕ → List ℕ → List ℕ → List Float → ℕ → ℕ → Request
+distanceRequest n a b m u v = plainRequest n 0 a b m (u ∷ []) (v ∷ []) [] false
+
+-- What the checks 1 to 8 read of a call for totals: a graph, the floor of its window, pairs, and betas.
+abbrev pub jobRequest : (n floor : ℕ) → (a b : List ℕ) → List Float → (us vs : List ℕ) → List Float → Request
+jobRequest n floor a b m us vs betas = plainRequest n floor a b m us vs betas false
+
+-- The request of `room`: a job without betas.
+abbrev pub roomRequest : ℕ → ℕ → List ℕ → List ℕ → List Float → List ℕ → List ℕ → Request
+roomRequest n floor a b m us vs = jobRequest n floor a b m us vs []
 
 -- The request of `correlations`: one factor for each kept edge, one result for each pair.
 abbrev pub correlationRequest : (n floor : ℕ) → List ℕ → List ℕ → List Float → List ℕ → List ℕ → List Float → (results work : ℕ) → Bool → Request
@@ -176,30 +126,29 @@ samplingRequest n floor a b m us vs betas factors start end samples misfit work 
 
 -- 1. The vertex count is 0 or above 1,024.
 abbrev pub badVertices : Request → Bool
-badVertices r = eqb (r .vertices) 0 || ltb 1024 (r .vertices)
+badVertices r = eqb (r .vertices) 0 || ltb mostVertices (r .vertices)
 
 -- 2. Lists of one kind differ in length, or there are over 4,096 edges, 256 pairs or 64 betas.
-abbrev pub badLengths : Request → Bool
-badLengths r =
+abbrev pub badLists : Request → Bool
+badLists r =
     not (eqb (length (r .ones)) (length (r .others)))
     || not (eqb (length (r .ones)) (length (r .magnitudes)))
-    || ltb 4096 (length (r .ones))
+    || ltb mostEdges (length (r .ones))
     || not (eqb (length (r .firsts)) (length (r .seconds)))
-    || ltb 256 (length (r .firsts))
-
-abbrev pub badLists : Request → Bool
-badLists r = ltb 64 (length (r .betas)) || badLengths r
+    || ltb mostPairs (length (r .firsts))
+    || ltb mostBetas (length (r .betas))
 
 -- An end is outside a graph of n vertices.
 abbrev pub outside : ℕ → ℕ → ℕ → Bool
 outside n u v = leb n u || leb n v
 
--- 3. An edge has equal ends or an end outside the graph.
-abbrev pub badEdge : ℕ → List ℕ → List ℕ → ℕ → Bool
-badEdge n a b e = eqb (getD a e 0) (getD b e 0) || outside n (getD a e 0) (getD b e 0)
+-- The ends at place e are equal, or one is outside.
+abbrev pub badEnds : ℕ → List ℕ → List ℕ → ℕ → Bool
+badEnds n a b e = eqb (getD a e 0) (getD b e 0) || outside n (getD a e 0) (getD b e 0)
 
+-- 3. An edge has equal ends or an end outside the graph.
 abbrev pub badEdges : Request → Bool
-badEdges r = some (badEdge (r .vertices) (r .ones) (r .others)) (length (r .ones))
+badEdges r = some (badEnds (r .vertices) (r .ones) (r .others)) (length (r .ones))
 
 -- 4. A magnitude or beta isn't finite, or its size is above 1,024: it is not from -1,024 to 1,024.
 abbrev pub limit : Float
@@ -208,15 +157,11 @@ limit = ofBits binary64 0x4090_0000_0000_0000
 abbrev pub oversized : Float → Bool
 oversized x = not (le (neg limit) x && le x limit)
 
-abbrev pub badMagnitudes : Request → Bool
-badMagnitudes r = some (λ e. oversized (getD (r .magnitudes) e nan)) (length (r .magnitudes))
-
-abbrev pub badBetas : List Float → Bool
-badBetas [] = false
-badBetas (beta ∷ betas) = oversized beta || badBetas betas
+abbrev pub someOversized : List Float → Bool
+someOversized xs = some (λ e. oversized (getD xs e nan)) (length xs)
 
 abbrev pub badSizes : Request → Bool
-badSizes r = badBetas (r .betas) || badMagnitudes r
+badSizes r = someOversized (r .magnitudes) || someOversized (r .betas)
 
 -- 5. Two kept edges join the same vertices.
 abbrev pub sameEnds : List ℕ → List ℕ → ℕ → ℕ → Bool
@@ -231,27 +176,28 @@ keptIn r = kept (r .ones) (r .others) (r .magnitudes)
 abbrev pub parallelEdges : Request → Bool
 parallelEdges r = joinedTwice (earlyEnds (keptIn r)) (lateEnds (keptIn r))
 
--- 6. The window is above 24.
+-- 6. The window is above so much.
 abbrev pub windowIn : Request → ℕ
 windowIn r = windowFrom (r .floor) (r .ones) (r .others) (r .magnitudes)
 
-abbrev pub wideWindow : Request → Bool
-wideWindow r = ltb 24 (windowIn r)
+abbrev pub wideWindow : (most : ℕ) → Request → Bool
+wideWindow most r = ltb most (windowIn r)
 
 -- 7. A vertex has over four back edges shorter than the window.
 abbrev pub manyNear : Request → Bool
 manyNear r = tooManyNear (r .vertices) (windowIn r) (numbered (earlyEnds (keptIn r)) (lateEnds (keptIn r)))
 
--- 8. A pair has equal ends or an end outside the graph (`distance` allows equal ends).
-abbrev pub badPair : Bool → ℕ → List ℕ → List ℕ → ℕ → Bool
-badPair equal n us vs p = (not equal && eqb (getD us p 0) (getD vs p 0)) || outside n (getD us p 0) (getD vs p 0)
-
+-- 8. A pair has equal ends or an end outside the graph;
 abbrev pub badPairs : Request → Bool
-badPairs r = some (badPair (r .equalEnds) (r .vertices) (r .firsts) (r .seconds)) (length (r .firsts))
+badPairs r = some (badEnds (r .vertices) (r .firsts) (r .seconds)) (length (r .firsts))
 
--- 9. Free edges exceed 34 for enumerated totals or 24 for stored correlations.
-abbrev pub manyFree : Request → Bool
-manyFree r = ltb (r .configurations .most) (r .configurations .free)
+-- of `distance`, which allows equal ends, an end outside the graph.
+abbrev pub outsidePairs : Request → Bool
+outsidePairs r = some (λ p. outside (r .vertices) (getD (r .firsts) p 0) (getD (r .seconds) p 0)) (length (r .firsts))
+
+-- 9. There are more free edges than so many.
+abbrev pub manyFree : (most : ℕ) → Request → Bool
+manyFree most r = ltb most (r .configurations .free)
 
 -- Finite and above zero.
 abbrev pub passes : Float → Bool
@@ -266,7 +212,7 @@ badFactors r = badFactorList (r .factors) (r .factorCount)
 
 -- 11. End above start, and chunks times samples per chunk exceed 2^32.
 abbrev pub tooManyChunks : (start end samples : ℕ) → Bool
-tooManyChunks start end samples = ltb start end && ltb 4294967296 ((end - start) * samples)
+tooManyChunks start end samples = ltb start end && ltb mostSamples ((end - start) * samples)
 
 abbrev pub manySamples : Request → Bool
 manySamples r = tooManyChunks (r .configurations .start) (r .configurations .end) (r .configurations .samples)

@@ -5,6 +5,8 @@ use Prim.Native.Nat.{ℕ, _*_}
 use lib.Dec.{eqb, ltb}
 use lib.Ieee.{Float, binary64, ofBits}
 use lib.Ieee.Scale.{finite}
+use Rattle.limits.specs.Limits.{mostVertices}
+use Rattle.checks.specs.Key.{Key}
 use Rattle.checks.specs.Request.{oversized}
 use Rattle.checks.specs.Refusal.{Check, check, first}
 
@@ -29,7 +31,7 @@ undiluted = record { keep = ofBits binary64 0; low = ofBits binary64 0; high = o
 
 -- 15. A strip side is 0, or sides multiply above 1,024.
 abbrev pub badSides : StripRequest → Bool
-badSides r = eqb (r .width) 0 || eqb (r .columns) 0 || ltb 1024 (r .width * r .columns)
+badSides r = eqb (r .width) 0 || eqb (r .columns) 0 || ltb mostVertices (r .width * r .columns)
 
 -- 17. Keep isn't finite, or a magnitude bound isn't finite or its size is above 1,024.
 abbrev pub badDilution : StripRequest → Bool
@@ -38,27 +40,27 @@ badDilution r = not (finite (r .dilution .keep)) || oversized (r .dilution .low)
 -- Checks 15 to 17 stand before 12.
 abbrev pub stripChecks : List (Check StripRequest)
 stripChecks =
-    check 15 badSides
-    ∷ check 16 (λ r. r .oddCylinder)
-    ∷ check 17 badDilution
-    ∷ check 12 (λ r. r .misfit)
+    check Key.stripSides 15 badSides
+    ∷ check Key.oddCylinder 16 (λ r. r .oddCylinder)
+    ∷ check Key.dilution 17 badDilution
+    ∷ check Key.buffers 12 (λ r. r .misfit)
     ∷ []
 
-abbrev pub stripRefusal : List ℕ → StripRequest → ℕ
+abbrev pub stripRefusal : List Key → StripRequest → ℕ
 stripRefusal concerned r = first stripChecks concerned r
 
 -- ---- which checks concern which call
-abbrev pub ofSides : List ℕ
-ofSides = 15 ∷ []
+abbrev pub ofSides : List Key
+ofSides = Key.stripSides ∷ []
 
-abbrev pub ofStrip : List ℕ
-ofStrip = 15 ∷ 16 ∷ []
+abbrev pub ofStrip : List Key
+ofStrip = Key.stripSides ∷ Key.oddCylinder ∷ []
 
-abbrev pub ofRawEdges : List ℕ
-ofRawEdges = 15 ∷ 16 ∷ 12 ∷ []
+abbrev pub ofRawEdges : List Key
+ofRawEdges = Key.stripSides ∷ Key.oddCylinder ∷ Key.buffers ∷ []
 
-abbrev pub ofDiluted : List ℕ
-ofDiluted = 15 ∷ 16 ∷ 17 ∷ 12 ∷ []
+abbrev pub ofDiluted : List Key
+ofDiluted = Key.stripSides ∷ Key.oddCylinder ∷ Key.dilution ∷ Key.buffers ∷ []
 
-abbrev pub ofPairs : List ℕ
-ofPairs = 15 ∷ 12 ∷ []
+abbrev pub ofPairs : List Key
+ofPairs = Key.stripSides ∷ Key.buffers ∷ []

@@ -17,8 +17,9 @@ use Rattle.checks.specs.declared.Answer.{Answer}
 use Rattle.checks.specs.declared.Answer.the-variants.{Number, Refused}
 use Rattle.checks.specs.AcceptedTotals.{AcceptedTotals, accepted-enumeration}
 use Rattle.checks.specs.Edges.{kept, earlyEnds, lateEnds, windowFrom}
-use Rattle.checks.specs.First.{passed, checks-numbered}
-use Rattle.checks.specs.Refusal.{checks, refusal, ofEnumeration}
+use Rattle.checks.specs.Key.{Key}
+use Rattle.checks.specs.First.{passed-at}
+use Rattle.checks.specs.Refusal.{refusal, ofEnumeration}
 use Rattle.checks.specs.Request.{enumerationRequest}
 use Rattle.lattice.specs.Graphs.{freeCount}
 use Rattle.pair_correlations.specs.Sound.{unsound}
@@ -110,9 +111,7 @@ module _ (n floor : ℕ) (a b : List ℕ) (m : List Float) (us vs : List ℕ) (b
 
     none-bad : bad ≡ false
     none-bad =
-        let none = passed checks ofEnumeration
-        (enumerationRequest n floor a b m us vs betas factors (free a b m) most misfit work bad) checks-numbered accepted in
-        none .1 .1 .1 .1 .1 .1 .1 .1 .1 .1 .1 .1 .0
+        passed-at ofEnumeration (enumerationRequest n floor a b m us vs betas factors (free a b m) most misfit work bad) accepted Key.partitionSums refl
 
     pub few-free : free a b m ≤ most
     few-free = enumeration-facts .1

@@ -1,5 +1,5 @@
 -- What the demands say of an accepted call of `correlations`, of the stored results and with no tolerance.
-use mathlib.Core.Path.{_≡_, sym, _∙_}
+use mathlib.Core.Path.{_≡_, refl, sym, _∙_}
 use mathlib.Core.Bool.{false}
 use mathlib.Core.List.{List, []}
 use mathlib.Core.Logic.{inl}
@@ -18,8 +18,9 @@ use Rattle.exactness.specs.Textbook.{textbook}
 use Rattle.accuracy.specs.Apart.{Apart}
 use Rattle.checks.specs.AcceptedJob.{AcceptedCorrelations, accepted-correlations, passes-positive}
 use Rattle.checks.specs.Edges.{kept, earlyEnds}
-use Rattle.checks.specs.First.{passed, checks-numbered}
-use Rattle.checks.specs.Refusal.{checks, ofCorrelations}
+use Rattle.checks.specs.Key.{Key}
+use Rattle.checks.specs.First.{passed-at}
+use Rattle.checks.specs.Refusal.{ofCorrelations}
 use Rattle.checks.specs.Request.{correlationRequest}
 use Rattle.pair_correlations.specs.Sound.{unsound}
 use Rattle.glass.specs.Correlations.{mannerOf, jobGiven, Correlated}
@@ -42,9 +43,7 @@ module _ {n floor : ℕ} {a b : List ℕ} {m : List Float} {us vs : List ℕ} {f
 
   all-sound : unsound job us vs ≡ false
   all-sound =
-      let none = passed checks ofCorrelations
-      (correlationRequest n floor a b m us vs factors (length results) (length work) (unsound job us vs)) checks-numbered (sym (call .answer) ∙ accepted) in
-      none .1 .1 .1 .1 .1 .1 .1 .1 .1 .1 .1 .0
+      passed-at ofCorrelations (correlationRequest n floor a b m us vs factors (length results) (length work) (unsound job us vs)) (sym (call .answer) ∙ accepted) Key.partitionSums refl
 
   pub result-sound : Sound job us vs
   result-sound =

@@ -25,8 +25,9 @@ use Rattle.transfer.specs.Totals.{square, fourth, sampled, sampledCount}
 use Rattle.checks.specs.declared.Answer.the-variants.{Number}
 use Rattle.checks.specs.AcceptedTotals.{AcceptedTotals, misfits, accepted-sampling}
 use Rattle.checks.specs.Edges.{windowFrom}
-use Rattle.checks.specs.First.{passed, checks-numbered}
-use Rattle.checks.specs.Refusal.{checks, ofSampling}
+use Rattle.checks.specs.Key.{Key}
+use Rattle.checks.specs.First.{passed-at}
+use Rattle.checks.specs.Refusal.{ofSampling}
 use Rattle.checks.specs.Request.{samplingRequest}
 use Rattle.pair_correlations.specs.Sound.{unsound}
 use Rattle.bounds.specs.Bounds.{sampled-answers-bounded}
@@ -66,8 +67,7 @@ module _ {n floor : ℕ} {a b : List ℕ} {m : List Float} {us vs : List ℕ} {b
 
   none-bad : bad ≡ false
   none-bad =
-      let none = passed checks ofSampling (samplingRequest n floor a b m us vs betas factors from to samples misfit (length work) bad) checks-numbered (accepted .0) in
-      none .1 .1 .1 .1 .1 .1 .1 .1 .1 .1 .1 .1 .0
+      passed-at ofSampling (samplingRequest n floor a b m us vs betas factors from to samples misfit (length work) bad) (accepted .0) Key.partitionSums refl
 
   -- the chunks by how far they are from the first
   drawn-sound : (i j beta : ℕ) → i < to - from → j < samples → beta < length betas → Sound (drawn (from + i) j beta) us vs

@@ -1,17 +1,17 @@
 -- The refusal of a call for an error bound in parts: the checks of a job without pairs, then that of the factors.
 use mathlib.Core.Path.{_≡_, refl, sym, ap, _∙_}
 use mathlib.Core.Bool.{Bool, true, false, cond}
-use mathlib.Core.List.{List, [], _∷_}
+use mathlib.Core.List.{List, [], _∷_, _++_}
 use Prim.Native.Nat.{ℕ, zero, suc}
 use lib.Ieee.{Float}
 use lib.ListN.{length}
 use Rattle.vector.specs.Search.{some, start}
 use Rattle.transfer.specs.Configuration.{numbered}
 use Rattle.checks.specs.Edges.{kept, earlyEnds, lateEnds, windowFrom}
-use Rattle.checks.specs.Request.{Request, jobRequest, badPair, badFactorList}
-use Rattle.checks.specs.Refusal.{checks, refusal, ofRoom}
-use Rattle.checks.specs.First.{checks-numbered}
-use Rattle.checks.specs.Later.{orElse, in-parts}
+use Rattle.checks.specs.Key.{Key}
+use Rattle.checks.specs.Request.{Request, jobRequest, badEnds, badFactorList}
+use Rattle.checks.specs.Refusal.{refusal, ofRoom}
+use Rattle.checks.specs.Later.{orElse, refusal-in-parts}
 use Rattle.error_bound.specs.declared.answer.ErrorBound.{ErrorBound}
 use Rattle.error_bound.specs.declared.answer.ErrorBound.the-variants.{Within, Unknown, Refused}
 use Rattle.error_bound.specs.Bound.{mostNear, errorBound, mostBits, nearOne, ofErrorBound, errorBoundRequest, boundOf, factorCount, errorBoundOf}
@@ -21,12 +21,12 @@ module _ (n floor : ℕ) (a b : List ℕ) (m betas factors : List Float) (count 
   request = errorBoundRequest n floor a b m betas factors count
 
   -- no pair is bad where there is none
-  without-pairs : refusal (1 ∷ 2 ∷ 3 ∷ 4 ∷ 5 ∷ 6 ∷ 7 ∷ 8 ∷ 10 ∷ []) request ≡ refusal ofErrorBound request
-  without-pairs = rw (start (badPair false n [] []))
+  without-pairs : refusal (ofRoom ++ (Key.factors ∷ [])) request ≡ refusal ofErrorBound request
+  without-pairs = rw (start (badEnds n [] []))
 
   pub in-two-parts : refusal ofErrorBound request
       ≡ orElse (refusal ofRoom (jobRequest n floor a b m [] [] betas)) (cond (badFactorList factors count) 10 0)
-  in-two-parts = sym without-pairs ∙ in-parts checks ofRoom (10 ∷ []) request checks-numbered refl
+  in-two-parts = sym without-pairs ∙ refusal-in-parts ofRoom (Key.factors ∷ []) request refl
 
   -- where the first part refuses, and where it does not
   pub first-part : (r w near : ℕ) → r ≡ refusal ofRoom (jobRequest n floor a b m [] [] betas) → (r ≡ 0 → ⊥)

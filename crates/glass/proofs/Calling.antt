@@ -17,7 +17,7 @@ use Rattle.transfer.specs.Rounded.{ieee}
 use Rattle.transfer.specs.Sweep as S
 use Rattle.checks.specs.Edges.{kept, earlyEnds, lateEnds, windowFrom}
 use Rattle.checks.specs.Request.{roomRequest, correlationRequest}
-use Rattle.checks.specs.Refusal.{checks, among, refusal, ofRoom, ofLists, ofCorrelations}
+use Rattle.checks.specs.Refusal.{checks, refusal, ofRoom, ofLists, ofCorrelations}
 use Rattle.checks.specs.Later.{orElse, is-among}
 use Rattle.checks.specs.AcceptedJob.{listsRefusal, correlations-in-parts, accepted-lists}
 use Rattle.kept.specs.Fronts.{front-early, front-late}

@@ -6,7 +6,9 @@ use Prim.Native.Nat.{ℕ, zero, suc}
 use native.Mathlib.Omega.{arith}
 use lib.Ieee.{Float}
 use borrow.Author.Tests.{ne-eqb}
-use Rattle.checks.specs.Refusal.{among}
+use Rattle.checks.specs.Key.{Key}
+use Rattle.checks.specs.Refusal.{checks}
+use Rattle.checks.specs.Later.{answerable}
 use Rattle.glass.specs.Correlations.{settled, cleared}
 
 -- a refusal by a check that stands before 14 leaves the lists as they were
@@ -18,8 +20,8 @@ pub cleared-not : (r end : ℕ) (old : List Float) → (r ≡ 0 → ⊥) → (r 
 unfolding cleared
 cleared-not r end old p q = rw (ne-eqb r 0 p, ne-eqb r 14 q)
 
--- an answer of checks that 14 is not among
-pub not-14 : (concerned : List ℕ) (k : ℕ) → among concerned 14 ≡ false → ((k ≡ 0 → ⊥) → among concerned k ≡ true) → k ≡ 14 → ⊥
+-- an answer of checks none of which answers 14
+pub not-14 : (concerned : List Key) (k : ℕ) → answerable checks concerned 14 ≡ false → ((k ≡ 0 → ⊥) → answerable checks concerned k ≡ true) → k ≡ 14 → ⊥
 not-14 concerned k f t p =
-    let v : true ≡ false = sym (t (λ z. omega arith)) ∙ ap (among concerned) p ∙ f in
+    let v : true ≡ false = sym (t (λ z. omega arith)) ∙ ap (answerable checks concerned) p ∙ f in
     (let z : _≡_ {A = ℕ} 0 1 = cc in omega arith)

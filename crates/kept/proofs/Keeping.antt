@@ -89,7 +89,7 @@ module _ {a b : List ℕ} {m : List Float} {i k : ℕ} {early₀ early late₀ l
       }
 
   -- a kept edge has room in each buffer
-  pub keep-room : isZero (getD m i nan) ≡ false → k < length (kept a b m)
+  keep-room : isZero (getD m i nan) ≡ false → k < length (kept a b m)
   keep-room z =
       let e = kept-more a b m i z in
       let l = length-append (keptOf a b m i) (keptAt a b m i ∷ []) in
@@ -98,6 +98,12 @@ module _ {a b : List ℕ} {m : List Float} {i k : ℕ} {early₀ early late₀ l
       rw s at (kept-grows a b m (i + 1) (length a - (i + 1))) in
       let w = K .written .edges in
       omega (arith, ap length e)
+
+  pub keep-rooms : isZero (getD m i nan) ≡ false → (k < length early) × (k < length late) × (k < length mag)
+  keep-rooms z =
+      let r = keep-room z in
+      let f = K .fits in
+      (omega (arith, f .earlies, K .earlies), omega (arith, f .lates, K .lates), omega (arith, f .mags, K .mags))
 
   pub keep-it : isZero (getD m i nan) ≡ false → (x y : ℕ) → x ≡ min (getD a i 0) (getD b i 0) → y ≡ max (getD a i 0) (getD b i 0)
       → Keeping a b m (i + 1) (k + 1) early₀ (set early k x) late₀ (set late k y) mag₀ (set mag k (getD m i nan))

@@ -1,16 +1,16 @@
 -- The kept edges at the fronts of three lists, as parts of these lists.
 use mathlib.Core.Path.{_≡_, sym, _∙_, ap₂}
-use mathlib.Core.Bool.{false}
 use mathlib.Core.List.{List, map}
 use Prim.Native.Nat.{ℕ, _≤_, _<_}
 use native.Mathlib.Omega.{arith}
 use lib.Ieee.{Float}
 use lib.ListN.{length, take, drop, length-map, length-take}
 use lib.Seq.{take-at}
+use Rattle.limits.specs.Limits.{mostEdges}
 use Rattle.vector.specs.Front.{over}
-use Rattle.checks.specs.Edges.{Kept, kept, earlyEnds, lateEnds}
-use Rattle.checks.specs.Accepted.{Lengths, Accepted, accepted, kept-inside, kept-most}
-use Rattle.kept.specs.Keep.{Written, Built, Ordered}
+use Rattle.checks.specs.Edges.{Kept, kept, earlyEnds, lateEnds, magnitudes}
+use Rattle.checks.specs.Accepted.{Lengths, Accepted, accepted-graph, kept-inside, kept-most}
+use Rattle.kept.specs.Keep.{Written, CheckedGraph, Ordered}
 
 -- the front of a buffer is what was written there
 pub front-is : {A : Type 0} (f : Kept → A) (es : List Kept) (l l₀ : List A) (k : ℕ) → k ≡ length es → l ≡ over (map f es) l₀ → take k l ≡ map f es
@@ -24,6 +24,9 @@ module _ {a b : List ℕ} {m : List Float} {k : ℕ} {early early′ late late�
   pub front-late : take k late′ ≡ lateEnds (kept a b m)
   front-late = front-is (λ e. e .late) (kept a b m) late′ late k (W .edges) (W .lates)
 
+  pub front-mag : take k mag′ ≡ magnitudes (kept a b m)
+  front-mag = front-is (λ e. e .magnitude) (kept a b m) mag′ mag k (W .edges) (W .mags)
+
   -- the fronts as parts of the lists
   pub early-part : k ≡ length (take k early′)
   early-part = W .edges ∙ sym (rw front-early (length-map (kept a b m) (λ e. e .early)))
@@ -31,13 +34,19 @@ module _ {a b : List ℕ} {m : List Float} {k : ℕ} {early early′ late late�
   pub late-part : k ≡ length (take k late′)
   late-part = W .edges ∙ sym (rw front-late (length-map (kept a b m) (λ e. e .late)))
 
+  pub mag-part : k ≡ length (take k mag′)
+  mag-part = W .edges ∙ sym (rw front-mag (length-map (kept a b m) (λ e. e .magnitude)))
+
   pub early-fits : k ≤ length early′
   early-fits = let l = early-part in omega (arith, length-take k early′)
 
   pub late-fits : k ≤ length late′
   late-fits = let l = late-part in omega (arith, length-take k late′)
 
-  pub few : Lengths a b m → k ≤ 4096
+  pub mag-fits : k ≤ length mag′
+  mag-fits = let l = mag-part in omega (arith, length-take k mag′)
+
+  pub few : Lengths a b m → k ≤ mostEdges
   few l =
       let h = kept-most a b m (length a) in
       let f = l .few-edges in
@@ -49,14 +58,14 @@ module _ {a b : List ℕ} {m : List Float} {k : ℕ} {early early′ late late�
   of-kept f e = e ∙ ap₂ f front-early front-late
 
 -- ---- a graph that was accepted: what is at the fronts of the lists
-module _ {n : ℕ} {a b : List ℕ} {m : List Float} {r k : ℕ} {early early′ late late′ : List ℕ} {mag mag′ : List Float}
-    (B : Built n a b m r k early early′ late late′ mag mag′) (z : r ≡ 0) where
+module _ {n : ℕ} {a b : List ℕ} {m : List Float} {us vs : List ℕ} {betas : List Float} {r k : ℕ} {early early′ late late′ : List ℕ}
+    {mag mag′ : List Float} (G : CheckedGraph n a b m us vs betas r k early early′ late late′ mag mag′) (z : r ≡ 0) where
   pub is-accepted : Accepted n a b m
-  is-accepted = accepted n a b m false (sym (B .refusal) ∙ z)
+  is-accepted = accepted-graph n 0 a b m us vs betas (sym (G .refusal) ∙ z) .0
 
   pub ordered-fronts : Ordered (take k early′) (take k late′)
   ordered-fronts =
-      let W = B .written z in
+      let W = G .written z in
       let p = early-part W in
       record {
         lengths = sym (late-part W) ∙ early-part W;

@@ -1,15 +1,14 @@
 -- The kept edges on their way into three buffers: what a loop over the raw edges knows.
 use mathlib.Core.Path.{_≡_}
-use mathlib.Core.Bool.{false}
 use mathlib.Core.List.{List}
 use Prim.Native.Nat.{ℕ, _≤_, _<_}
 use lib.Ieee.{Float}
-use lib.ListN.{length, getD}
+use lib.ListN.{length, getD, take}
 use Rattle.vector.specs.Front.{over}
 use Rattle.checks.specs.Edges.{keptOf, earlyEnds, lateEnds, magnitudes}
-use Rattle.checks.specs.Request.{graphRequest}
+use Rattle.checks.specs.Request.{jobRequest}
 use Rattle.checks.specs.Refusal as Refusal
-use Rattle.checks.specs.Refusal.{ofGraph}
+use Rattle.checks.specs.Refusal.{ofRawGraph, ofGraph}
 
 -- the k kept ones of the first i raw edges were written to the fronts of three buffers; what lies past them stayed
 pub record Written (a b : List ℕ) (m : List Float) (i k : ℕ) (early early′ late late′ : List ℕ) (mag mag′ : List Float) : Type 0 where
@@ -24,10 +23,22 @@ pub record Holds (k : ℕ) (early late : List ℕ) (mag : List Float) : Type 0 w
   pub lates : k ≤ length late
   pub mags : k ≤ length mag
 
--- a graph was checked; where it is accepted, its kept edges were written
-pub record Built (n : ℕ) (a b : List ℕ) (m : List Float) (refused k : ℕ) (early early′ late late′ : List ℕ) (mag mag′ : List Float) : Type 0 where
-  pub refusal : refused ≡ Refusal.refusal ofGraph (graphRequest n a b m false)
+-- the first of the checks 1 to 4 that fits a graph with pairs and betas
+pub record CheckedRaw (n : ℕ) (a b : List ℕ) (m : List Float) (us vs : List ℕ) (betas : List Float) (refused : ℕ) : Type 0 where
+  pub refusal : refused ≡ Refusal.refusal ofRawGraph (jobRequest n 0 a b m us vs betas)
+
+-- the first of the checks 1 to 5 that fits a graph with pairs and betas, and its k kept edges, written if there is none
+pub record CheckedGraph (n : ℕ) (a b : List ℕ) (m : List Float) (us vs : List ℕ) (betas : List Float) (refused k : ℕ)
+    (early early′ late late′ : List ℕ) (mag mag′ : List Float) : Type 0 where
+  pub refusal : refused ≡ Refusal.refusal ofGraph (jobRequest n 0 a b m us vs betas)
   pub written : refused ≡ 0 → Written a b m (length a) k early early′ late late′ mag mag′
+  -- refused or not, the lists have fronts of k
+  pub early-fits : k ≤ length early′
+  pub early-part : k ≡ length (take k early′)
+  pub late-fits : k ≤ length late′
+  pub late-part : k ≡ length (take k late′)
+  pub mag-fits : k ≤ length mag′
+  pub mag-part : k ≡ length (take k mag′)
 
 -- two lists of ends of one length, each edge's smaller end first
 pub record Ordered (early late : List ℕ) : Type 0 where

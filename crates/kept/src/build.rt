@@ -1,12 +1,12 @@
 // A graph is checked and its kept edges are set out before anything is asked of it.
 ghost use mathlib.Core.Path.{_≡_};
-ghost use Prim.Native.Nat.{_≤_};
-ghost use lib.ListN.{length};
-ghost use Rattle.kept.specs.Keep.{Built};
+ghost use mathlib.Core.List.{[]};
+ghost use Rattle.limits.specs.Limits.{mostEdges};
+ghost use Rattle.kept.specs.Keep.{Holds, CheckedRaw, CheckedGraph};
 use crate::keep::keep;
 use crate::refuse::bad_edges;
 use crate::refuse::bad_lists;
-use crate::refuse::bad_magnitudes;
+use crate::refuse::bad_sizes;
 use crate::refuse::bad_vertices;
 use crate::refuse::joined_twice;
 
@@ -16,8 +16,8 @@ pub struct Checked {
     pub edges: usize,
 }
 
-fn refused(number: usize) -> Checked
-    ensures { λ r. ⌜ r .refusal ≡ number ⌝ }
+pub fn refused(number: usize) -> Checked
+    ensures { λ r. ⌜ (r .refusal ≡ number) × (r .edges ≡ 0) ⌝ }
 {
     Checked {
         refusal: number,
@@ -25,7 +25,63 @@ fn refused(number: usize) -> Checked
     }
 }
 
+// The checks that read the lists as they are lent, 1 to 4: of a graph, pairs and betas. Returns the refusal's number, 0 for accepted.
+fn check_raw(
+    n: usize,
+    a: &[usize],
+    b: &[usize],
+    m: &[f64],
+    us: &[usize],
+    vs: &[usize],
+    betas: &[f64],
+) -> usize
+    ensures { λ r. ⌜ CheckedRaw n (now (a .entry)) (now (b .entry)) (now (m .entry)) (now (us .entry)) (now (vs .entry)) (now (betas .entry)) r ⌝ }
+{
+    if bad_vertices(n) {
+        return 1;
+    }
+    if bad_lists(a.len(), b.len(), m.len(), us.len(), vs.len(), betas.len()) {
+        return 2;
+    }
+    if bad_edges(n, a, b) {
+        return 3;
+    }
+    if bad_sizes(m, betas) {
+        return 4;
+    }
+    0
+}
+
 // Checks 1 to 5. Where none fits, the kept edges stand at the fronts of the three lists.
+pub fn check_graph(
+    n: usize,
+    a: &[usize],
+    b: &[usize],
+    m: &[f64],
+    us: &[usize],
+    vs: &[usize],
+    betas: &[f64],
+    early: &mut [usize],
+    late: &mut [usize],
+    mag: &mut [f64],
+) -> Checked
+    requires { ⌜ Holds mostEdges (now early) (now late) (now mag) ⌝ }
+    ensures { λ r. ⌜ CheckedGraph n (now (a .entry)) (now (b .entry)) (now (m .entry)) (now (us .entry)) (now (vs .entry)) (now (betas .entry))
+        (r .refusal) (r .edges)
+        (now (early .entry)) (now (early .exit)) (now (late .entry)) (now (late .exit)) (now (mag .entry)) (now (mag .exit)) ⌝ }
+{
+    let refusal = check_raw(n, a, b, m, us, vs, betas);
+    if refusal != 0 {
+        return refused(refusal);
+    }
+    let edges = keep(a, b, m, early, late, mag);
+    if joined_twice(&early[..edges], &late[..edges]) {
+        return refused(5);
+    }
+    Checked { refusal: 0, edges }
+}
+
+// Checks 1 to 5 of a graph alone.
 pub fn build(
     n: usize,
     a: &[usize],
@@ -35,24 +91,9 @@ pub fn build(
     late: &mut [usize],
     mag: &mut [f64],
 ) -> Checked
-    requires { ⌜ (4096 ≤ length (now early)) × (4096 ≤ length (now late)) × (4096 ≤ length (now mag)) ⌝ }
-    ensures { λ r. ⌜ Built n (now (a .entry)) (now (b .entry)) (now (m .entry)) (r .refusal) (r .edges) (now (early .entry)) (now (early .exit)) (now (late .entry)) (now (late .exit)) (now (mag .entry)) (now (mag .exit)) ⌝ }
+    requires { ⌜ Holds mostEdges (now early) (now late) (now mag) ⌝ }
+    ensures { λ r. ⌜ CheckedGraph n (now (a .entry)) (now (b .entry)) (now (m .entry)) [] [] [] (r .refusal) (r .edges)
+        (now (early .entry)) (now (early .exit)) (now (late .entry)) (now (late .exit)) (now (mag .entry)) (now (mag .exit)) ⌝ }
 {
-    if bad_vertices(n) {
-        return refused(1);
-    }
-    if bad_lists(a.len(), b.len(), m.len(), 0, 0) {
-        return refused(2);
-    }
-    if bad_edges(n, a, b) {
-        return refused(3);
-    }
-    if bad_magnitudes(m) {
-        return refused(4);
-    }
-    let edges = keep(a, b, m, early, late, mag);
-    if joined_twice(&early[..edges], &late[..edges]) {
-        return refused(5);
-    }
-    Checked { refusal: 0, edges }
+    check_graph(n, a, b, m, &a[..0], &a[..0], &m[..0], early, late, mag)
 }

@@ -6,7 +6,4 @@ mod refuse;
 
 pub use reach::window_of;
 pub use refuse::bad_edges;
-pub use refuse::bad_lists;
-pub use refuse::bad_magnitudes;
-pub use refuse::bad_vertices;
 pub use refuse::is_outside;

@@ -3,25 +3,29 @@ ghost use mathlib.Core.Path.{_≡_};
 ghost use mathlib.Core.Bool.{Bool, not, _&&_, _||_};
 ghost use Prim.Native.Nat.{ℕ, _≤_, _<_};
 ghost use lib.Dec.{eqb, ltb, leb};
-ghost use lib.Ieee.{nan};
 ghost use lib.ListN.{length, getD};
 ghost use Rattle.vector.specs.Search.{some};
-ghost use Rattle.checks.specs.Request.{outside, badEdge, oversized, sameEnds, joinedTwice};
+ghost use Rattle.limits.specs.Limits.{mostVertices, mostEdges, mostPairs, mostBetas};
+ghost use Rattle.checks.specs.Request.{outside, badEnds, oversized, someOversized, sameEnds, joinedTwice};
 ghost use Rattle.kept.specs.Chains.{LastAt, Chain, Heads};
+use limits::BETAS;
+use limits::EDGES;
+use limits::PAIRS;
+use limits::VERTICES;
 
 // 1. The vertex count is 0 or above 1,024.
 pub fn bad_vertices(n: usize) -> bool
-    ensures { λ r. ⌜ r ≡ (eqb n 0 || ltb 1024 n) ⌝ }
+    ensures { λ r. ⌜ r ≡ (eqb n 0 || ltb mostVertices n) ⌝ }
 {
     if n == 0 {
         return true;
     }
-    1024 < n
+    VERTICES < n
 }
 
-// 2. Lists of one kind differ in length, or there are over 4,096 edges or 256 pairs.
-pub fn bad_lists(a: usize, b: usize, m: usize, us: usize, vs: usize) -> bool
-    ensures { λ r. ⌜ r ≡ (not (eqb a b) || not (eqb a m) || ltb 4096 a || not (eqb us vs) || ltb 256 us) ⌝ }
+// 2. Lists of one kind differ in length, or there are over 4,096 edges, 256 pairs or 64 betas.
+pub fn bad_lists(a: usize, b: usize, m: usize, us: usize, vs: usize, betas: usize) -> bool
+    ensures { λ r. ⌜ r ≡ (not (eqb a b) || not (eqb a m) || ltb mostEdges a || not (eqb us vs) || ltb mostPairs us || ltb mostBetas betas) ⌝ }
 {
     if a != b {
         return true;
@@ -29,13 +33,16 @@ pub fn bad_lists(a: usize, b: usize, m: usize, us: usize, vs: usize) -> bool
     if a != m {
         return true;
     }
-    if 4096 < a {
+    if EDGES < a {
         return true;
     }
     if us != vs {
         return true;
     }
-    256 < us
+    if PAIRS < us {
+        return true;
+    }
+    BETAS < betas
 }
 
 // An end is outside the graph.
@@ -60,7 +67,7 @@ fn bad_edge(n: usize, x: usize, y: usize) -> bool
 // 3. An edge has equal ends or an end outside the graph.
 pub fn bad_edges(n: usize, a: &[usize], b: &[usize]) -> bool
     requires { ⌜ length (now b) ≡ length (now a) ⌝ }
-    ensures { λ r. ⌜ r ≡ some (badEdge n (now (a .entry)) (now (b .entry))) (length (now (a .entry))) ⌝ }
+    ensures { λ r. ⌜ r ≡ some (badEnds n (now (a .entry)) (now (b .entry))) (length (now (a .entry))) ⌝ }
 {
     let mut i: usize = 0;
     while i < a.len() {
@@ -83,9 +90,9 @@ fn is_oversized(x: f64) -> bool
     true
 }
 
-// 4. A magnitude isn't finite, or its size is above 1,024.
-pub fn bad_magnitudes(m: &[f64]) -> bool
-    ensures { λ r. ⌜ r ≡ some (λ e. oversized (getD (now (m .entry)) e nan)) (length (now (m .entry))) ⌝ }
+// Returns whether a number isn't finite, or its size is above 1,024.
+fn some_oversized(m: &[f64]) -> bool
+    ensures { λ r. ⌜ r ≡ someOversized (now (m .entry)) ⌝ }
 {
     let mut i: usize = 0;
     while i < m.len() {
@@ -95,6 +102,16 @@ pub fn bad_magnitudes(m: &[f64]) -> bool
         i += 1;
     }
     false
+}
+
+// 4. A magnitude or beta isn't finite, or its size is above 1,024.
+pub fn bad_sizes(m: &[f64], betas: &[f64]) -> bool
+    ensures { λ r. ⌜ r ≡ (someOversized (now (m .entry)) || someOversized (now (betas .entry))) ⌝ }
+{
+    if some_oversized(m) {
+        return true;
+    }
+    some_oversized(betas)
 }
 
 // Whether an edge before e joins the same vertices. Only the edges with e's later end are looked at, from the last of them on.
@@ -134,11 +151,11 @@ fn find_twice(early: &[usize], late: &[usize], heads: &mut [usize], next: &mut [
 }
 
 pub(crate) fn joined_twice(early: &[usize], late: &[usize]) -> bool
-    requires { ⌜ (length (now late) ≡ length (now early)) × (length (now early) ≤ 4096) ⌝ }
-    requires { ⌜ ((e : ℕ) → e < length (now late) → getD (now late) e 0 < 1024) ⌝ }
+    requires { ⌜ (length (now late) ≡ length (now early)) × (length (now early) ≤ mostEdges) ⌝ }
+    requires { ⌜ ((e : ℕ) → e < length (now late) → getD (now late) e 0 < mostVertices) ⌝ }
     ensures { λ r. ⌜ r ≡ joinedTwice (now (early .entry)) (now (late .entry)) ⌝ }
 {
-    let mut heads = [0usize; 1024];
-    let mut next = [0usize; 4096];
+    let mut heads = [0usize; VERTICES];
+    let mut next = [0usize; EDGES];
     find_twice(early, late, &mut heads, &mut next)
 }

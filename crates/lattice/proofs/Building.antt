@@ -1,19 +1,23 @@
--- A graph that no check refuses.
+-- A graph that was checked, and what is known of its kept edges at the fronts of the lists.
 use mathlib.Core.Path.{_≡_, sym, _∙_, subst, subst₂}
-use mathlib.Core.Bool.{Bool}
-use mathlib.Core.List.{List}
+use mathlib.Core.Bool.{Bool, true, false}
+use mathlib.Core.List.{List, []}
 use Prim.Native.Nat.{ℕ, _<_}
 use native.Mathlib.Omega.{arith}
 use lib.Ieee.{Float}
 use lib.ListN.{length, getD, take}
 use Rattle.checks.specs.Edges.{kept, earlyEnds, lateEnds}
+use Rattle.checks.specs.Request.{graphRequest, distanceRequest, outside}
+use Rattle.checks.specs.Refusal.{refusal, ofGraphWithBuffers, ofDistance}
+use Rattle.checks.specs.Later.{then-buffers, then-pair, refused-before, refused-here, refused-not}
 use Rattle.checks.specs.Accepted.{kept-inside}
-use Rattle.forest.specs.Paths.{Edges, Spans}
+use Rattle.forest.specs.Paths.{Spans}
 use Rattle.distance.specs.Walks.{Distance}
 use Rattle.distance.specs.declared.Reach.{Reach}
-use Rattle.kept.specs.Keep.{Written, Built}
+use Rattle.kept.specs.Keep.{Written, CheckedGraph}
+use Rattle.lattice.specs.Graphs.{KeptGraph}
 pub use Rattle.kept.specs.Fronts.{front-early, front-late, early-part, late-part, early-fits, late-fits}
-pub use Rattle.kept.specs.Fronts.{few, of-kept, is-accepted, ordered-fronts}
+pub use Rattle.kept.specs.Fronts.{of-kept, is-accepted, ordered-fronts}
 
 module _ {a b : List ℕ} {m : List Float} {k : ℕ} {early early′ late late′ : List ℕ} {mag mag′ : List Float}
     (W : Written a b m (length a) k early early′ late late′ mag mag′) where
@@ -24,14 +28,46 @@ module _ {a b : List ℕ} {m : List Float} {k : ℕ} {early early′ late late�
       → Distance (earlyEnds (kept a b m)) (lateEnds (kept a b m)) u v r′
   distance-kept u v r r′ e d = subst (Distance (earlyEnds (kept a b m)) (lateEnds (kept a b m)) u v) e (subst₂ (λ x y. Distance x y u v r) (front-early W) (front-late W) d)
 
--- ---- a graph that was accepted
+-- ---- the graph was checked, and r was answered
 module _ {n : ℕ} {a b : List ℕ} {m : List Float} {r k : ℕ} {early early′ late late′ : List ℕ} {mag mag′ : List Float}
-    (B : Built n a b m r k early early′ late late′ mag mag′) (z : r ≡ 0) where
-  pub edges-fronts : Edges n (take k early′) (take k late′)
-  edges-fronts =
-      let W = B .written z in
-      let p = early-part W in
-      let at : (e : ℕ) → e < length (take k early′) → (getD (take k early′) e 0 < getD (take k late′) e 0) × (getD (take k late′) e 0 < n) = λ e h.
-      let h′ : e < length (kept a b m) = omega (arith, W .edges) in
-      rw (front-early W, front-late W) (kept-inside n a b m (is-accepted B z .edges) e h′) in
-      record { paired = sym (late-part W) ∙ early-part W; early-below = λ e h. omega (arith, at e h .0, at e h .1); late-below = λ e h. at e h .1 }
+    (G : CheckedGraph n a b m [] [] [] r k early early′ late late′ mag mag′) where
+  -- of a call with buffers, which misfit or not
+  module _ (misfit : Bool) where
+    pub buffers-before : (r ≡ 0 → ⊥) → r ≡ refusal ofGraphWithBuffers (graphRequest n a b m misfit)
+    buffers-before = refused-before (then-buffers n a b m misfit) r (G .refusal)
+
+    pub buffers-here : r ≡ 0 → misfit ≡ true → 12 ≡ refusal ofGraphWithBuffers (graphRequest n a b m misfit)
+    buffers-here = refused-here (then-buffers n a b m misfit) r (G .refusal)
+
+    pub buffers-not : r ≡ 0 → misfit ≡ false → 0 ≡ refusal ofGraphWithBuffers (graphRequest n a b m misfit)
+    buffers-not = refused-not (then-buffers n a b m misfit) r (G .refusal)
+
+  -- of a call with one pair
+  module _ (u v : ℕ) where
+    pub pair-before : (r ≡ 0 → ⊥) → r ≡ refusal ofDistance (distanceRequest n a b m u v)
+    pair-before = refused-before (then-pair n a b m u v) r (G .refusal)
+
+    pub pair-here : r ≡ 0 → outside n u v ≡ true → 8 ≡ refusal ofDistance (distanceRequest n a b m u v)
+    pair-here = refused-here (then-pair n a b m u v) r (G .refusal)
+
+    pub pair-not : r ≡ 0 → outside n u v ≡ false → 0 ≡ refusal ofDistance (distanceRequest n a b m u v)
+    pair-not = refused-not (then-pair n a b m u v) r (G .refusal)
+
+  -- accepted, its kept edges make a graph
+  module _ (z : r ≡ 0) where
+    pub kept-graph : KeptGraph n (take k early′) (take k late′)
+    kept-graph =
+        let W = G .written z in
+        let p = early-part W in
+        let at : (e : ℕ) → e < length (take k early′) → (getD (take k early′) e 0 < getD (take k late′) e 0) × (getD (take k late′) e 0 < n) = λ e h.
+        let h′ : e < length (kept a b m) = omega (arith, W .edges) in
+        rw (front-early W, front-late W) (kept-inside n a b m (is-accepted G z .edges) e h′) in
+        record {
+          few = is-accepted G z .few-vertices;
+          ordered = ordered-fronts G z;
+          joined = record {
+            paired = sym (late-part W) ∙ early-part W;
+            early-below = λ e h. omega (arith, at e h .0, at e h .1);
+            late-below = λ e h. at e h .1;
+          };
+        }

@@ -15,7 +15,8 @@ use Rattle.checks.specs.Request.{outside}
 use Rattle.kept.specs.Keep.{Written, Holds}
 use Rattle.distance.specs.Walks.{Distance}
 use Rattle.distance.specs.declared.Reach.the-variants as Reach
-use Rattle.lattice.specs.Graphs.{Set, tooShort}
+use Rattle.lattice.specs.Graphs.{Set, tooShort, measureOf}
+use Rattle.lattice.specs.declared.graph.Measure.{Measure}
 use Rattle.lattice.specs.Reached.{Distanced}
 use Rattle.lattice.specs.declared.graph.Reached.the-variants as Reached
 use Rattle.lattice.specs.declared.graph.Made.the-variants as Made
@@ -52,3 +53,9 @@ no-distance K early late u v e d = record { number = e; values = λ z joined len
 
 pub inside-both : (n u v : ℕ) → outside n u v ≡ false → (u < n) × (v < n)
 inside-both n u v h = let p = or-false (leb n u) (leb n v) h in (leb-false n u (p .0), leb-false n v (p .1))
+
+-- ---- a measure
+
+-- where it is known which one it is
+pub of-measure : (n : ℕ) (early late : List ℕ) (k k′ : Measure) → k ≡ k′ → (r : ℕ) → r ≡ measureOf k′ n early late → r ≡ measureOf k n early late
+of-measure n early late k k′ e r h = rw e h

@@ -10,7 +10,7 @@ use lib.ListN.{length, getD, set, length-set, length-map}
 use Rattle.vector.specs.Search.{some}
 use Rattle.vector.specs.Most.{most, most-ext}
 use Rattle.transfer.specs.Job.{longest, windowOf}
-use Rattle.checks.specs.Request.{badEdge}
+use Rattle.checks.specs.Request.{badEnds}
 use Rattle.checks.specs.Accepted.{kept-inside}
 use Rattle.vector.specs.Tabulate.{tabulate, tabulate-suc, tabulate-length, tabulated}
 use Rattle.vector.specs.Front.{over, over-more, over-behind, over-front, over-over}
@@ -106,7 +106,7 @@ turned-kept {n} {a} {b} {m} {k = k} {early₀ = early₀} {early = early} {late�
         ∙ over-over (map (λ e. turned n (f e)) es) (map g es) y₀ (length-map es (λ e. turned n (f e)) ∙ sym (length-map es g))
 
 -- no edge changes its length
-pub window-turned : (n floor : ℕ) (a b : List ℕ) (m : List Float) → some (badEdge n a b) (length a) ≡ false
+pub window-turned : (n floor : ℕ) (a b : List ℕ) (m : List Float) → some (badEnds n a b) (length a) ≡ false
     → windowOf floor (earlyEnds (kept a b m)) (lateEnds (kept a b m))
     ≡ windowOf floor (earlyEnds (rotate n (kept a b m))) (lateEnds (rotate n (kept a b m)))
 unfolding windowOf longest
@@ -135,7 +135,7 @@ window-turned n floor a b m ok = ap (λ k. max 1 (max floor k)) (lengths ∙ sym
 
 -- the ends of what was kept are below n
 pub kept-below : (n : ℕ) {a b : List ℕ} {m : List Float} {j k : ℕ} {early₀ early late₀ late : List ℕ} {mag₀ mag : List Float}
-    → Written a b m (length a) j early₀ early late₀ late mag₀ mag → k ≡ length (kept a b m) → some (badEdge n a b) (length a) ≡ false
+    → Written a b m (length a) j early₀ early late₀ late mag₀ mag → k ≡ length (kept a b m) → some (badEnds n a b) (length a) ≡ false
     → (e : ℕ) → e < k → (getD early e 0 < n) × (getD late e 0 < n)
 kept-below n {a} {b} {m} {early₀ = early₀} {late₀ = late₀} W q ok e h =
     let es = kept a b m in
@@ -176,7 +176,7 @@ given (suc j) p S = let apart = ap refusals (sym p ∙ S .answer) in absurd (ome
 
 -- the turned graph as the entry leaves it
 pub rotated-given : (K : ℕ) {n floor : ℕ} {g : Graph} {a b : List ℕ} {m : List Float} {early₀ early early′ late₀ late late′ : List ℕ} {mag₀ mag : List Float}
-    → Given K n floor g a b m early₀ early late₀ late mag₀ mag → some (badEdge n a b) (length a) ≡ false → Turned n (g .edges) early early′ late late′
+    → Given K n floor g a b m early₀ early late₀ late mag₀ mag → some (badEnds n a b) (length a) ≡ false → Turned n (g .edges) early early′ late late′
     → Set K n floor (rotate n (kept a b m)) (Made.Kept g) early₀ early′ late₀ late′ mag₀ mag
 rotated-given zero {n} {floor} {a = a} {b = b} {m = m} {mag₀ = mag₀} G ok T =
     let W = G .written in

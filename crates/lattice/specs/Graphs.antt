@@ -2,13 +2,19 @@
 use mathlib.Core.Path.{_≡_}
 use mathlib.Core.Bool.{Bool, not, _||_}
 use mathlib.Core.List.{List, map}
-use Prim.Native.Nat.{ℕ, zero, suc, _-_}
+use Prim.Native.Nat.{ℕ, zero, suc, _-_, _≤_}
 use lib.Dec.{ltb}
 use lib.Ieee.{Float}
 use lib.ListN.{length, getD}
+use Rattle.limits.specs.Limits.{mostVertices}
 use Rattle.vector.specs.Count.{count}
 use Rattle.vector.specs.Tabulate.{tabulate}
 use Rattle.forest.specs.Labels.{isTree, labels}
+use Rattle.forest.specs.Components.{componentCount}
+use Rattle.forest.specs.Paths as Paths
+use Rattle.kept.specs.Keep.{Ordered}
+use Rattle.lattice.specs.declared.graph.Measure.{Measure}
+use Rattle.lattice.specs.declared.graph.Measure.the-variants.{Window, Components, Free}
 use Rattle.lattice.specs.declared.graph.Graph.{Graph}
 use Rattle.lattice.specs.declared.graph.Made.{Made}
 use Rattle.lattice.specs.declared.graph.Made.the-variants.{Kept, Refused}
@@ -38,6 +44,18 @@ treeMarks early late = tabulate (isTree early late) (length early)
 -- for each of n vertices, the vertex that names its component
 unfoldable pub componentNames : ℕ → List ℕ → List ℕ → List ℕ
 componentNames n early late = tabulate (labels early late (length early)) n
+
+-- the kept edges of a graph of n vertices, smaller end first
+pub record KeptGraph (n : ℕ) (early late : List ℕ) : Type 0 where
+  pub few : n ≤ mostVertices
+  pub ordered : Ordered early late
+  pub joined : Paths.Edges n early late
+
+-- what each measure is of the kept edges
+abbrev pub measureOf : Measure → (n : ℕ) → (early late : List ℕ) → ℕ
+measureOf (Window floor) n early late = windowOf floor early late
+measureOf Components n early late = componentCount n early late
+measureOf Free n early late = freeCount early late
 
 -- What `Graph::new` answers and leaves: the graph, and the kept edges at the fronts of the lists; refused, the lists as they were.
 pub record Set (refused n floor : ℕ) (es : List Edges.Kept) (r : Made) (early early′ late late′ : List ℕ) (mag mag′ : List Float) : Type 0 where

@@ -11,7 +11,7 @@ ghost use Rattle.checks.specs.Refusal.{refusal, ofGraph, ofGraphWithBuffers, of
 ghost use Rattle.checks.specs.Answers.{answered, left};
 ghost use Rattle.forest.specs.Paths.{Spans};
 ghost use Rattle.forest.specs.Components.{componentCount};
-ghost use Rattle.lattice.specs.Graphs.{tooShort, freeCount, treeMarks, componentNames, Set, rotate, Turned};
+ghost use Rattle.lattice.specs.Graphs.{tooShort, freeCount, treeMarks, componentNames, KeptGraph, measureOf, Set, rotate, Turned};
 ghost use Rattle.lattice.specs.Reached.{Distanced};
 use checks::Answer;
 use distance::Reach;
@@ -19,6 +19,7 @@ use kept::build::build;
 use kept::is_outside;
 use kept::keep::keep;
 use kept::window_of;
+use limits::EDGES;
 
 // A graph whose kept edges stand in lists beside it.
 pub struct Graph {
@@ -40,61 +41,68 @@ pub enum Reached {
     Refused(usize),
 }
 
-// The largest of 1, the caller's floor and the longest kept edge; a window above 24 is answered.
-pub fn window(n: usize, a: &[usize], b: &[usize], m: &[f64], floor: usize) -> Answer
-    ensures { λ r. ⌜ r ≡ answered (refusal ofGraph (graphRequest n (now (a .entry)) (now (b .entry)) (now (m .entry)) false)) (windowOf floor (earlyEnds (kept (now (a .entry)) (now (b .entry)) (now (m .entry)))) (lateEnds (kept (now (a .entry)) (now (b .entry)) (now (m .entry))))) ⌝ }
+// What is measured of a graph: its window above a floor, how many components it has, or how many of its edges are free.
+pub enum Measure {
+    Window(usize),
+    Components,
+    Free,
+}
+
+// The measure of the kept edges.
+fn measure_kept(measure: Measure, n: usize, early: &[usize], late: &[usize]) -> usize
+    requires { ⌜ KeptGraph n (now early) (now late) ⌝ }
+    ensures { λ r. ⌜ r ≡ measureOf measure n (now (early .entry)) (now (late .entry)) ⌝ }
 {
-    let mut early = [0usize; 4096];
-    let mut late = [0usize; 4096];
-    let mut mag = [0.0f64; 4096];
+    match measure {
+        Measure::Window(floor) => window_of(floor, early, late),
+        Measure::Components => forest::count_components(n, early, late),
+        Measure::Free => forest::count_free_edges(n, early, late),
+    }
+}
+
+fn measured(measure: Measure, n: usize, a: &[usize], b: &[usize], m: &[f64]) -> Answer
+    ensures { λ r. ⌜ r ≡ answered (refusal ofGraph (graphRequest n (now (a .entry)) (now (b .entry)) (now (m .entry)) false)) (measureOf measure n (earlyEnds (kept (now (a .entry)) (now (b .entry)) (now (m .entry)))) (lateEnds (kept (now (a .entry)) (now (b .entry)) (now (m .entry))))) ⌝ }
+{
+    let mut early = [0usize; EDGES];
+    let mut late = [0usize; EDGES];
+    let mut mag = [0.0f64; EDGES];
     let g = build(n, a, b, m, &mut early, &mut late, &mut mag);
     let refusal = g.refusal;
     if refusal != 0 {
         return Answer::Refused(refusal);
     }
     let edges = g.edges;
-    Answer::Number(window_of(floor, &early[..edges], &late[..edges]))
+    Answer::Number(measure_kept(measure, n, &early[..edges], &late[..edges]))
+}
+
+// The largest of 1, the caller's floor and the longest kept edge; a window above 24 is answered.
+pub fn window(n: usize, a: &[usize], b: &[usize], m: &[f64], floor: usize) -> Answer
+    ensures { λ r. ⌜ r ≡ answered (refusal ofGraph (graphRequest n (now (a .entry)) (now (b .entry)) (now (m .entry)) false)) (windowOf floor (earlyEnds (kept (now (a .entry)) (now (b .entry)) (now (m .entry)))) (lateEnds (kept (now (a .entry)) (now (b .entry)) (now (m .entry))))) ⌝ }
+{
+    measured(Measure::Window(floor), n, a, b, m)
 }
 
 // How many components the graph has.
 pub fn n_components(n: usize, a: &[usize], b: &[usize], m: &[f64]) -> Answer
     ensures { λ r. ⌜ r ≡ answered (refusal ofGraph (graphRequest n (now (a .entry)) (now (b .entry)) (now (m .entry)) false)) (componentCount n (earlyEnds (kept (now (a .entry)) (now (b .entry)) (now (m .entry)))) (lateEnds (kept (now (a .entry)) (now (b .entry)) (now (m .entry))))) ⌝ }
 {
-    let mut early = [0usize; 4096];
-    let mut late = [0usize; 4096];
-    let mut mag = [0.0f64; 4096];
-    let g = build(n, a, b, m, &mut early, &mut late, &mut mag);
-    let refusal = g.refusal;
-    if refusal != 0 {
-        return Answer::Refused(refusal);
-    }
-    let edges = g.edges;
-    Answer::Number(forest::count_components(n, &early[..edges], &late[..edges]))
+    measured(Measure::Components, n, a, b, m)
 }
 
 // How many edges are free: kept edges and components, less the vertices.
 pub fn cyclomatic(n: usize, a: &[usize], b: &[usize], m: &[f64]) -> Answer
     ensures { λ r. ⌜ r ≡ answered (refusal ofGraph (graphRequest n (now (a .entry)) (now (b .entry)) (now (m .entry)) false)) (freeCount (earlyEnds (kept (now (a .entry)) (now (b .entry)) (now (m .entry)))) (lateEnds (kept (now (a .entry)) (now (b .entry)) (now (m .entry))))) ⌝ }
 {
-    let mut early = [0usize; 4096];
-    let mut late = [0usize; 4096];
-    let mut mag = [0.0f64; 4096];
-    let g = build(n, a, b, m, &mut early, &mut late, &mut mag);
-    let refusal = g.refusal;
-    if refusal != 0 {
-        return Answer::Refused(refusal);
-    }
-    let edges = g.edges;
-    Answer::Number(forest::count_free_edges(n, &early[..edges], &late[..edges]))
+    measured(Measure::Free, n, a, b, m)
 }
 
-// Marks each kept edge that is a tree edge: no path of earlier kept edges joins its ends. Answers the refusal's number, 0 for accepted.
+// Marks each kept edge that is a tree edge: no path of earlier kept edges joins its ends. Returns the refusal's number, 0 for accepted.
 pub fn spanning_forest(n: usize, a: &[usize], b: &[usize], m: &[f64], tree: &mut [bool]) -> usize
     ensures { λ r. ⌜ (r ≡ refusal ofGraphWithBuffers (graphRequest n (now (a .entry)) (now (b .entry)) (now (m .entry)) (not (eqb (length (now (tree .entry))) (length (kept (now (a .entry)) (now (b .entry)) (now (m .entry)))))))) × (now (tree .exit) ≡ left r (treeMarks (earlyEnds (kept (now (a .entry)) (now (b .entry)) (now (m .entry)))) (lateEnds (kept (now (a .entry)) (now (b .entry)) (now (m .entry))))) (now (tree .entry))) × (r ≡ 0 → Spans (earlyEnds (kept (now (a .entry)) (now (b .entry)) (now (m .entry)))) (lateEnds (kept (now (a .entry)) (now (b .entry)) (now (m .entry)))) (now (tree .exit))) ⌝ }
 {
-    let mut early = [0usize; 4096];
-    let mut late = [0usize; 4096];
-    let mut mag = [0.0f64; 4096];
+    let mut early = [0usize; EDGES];
+    let mut late = [0usize; EDGES];
+    let mut mag = [0.0f64; EDGES];
     let g = build(n, a, b, m, &mut early, &mut late, &mut mag);
     let refusal = g.refusal;
     if refusal != 0 {
@@ -108,13 +116,13 @@ pub fn spanning_forest(n: usize, a: &[usize], b: &[usize], m: &[f64], tree: &mut
     0
 }
 
-// Names each vertex's component by one of its vertices. Answers the refusal's number, 0 for accepted.
+// Names each vertex's component by one of its vertices. Returns the refusal's number, 0 for accepted.
 pub fn components(n: usize, a: &[usize], b: &[usize], m: &[f64], out: &mut [usize]) -> usize
     ensures { λ r. ⌜ (r ≡ refusal ofGraphWithBuffers (graphRequest n (now (a .entry)) (now (b .entry)) (now (m .entry)) (not (eqb (length (now (out .entry))) n)))) × (now (out .exit) ≡ left r (componentNames n (earlyEnds (kept (now (a .entry)) (now (b .entry)) (now (m .entry)))) (lateEnds (kept (now (a .entry)) (now (b .entry)) (now (m .entry))))) (now (out .entry))) ⌝ }
 {
-    let mut early = [0usize; 4096];
-    let mut late = [0usize; 4096];
-    let mut mag = [0.0f64; 4096];
+    let mut early = [0usize; EDGES];
+    let mut late = [0usize; EDGES];
+    let mut mag = [0.0f64; EDGES];
     let g = build(n, a, b, m, &mut early, &mut late, &mut mag);
     let refusal = g.refusal;
     if refusal != 0 {
@@ -132,9 +140,9 @@ pub fn components(n: usize, a: &[usize], b: &[usize], m: &[f64], out: &mut [usiz
 pub fn distance(n: usize, a: &[usize], b: &[usize], m: &[f64], u: usize, v: usize) -> Reached
     ensures { λ r. ⌜ Distanced (refusal ofDistance (distanceRequest n (now (a .entry)) (now (b .entry)) (now (m .entry)) u v)) (earlyEnds (kept (now (a .entry)) (now (b .entry)) (now (m .entry)))) (lateEnds (kept (now (a .entry)) (now (b .entry)) (now (m .entry)))) u v r ⌝ }
 {
-    let mut early = [0usize; 4096];
-    let mut late = [0usize; 4096];
-    let mut mag = [0.0f64; 4096];
+    let mut early = [0usize; EDGES];
+    let mut late = [0usize; EDGES];
+    let mut mag = [0.0f64; EDGES];
     let g = build(n, a, b, m, &mut early, &mut late, &mut mag);
     let refusal = g.refusal;
     if refusal != 0 {
@@ -164,9 +172,9 @@ impl Graph {
     ) -> Made
         ensures { λ r. ⌜ Set (refusal ofGraphWithBuffers (graphRequest n (now (a .entry)) (now (b .entry)) (now (m .entry)) (tooShort (length (kept (now (a .entry)) (now (b .entry)) (now (m .entry)))) (now (early .entry)) (now (late .entry)) (now (mag .entry))))) n floor (kept (now (a .entry)) (now (b .entry)) (now (m .entry))) r (now (early .entry)) (now (early .exit)) (now (late .entry)) (now (late .exit)) (now (mag .entry)) (now (mag .exit)) ⌝ }
     {
-        let mut first = [0usize; 4096];
-        let mut second = [0usize; 4096];
-        let mut size = [0.0f64; 4096];
+        let mut first = [0usize; EDGES];
+        let mut second = [0usize; EDGES];
+        let mut size = [0.0f64; EDGES];
         let g = build(n, a, b, m, &mut first, &mut second, &mut size);
         let refusal = g.refusal;
         if refusal != 0 {

@@ -1,6 +1,7 @@
 // The checks that read what a caller lends for the sweeps: factors, results and work memory.
 ghost use mathlib.Core.Path.{_≡_};
 ghost use Prim.Native.Nat.{_≤_};
+ghost use Rattle.limits.specs.Limits.{mostVertices, mostEdges, mostWindow};
 ghost use Rattle.checks.specs.AcceptedJob.{buffersRefusal, listsRefusal};
 ghost use Rattle.places.specs.Places.{Pairs};
 use crate::factors::bad_factors;
@@ -16,7 +17,7 @@ pub(crate) fn check_buffers(
     misfit: bool,
     work: usize,
 ) -> usize
-    requires { ⌜ Pairs (now us) (now vs) n × (n ≤ 1024) × (w ≤ 24) × (edges ≤ 4096) ⌝ }
+    requires { ⌜ Pairs (now us) (now vs) n × (n ≤ mostVertices) × (w ≤ mostWindow) × (edges ≤ mostEdges) ⌝ }
     ensures { λ r. ⌜ r ≡ buffersRefusal n w edges (now (us .entry)) (now (vs .entry)) misfit work ⌝ }
 {
     if misfit {
@@ -29,7 +30,7 @@ pub(crate) fn check_buffers(
 }
 
 // Checks 10, 12 and 13 of such a job: one factor for each kept edge, one result for each pair, and the room.
-// Answers the refusal's number, 0 for accepted.
+// Returns the refusal's number, 0 for accepted.
 pub fn check_lists(
     n: usize,
     w: usize,
@@ -40,7 +41,7 @@ pub fn check_lists(
     results: usize,
     work: usize,
 ) -> usize
-    requires { ⌜ Pairs (now us) (now vs) n × (n ≤ 1024) × (w ≤ 24) × (edges ≤ 4096) ⌝ }
+    requires { ⌜ Pairs (now us) (now vs) n × (n ≤ mostVertices) × (w ≤ mostWindow) × (edges ≤ mostEdges) ⌝ }
     ensures { λ r. ⌜ r ≡ listsRefusal n w edges (now (us .entry)) (now (vs .entry)) (now (factors .entry)) results work ⌝ }
 {
     if bad_factors(factors, edges) {

@@ -1,11 +1,13 @@
 // The checks of a call for totals that 1 to 8 pass: its configurations, and what a caller lends for the sweeps.
 ghost use mathlib.Core.Path.{_≡_};
 ghost use Prim.Native.Nat.{_≤_};
+ghost use Rattle.limits.specs.Limits.{mostVertices, mostEdges, mostBetas, mostWindow};
 ghost use Rattle.checks.specs.Request.{tooManyChunks};
 ghost use Rattle.checks.specs.AcceptedTotals.{misfits, enumerationLists, samplingLists};
 ghost use Rattle.places.specs.Places.{Pairs};
 use crate::factors::bad_factors;
 use crate::lists::check_buffers;
+use limits::SAMPLES;
 
 // 11. End above start, and chunks times samples per chunk exceed 2^32. The product may not fit into a word, so a quotient is compared.
 pub fn too_many_chunks(start: usize, end: usize, samples: usize) -> bool
@@ -17,7 +19,7 @@ pub fn too_many_chunks(start: usize, end: usize, samples: usize) -> bool
     if samples == 0 {
         return false;
     }
-    4294967296 / samples < end - start
+    SAMPLES / samples < end - start
 }
 
 // 12. A result buffer isn't of its exact length: two of them, one being the same twice.
@@ -31,7 +33,7 @@ fn misfit(wanted: usize, squares: usize, fourths: usize) -> bool
 }
 
 // Checks 9, 10, 12 and 13 of a call that goes through the configurations of so many free edges, where so many are the most.
-// Answers the refusal's number, 0 for accepted.
+// Returns the refusal's number, 0 for accepted.
 pub fn check_enumeration(
     n: usize,
     w: usize,
@@ -47,7 +49,7 @@ pub fn check_enumeration(
     fourths: usize,
     work: usize,
 ) -> usize
-    requires { ⌜ Pairs (now us) (now vs) n × (n ≤ 1024) × (w ≤ 24) × (edges ≤ 4096) × (betas ≤ 64) ⌝ }
+    requires { ⌜ Pairs (now us) (now vs) n × (n ≤ mostVertices) × (w ≤ mostWindow) × (edges ≤ mostEdges) × (betas ≤ mostBetas) ⌝ }
     ensures { λ r. ⌜ r ≡ enumerationLists n w edges (now (us .entry)) (now (vs .entry)) betas (now (factors .entry)) free most
         (misfits wanted squares fourths) work ⌝ }
 {
@@ -62,7 +64,7 @@ pub fn check_enumeration(
 }
 
 // Checks 10 to 13 of a call that draws chunks of samples.
-// Answers the refusal's number, 0 for accepted.
+// Returns the refusal's number, 0 for accepted.
 pub fn check_sampling(
     n: usize,
     w: usize,
@@ -79,7 +81,7 @@ pub fn check_sampling(
     fourths: usize,
     work: usize,
 ) -> usize
-    requires { ⌜ Pairs (now us) (now vs) n × (n ≤ 1024) × (w ≤ 24) × (edges ≤ 4096) × (betas ≤ 64) ⌝ }
+    requires { ⌜ Pairs (now us) (now vs) n × (n ≤ mostVertices) × (w ≤ mostWindow) × (edges ≤ mostEdges) × (betas ≤ mostBetas) ⌝ }
     ensures { λ r. ⌜ r ≡ samplingLists n w edges (now (us .entry)) (now (vs .entry)) betas (now (factors .entry)) start end samples
         (misfits wanted squares fourths) work ⌝ }
 {

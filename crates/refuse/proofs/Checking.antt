@@ -1,14 +1,12 @@
 -- The checks of a job one after the other, and what has passed where none refuses.
 use mathlib.Core.Path.{_≡_, refl, sym, ap, ap₂, _∙_, subst, subst₂}
-use mathlib.Core.Bool.{Bool, true, false, not}
+use mathlib.Core.Bool.{false}
 use mathlib.Core.List.{List, []}
-use Prim.Native.Nat.{ℕ, zero, suc, _-_, _*_, _≤_, _<_}
-use native.Mathlib.Nat.{mul-le-mul}
+use Prim.Native.Nat.{ℕ, zero, suc, _-_, _≤_, _<_}
 use native.Mathlib.Omega.{arith}
-use lib.Dec.{eqb}
 use lib.Ieee.{Float}
 use lib.ListN.{length, getD, take, length-map}
-use borrow.Author.Tests.{eq-eqb, ne-eqb, lt-ltb, le-ltb}
+use Rattle.limits.specs.Limits.{mostWindow}
 use Rattle.vector.specs.Most.{most-above}
 use Rattle.transfer.specs.Job.{longest, windowOf, tooManyNear}
 use Rattle.transfer.specs.Configuration.{numbered}
@@ -16,17 +14,15 @@ use Rattle.transfer.specs.Room.{room}
 use Rattle.checks.specs.declared.Answer.the-variants.{Number}
 use Rattle.checks.specs.Answers.{answered, number-is}
 use Rattle.checks.specs.Edges.{kept, earlyEnds, lateEnds, windowFrom}
-use Rattle.checks.specs.Request.{couplingRequest, graphRequest, jobRequest, roomRequest, badVertices, badLengths, badLists, badBetas}
-use Rattle.checks.specs.Refusal.{refusal, ofGraph, ofCouplings, ofRoom}
-use Rattle.checks.specs.First.{told}
-use Rattle.checks.specs.Later.{orElse, Then, refused-before, refused-here, refused-not}
-use Rattle.checks.specs.Accepted.{Accepted, kept-inside}
-use Rattle.checks.specs.AcceptedJob.{window-wide, accepted-graph, accepted-with, withBetas, job-lists, graph-alone, job-in-parts}
-use Rattle.checks.specs.AcceptedTotals.{couplings-in-parts}
-use Rattle.kept.specs.Keep.{Built}
-use Rattle.kept.specs.Fronts.{front-early, front-late, early-part, few, of-kept, is-accepted}
+use Rattle.checks.specs.Request.{jobRequest, roomRequest}
+use Rattle.checks.specs.Refusal.{refusal, ofRoom}
+use Rattle.checks.specs.Later.{orElse}
+use Rattle.checks.specs.Accepted.{Accepted, accepted-graph, kept-inside}
+use Rattle.checks.specs.AcceptedJob.{window-wide, accepted-with, job-in-parts}
+use Rattle.kept.specs.Keep.{CheckedGraph}
+use Rattle.kept.specs.Fronts.{front-early, front-late, early-part, few, of-kept}
 use Rattle.plan.specs.Edges.{Edges}
-use Rattle.refuse.specs.Checked.{KeptEdges, keptRefusal, CheckedGraph, CheckedCouplings, CheckedKept, CheckedJob, CheckedWithBetas}
+use Rattle.refuse.specs.Checked.{KeptEdges, keptRefusal, CheckedKept, CheckedJob}
 
 -- ---- the kept edges
 
@@ -35,7 +31,7 @@ unfolding windowOf longest
 window-reaches floor early late e l = omega (arith, most-above (λ i. getD late i 0 - getD early i 0) (length early) e l)
 
 -- none is longer than the window
-pub edges-of : (n floor : ℕ) (early late : List ℕ) (w : ℕ) → KeptEdges n early late → w ≡ windowOf floor early late → w ≤ 24 → Edges early late n w
+pub edges-of : (n floor : ℕ) (early late : List ℕ) (w : ℕ) → KeptEdges n early late → w ≡ windowOf floor early late → w ≤ mostWindow → Edges early late n w
 edges-of n floor early late w es q narrow = record {
   few = es .few;
   wide = omega (arith, q, window-wide floor early late);
@@ -57,11 +53,13 @@ kept-edges n a b m ok =
     record { few = ok .few-vertices; ordered = record { lengths = q ∙ sym p; ends = λ e l. at e l .0 }; inside = λ e l. at e l .1 }
 
 -- at the fronts of the lists
-pub fronts-kept : {n : ℕ} {a b : List ℕ} {m : List Float} {r k : ℕ} {early early′ late late′ : List ℕ} {mag mag′ : List Float}
-    → Built n a b m r k early early′ late late′ mag mag′ → r ≡ 0 → KeptEdges n (take k early′) (take k late′)
-fronts-kept {n} {a} {b} {m} B z =
-    let W = B .written z in
-    subst₂ (KeptEdges n) (sym (front-early W)) (sym (front-late W)) (kept-edges n a b m (is-accepted B z))
+pub fronts-kept : {n : ℕ} {a b : List ℕ} {m : List Float} {us vs : List ℕ} {betas : List Float} {r k : ℕ} {early early′ late late′ : List ℕ}
+    {mag mag′ : List Float} → CheckedGraph n a b m us vs betas r k early early′ late late′ mag mag′ → r ≡ 0
+    → KeptEdges n (take k early′) (take k late′) × (length vs ≡ length us)
+fronts-kept {n} {a} {b} {m} {us} {vs} {betas} G z =
+    let W = G .written z in
+    let ok = accepted-graph n 0 a b m us vs betas (sym (G .refusal) ∙ z) in
+    (subst₂ (KeptEdges n) (sym (front-early W)) (sym (front-late W)) (kept-edges n a b m (ok .0)), sym (ok .1 .matched))
 
 -- ---- the answer
 
@@ -83,45 +81,6 @@ kept-passed {n} {early = early} {late} {us} {vs} p h = record {
   window = λ z. p;
 }
 
--- 1 to 4 was found
-pub graph-refused : {n q k : ℕ} {a b : List ℕ} {m : List Float} {us vs : List ℕ} {betas : List Float} {early early′ late late′ : List ℕ}
-    {mag mag′ : List Float} (j : ℕ) → q ≡ suc j → suc j ≡ refusal ofGraph (jobRequest n 0 a b m us vs betas)
-    → CheckedGraph n a b m us vs betas q k early early′ late late′ mag mag′
-graph-refused j e h = record { refusal = e ∙ h; matched = λ z. absurd (omega arith); built = λ z. absurd (omega arith) }
-
--- over 64 betas, which 2 refuses
-pub many-betas : (n : ℕ) (a b : List ℕ) (m : List Float) (us vs : List ℕ) (betas : List Float) → 64 < length betas
-    → badLists (jobRequest n 0 a b m us vs betas) ≡ true
-many-betas n a b m us vs betas h = rw (lt-ltb 64 (length betas) h)
-
--- t was answered of the other lists
-pub other-lists : (n : ℕ) (a b : List ℕ) (m : List Float) (us vs : List ℕ) (betas : List Float) → length betas ≤ 64 → (t r : Bool)
-    → t ≡ badLengths (roomRequest n 0 a b m us vs) → t ≡ r → badLists (jobRequest n 0 a b m us vs betas) ≡ r
-other-lists n a b m us vs betas h t r test e = rw (le-ltb 64 (length betas) h) (told test e)
-
--- the graph that 1 and 2 pass was built, and r was answered
-module _ (n : ℕ) (a b : List ℕ) (m : List Float) (us vs : List ℕ) (betas : List Float) (vertices : badVertices (graphRequest n a b m false) ≡ false)
-    (lists : badLists (jobRequest n 0 a b m us vs betas) ≡ false) {r k : ℕ} {early early′ late late′ : List ℕ} {mag mag′ : List Float}
-    (B : Built n a b m r k early early′ late late′ mag mag′) where
-  with-betas : (x : ℕ) (bad : Bool) → x ≡ withBetas bad r → badBetas betas ≡ bad → x ≡ refusal ofGraph (jobRequest n 0 a b m us vs betas)
-  with-betas x bad e t =
-      e ∙ ap₂ withBetas (sym t) (B .refusal) ∙ sym (graph-alone n 0 a b m us vs betas vertices lists)
-
-  -- 3 comes before a bad beta
-  pub ends-refused : {q e : ℕ} → q ≡ 3 → r ≡ 3 → CheckedGraph n a b m us vs betas q e early early′ late late′ mag mag′
-  ends-refused p z = graph-refused 2 p (with-betas 3 (badBetas betas) (ap (withBetas (badBetas betas)) (sym z)) refl)
-
-  pub betas-refused : {q e : ℕ} → q ≡ 4 → (r ≡ 3 → ⊥) → badBetas betas ≡ true → CheckedGraph n a b m us vs betas q e early early′ late late′ mag mag′
-  betas-refused p z t = graph-refused 3 p (with-betas 4 true (rw (ne-eqb r 3 z)) t)
-
-  -- the betas pass
-  pub graph-answered : (r ≡ 3 → ⊥) → badBetas betas ≡ false → CheckedGraph n a b m us vs betas r k early early′ late late′ mag mag′
-  graph-answered z t = record {
-    refusal = with-betas r false (rw (ne-eqb r 3 z)) t;
-    matched = λ o. sym (job-lists n 0 a b m us vs betas lists .1);
-    built = λ o. B;
-  }
-
 -- the graph with its betas was checked
 module _ (n floor : ℕ) (a b : List ℕ) (m : List Float) (us vs : List ℕ) (betas : List Float) {r k : ℕ} {early early′ late late′ : List ℕ}
     {mag mag′ : List Float} (G : CheckedGraph n a b m us vs betas r k early early′ late late′ mag mag′) where
@@ -132,7 +91,7 @@ module _ (n floor : ℕ) (a b : List ℕ) (m : List Float) (us vs : List ℕ) (b
   job-is = job-in-parts n floor a b m us vs betas ∙ ap (λ (k : ℕ). orElse k later) (sym (G .refusal))
 
   -- and refused
-  pub job-refused : {k′ w q : ℕ} → q ≡ r → (r ≡ 0 → ⊥) → CheckedWithBetas n floor a b m us vs betas q k′ w early early′ late late′ mag mag′
+  pub job-refused : {k′ w q : ℕ} → q ≡ r → (r ≡ 0 → ⊥) → CheckedJob n floor a b m us vs betas q k′ w early early′ late late′ mag mag′
   job-refused {q = q} e z =
       let o : (q ≡ 0) → ⊥ = λ p. z (sym e ∙ p) in
       record { refusal = e ∙ go r z ∙ sym job-is; ready = λ p. absurd (o p); betas-pass = λ p. absurd (o p) }
@@ -143,9 +102,9 @@ module _ (n floor : ℕ) (a b : List ℕ) (m : List Float) (us vs : List ℕ) (b
 
   -- it was accepted, and its kept edges were checked
   pub graph-accepted : {q j w : ℕ} → r ≡ 0 → CheckedKept n floor (take k early′) (take k late′) us vs q j w
-      → CheckedWithBetas n floor a b m us vs betas q j w early early′ late late′ mag mag′
+      → CheckedJob n floor a b m us vs betas q j w early early′ late late′ mag mag′
   graph-accepted {w = w} z C =
-      let W = G .built z .written z in
+      let W = G .written z in
       let e = of-kept W (λ x y. keptRefusal n (windowOf floor x y) x y us vs) (C .refusal) in
       let r = e ∙ ap (λ (k : ℕ). orElse k later) (sym z) ∙ sym job-is in
       record {
@@ -169,45 +128,8 @@ module _ (n floor : ℕ) (a b : List ℕ) (m : List Float) (us vs : List ℕ) (b
 -- ---- the room
 
 pub room-answered : {n floor q k w : ℕ} {a b : List ℕ} {m : List Float} {us vs early early′ late late′ : List ℕ} {mag mag′ : List Float}
-    → CheckedJob n floor a b m us vs q k w early early′ late late′ mag mag′ → q ≡ 0 → (r : ℕ) → r ≡ room n w k us vs
+    → CheckedJob n floor a b m us vs [] q k w early early′ late late′ mag mag′ → q ≡ 0 → (r : ℕ) → r ≡ room n w k us vs
     → Number r ≡ answered (refusal ofRoom (roomRequest n floor a b m us vs)) (room n (windowFrom floor a b m) (length (kept a b m)) us vs)
 room-answered {n} {us = us} {vs} checked z r e =
     let job = checked .ready z in
     number-is _ _ _ _ (checked .refusal) z (e ∙ ap₂ (λ (x y : ℕ). room n x y us vs) (job .window) (job .written .edges))
-
--- ---- couplings
-
--- the graph with its betas was checked; there are so many results
-module _ (n : ℕ) (a b : List ℕ) (m betas : List Float) (results : ℕ) {r k : ℕ} {early early′ late late′ : List ℕ} {mag mag′ : List Float}
-    (G : CheckedGraph n a b m [] [] betas r k early early′ late late′ mag mag′) where
-  abbrev misfitted : Bool
-  misfitted = not (eqb results (length betas * length (kept a b m)))
-
-  parts : Then (refusal ofCouplings (couplingRequest n a b m betas misfitted)) (refusal ofGraph (jobRequest n 0 a b m [] [] betas)) misfitted 12
-  parts = couplings-in-parts n a b m betas misfitted
-
-  pub couplings-few : r ≡ 0 → length betas * k ≤ 262144
-  couplings-few z =
-      let ok = accepted-graph n 0 a b m [] [] betas (sym (G .refusal) ∙ z) in
-      mul-le-mul (ok .1 .few) (few (G .built z .written z) (ok .0 .lists))
-
-  -- the graph was refused
-  pub couplings-refused : {q e : ℕ} → q ≡ r → (r ≡ 0 → ⊥) → CheckedCouplings n a b m betas results q e early early′ late late′ mag mag′
-  couplings-refused p z = record { refusal = p ∙ refused-before parts r (G .refusal) z; built = λ o. absurd (z (sym p ∙ o)) }
-
-  wanted : r ≡ 0 → length betas * k ≡ length betas * length (kept a b m)
-  wanted z = ap (λ (x : ℕ). length betas * x) (G .built z .written z .edges)
-
-  -- 12 was found
-  pub couplings-misfit : {q e : ℕ} → q ≡ 12 → r ≡ 0 → (results ≡ length betas * k → ⊥)
-      → CheckedCouplings n a b m betas results q e early early′ late late′ mag mag′
-  couplings-misfit p z d = record {
-    refusal = p ∙ refused-here parts r (G .refusal) z (ap not (ne-eqb _ _ (λ e. d (e ∙ sym (wanted z)))));
-    built = λ o. absurd (omega arith);
-  }
-
-  pub couplings-passed : r ≡ 0 → results ≡ length betas * k → CheckedCouplings n a b m betas results 0 k early early′ late late′ mag mag′
-  couplings-passed z e = record {
-    refusal = refused-not parts r (G .refusal) z (ap not (eq-eqb _ _ (e ∙ wanted z)));
-    built = λ o. subst (λ x. Built n a b m x k early early′ late late′ mag mag′) z (G .built z);
-  }

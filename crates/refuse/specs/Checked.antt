@@ -1,46 +1,35 @@
 -- What is known of a job that the checks 1 to 8 have read.
 use mathlib.Core.Path.{_≡_}
-use mathlib.Core.Bool.{false, cond, not}
+use mathlib.Core.Bool.{false, cond}
 use mathlib.Core.List.{List}
-use Prim.Native.Nat.{ℕ, _*_, _≤_, _<_}
-use lib.Dec.{eqb, ltb}
+use Prim.Native.Nat.{ℕ, _≤_, _<_}
+use lib.Dec.{ltb}
 use lib.Ieee.{Float}
 use lib.ListN.{length, getD}
+use Rattle.limits.specs.Limits.{mostVertices, mostEdges, mostWindow}
 use Rattle.vector.specs.Search.{some}
 use Rattle.transfer.specs.Job.{windowOf, tooManyNear}
 use Rattle.transfer.specs.Configuration.{numbered}
 use Rattle.checks.specs.Edges.{kept, earlyEnds, lateEnds, windowFrom}
-use Rattle.checks.specs.Request.{couplingRequest, jobRequest, roomRequest, badPair}
+use Rattle.checks.specs.Request.{jobRequest, badEnds}
 use Rattle.checks.specs.Refusal as Refusal
-use Rattle.checks.specs.Refusal.{ofGraph, ofCouplings, ofRoom}
-use Rattle.checks.specs.AcceptedJob.{AcceptedJob, AcceptedBetas}
-use Rattle.kept.specs.Keep.{Written, Ordered, Built}
+use Rattle.checks.specs.Refusal.{ofRoom}
+use Rattle.checks.specs.Accepted.{AcceptedBetas}
+use Rattle.checks.specs.AcceptedJob.{AcceptedJob}
+use Rattle.kept.specs.Keep.{Written, Ordered}
 use Rattle.plan.specs.Edges.{Edges}
 use Rattle.places.specs.Places.{Pairs}
 
 -- kept edges of a graph of n vertices, their ends in two lists, smaller end first
 pub record KeptEdges (n : ℕ) (early late : List ℕ) : Type 0 where
-  pub few : n ≤ 1024
+  pub few : n ≤ mostVertices
   pub ordered : Ordered early late
   pub inside : (e : ℕ) → e < length early → getD late e 0 < n
-
--- The first of the checks 1 to 5 that fits a graph with betas and pairs, and the graph if there is none.
-pub record CheckedGraph (n : ℕ) (a b : List ℕ) (m : List Float) (us vs : List ℕ) (betas : List Float) (refused k : ℕ)
-    (early early′ late late′ : List ℕ) (mag mag′ : List Float) : Type 0 where
-  pub refusal : refused ≡ Refusal.refusal ofGraph (jobRequest n 0 a b m us vs betas)
-  pub matched : refused ≡ 0 → length vs ≡ length us
-  pub built : refused ≡ 0 → Built n a b m refused k early early′ late late′ mag mag′
-
--- of `couplings`, with so many results: its own refusal, and the graph and betas if there is none
-pub record CheckedCouplings (n : ℕ) (a b : List ℕ) (m betas : List Float) (results refused k : ℕ) (early early′ late late′ : List ℕ)
-    (mag mag′ : List Float) : Type 0 where
-  pub refusal : refused ≡ Refusal.refusal ofCouplings (couplingRequest n a b m betas (not (eqb results (length betas * length (kept a b m)))))
-  pub built : refused ≡ 0 → Built n a b m refused k early early′ late late′ mag mag′
 
 -- of the checks 6, 7 and 8 the first that fits, at window w
 abbrev pub keptRefusal : (n w : ℕ) → (early late us vs : List ℕ) → ℕ
 keptRefusal n w early late us vs =
-    cond (ltb 24 w) 6 (cond (tooManyNear n w (numbered early late)) 7 (cond (some (badPair false n us vs) (length us)) 8 0))
+    cond (ltb mostWindow w) 6 (cond (tooManyNear n w (numbered early late)) 7 (cond (some (badEnds n us vs) (length us)) 8 0))
 
 -- the kept edges and the pairs were checked; where none of these fits, all edges count and the window is theirs
 pub record CheckedKept (n floor : ℕ) (early late us vs : List ℕ) (refused k w : ℕ) : Type 0 where
@@ -52,21 +41,15 @@ pub record CheckedKept (n floor : ℕ) (early late us vs : List ℕ) (refused k 
 pub record ReadyJob (n floor : ℕ) (a b : List ℕ) (m : List Float) (us vs : List ℕ) (k w : ℕ) (early early′ late late′ : List ℕ)
     (mag mag′ : List Float) : Type 0 where
   pub written : Written a b m (length a) k early early′ late late′ mag mag′
-  pub few-edges : k ≤ 4096
+  pub few-edges : k ≤ mostEdges
   pub window : w ≡ windowFrom floor a b m
   pub edges : Edges (earlyEnds (kept a b m)) (lateEnds (kept a b m)) n w
   pub near : tooManyNear n w (numbered (earlyEnds (kept a b m)) (lateEnds (kept a b m))) ≡ false
   pub pairs : Pairs us vs n
   pub passed : AcceptedJob n floor a b m us vs
 
--- The first of the checks 1 to 8 that fits, and the job if there is none.
-pub record CheckedJob (n floor : ℕ) (a b : List ℕ) (m : List Float) (us vs : List ℕ) (refused k w : ℕ) (early early′ late late′ : List ℕ)
-    (mag mag′ : List Float) : Type 0 where
-  pub refusal : refused ≡ Refusal.refusal ofRoom (roomRequest n floor a b m us vs)
-  pub ready : refused ≡ 0 → ReadyJob n floor a b m us vs k w early early′ late late′ mag mag′
-
--- The same of a job with betas.
-pub record CheckedWithBetas (n floor : ℕ) (a b : List ℕ) (m : List Float) (us vs : List ℕ) (betas : List Float) (refused k w : ℕ)
+-- The first of the checks 1 to 8 that fits a job with betas, and the job if there is none.
+pub record CheckedJob (n floor : ℕ) (a b : List ℕ) (m : List Float) (us vs : List ℕ) (betas : List Float) (refused k w : ℕ)
     (early early′ late late′ : List ℕ) (mag mag′ : List Float) : Type 0 where
   pub refusal : refused ≡ Refusal.refusal ofRoom (jobRequest n floor a b m us vs betas)
   pub ready : refused ≡ 0 → ReadyJob n floor a b m us vs k w early early′ late late′ mag mag′

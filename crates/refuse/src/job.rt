@@ -1,14 +1,14 @@
 // The checks that read a job's graph and pairs.
 ghost use mathlib.Core.Path.{_≡_};
-ghost use mathlib.Core.Bool.{false};
-ghost use Prim.Native.Nat.{_≤_};
+ghost use mathlib.Core.List.{[]};
 ghost use lib.ListN.{length};
-ghost use Rattle.vector.specs.Search.{some};
-ghost use Rattle.checks.specs.Request.{badPair};
-ghost use Rattle.refuse.specs.Checked.{KeptEdges, CheckedKept, CheckedWithBetas, CheckedJob};
-use crate::graph::check_graph;
+ghost use Rattle.limits.specs.Limits.{mostEdges};
+ghost use Rattle.kept.specs.Keep.{Holds};
+ghost use Rattle.refuse.specs.Checked.{KeptEdges, CheckedKept, CheckedJob};
 use kept::bad_edges;
+use kept::build::check_graph;
 use kept::window_of;
+use limits::WINDOW;
 use plan::too_many_near;
 
 // The refusal's number, 0 for accepted; how many edges are kept, and the window.
@@ -28,15 +28,7 @@ fn refused(number: usize) -> Job
     }
 }
 
-// 8. A pair has equal ends or an end outside the graph: what 3 asks of an edge.
-fn bad_pairs(n: usize, us: &[usize], vs: &[usize]) -> bool
-    requires { ⌜ length (now vs) ≡ length (now us) ⌝ }
-    ensures { λ r. ⌜ r ≡ some (badPair false n (now (us .entry)) (now (vs .entry))) (length (now (us .entry))) ⌝ }
-{
-    bad_edges(n, us, vs)
-}
-
-// Checks 6 to 8, which read the kept edges and the pairs.
+// Checks 6 to 8, which read the kept edges and the pairs; 8 asks of a pair what 3 asks of an edge.
 fn check_kept(
     n: usize,
     floor: usize,
@@ -50,13 +42,13 @@ fn check_kept(
         (r .refusal) (r .edges) (r .window) ⌝ }
 {
     let window = window_of(floor, early, late);
-    if 24 < window {
+    if WINDOW < window {
         return refused(6);
     }
     if too_many_near(n, window, early, late) {
         return refused(7);
     }
-    if bad_pairs(n, us, vs) {
+    if bad_edges(n, us, vs) {
         return refused(8);
     }
     Job {
@@ -80,8 +72,8 @@ pub fn check_with_betas(
     late: &mut [usize],
     mag: &mut [f64],
 ) -> Job
-    requires { ⌜ (4096 ≤ length (now early)) × (4096 ≤ length (now late)) × (4096 ≤ length (now mag)) ⌝ }
-    ensures { λ r. ⌜ CheckedWithBetas n floor (now (a .entry)) (now (b .entry)) (now (m .entry)) (now (us .entry)) (now (vs .entry))
+    requires { ⌜ Holds mostEdges (now early) (now late) (now mag) ⌝ }
+    ensures { λ r. ⌜ CheckedJob n floor (now (a .entry)) (now (b .entry)) (now (m .entry)) (now (us .entry)) (now (vs .entry))
         (now (betas .entry)) (r .refusal) (r .edges) (r .window)
         (now (early .entry)) (now (early .exit)) (now (late .entry)) (now (late .exit)) (now (mag .entry)) (now (mag .exit)) ⌝ }
 {
@@ -107,8 +99,8 @@ pub fn check_job(
     late: &mut [usize],
     mag: &mut [f64],
 ) -> Job
-    requires { ⌜ (4096 ≤ length (now early)) × (4096 ≤ length (now late)) × (4096 ≤ length (now mag)) ⌝ }
-    ensures { λ r. ⌜ CheckedJob n floor (now (a .entry)) (now (b .entry)) (now (m .entry)) (now (us .entry)) (now (vs .entry))
+    requires { ⌜ Holds mostEdges (now early) (now late) (now mag) ⌝ }
+    ensures { λ r. ⌜ CheckedJob n floor (now (a .entry)) (now (b .entry)) (now (m .entry)) (now (us .entry)) (now (vs .entry)) []
         (r .refusal) (r .edges) (r .window)
         (now (early .entry)) (now (early .exit)) (now (late .entry)) (now (late .exit)) (now (mag .entry)) (now (mag .exit)) ⌝ }
 {

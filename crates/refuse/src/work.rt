@@ -8,6 +8,7 @@ ghost use Rattle.checks.specs.Refusal.{refusal, ofRoom};
 ghost use Rattle.checks.specs.Answers.{answered};
 use crate::job::check_job;
 use checks::Answer;
+use limits::EDGES;
 
 // The doubles of work memory that a job's pairs need.
 pub fn room(
@@ -24,9 +25,9 @@ pub fn room(
         (roomOf n (windowFrom floor (now (a .entry)) (now (b .entry)) (now (m .entry)))
         (length (kept (now (a .entry)) (now (b .entry)) (now (m .entry)))) (now (us .entry)) (now (vs .entry))) ⌝ }
 {
-    let mut early = [0usize; 4096];
-    let mut late = [0usize; 4096];
-    let mut mag = [0.0f64; 4096];
+    let mut early = [0usize; EDGES];
+    let mut late = [0usize; EDGES];
+    let mut mag = [0.0f64; EDGES];
     let job = check_job(n, floor, a, b, m, us, vs, &mut early, &mut late, &mut mag);
     let refusal = job.refusal;
     if refusal != 0 {

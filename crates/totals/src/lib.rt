@@ -1,5 +1,4 @@
 // What the entries of a call for totals share: its jobs, what it answers, how long its lists are, and how they are cleared.
-mod limits;
 mod settle;
 
 pub use limits::EDGES;

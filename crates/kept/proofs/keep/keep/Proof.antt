@@ -1,8 +1,8 @@
 -- The kept edges of the first i raw ones stand at the fronts of the buffers.
 use mathlib.Core.Bool.{true, false}
-use Rattle.kept.proofs.Keeping.{Keeping, keep-none, keep-not, keep-it, keep-all, keep-room, ne-eq}
+use Rattle.kept.proofs.Keeping.{Keeping, keep-none, keep-not, keep-it, keep-all, keep-rooms, ne-eq}
 use lib.ListN.{length}
-use Prim.Native.Nat.{_-_}
+use Prim.Native.Nat.{_-_, _<_}
 use borrow.Author.Needs.{needs}
 use native.Mathlib.Omega.{arith}
 use Rattle.kept.proofs.keep.keep.Statement.{statement}
@@ -13,6 +13,10 @@ Inv-loop a b m early₀ late₀ mag₀ k₀ i₀ early late mag k i = Keeping a 
 
 abbrev μ-loop : tie.MeasureT-loop
 μ-loop a b m early₀ late₀ mag₀ k₀ i₀ early late mag k i = length a - i
+
+-- a kept edge has room in each buffer
+roomy : (c : tie.Then1 Inv-loop μ-loop) → let l = c .before .before .before .before .before .before .before .before .before .loop in (l .k < length (l .early)) × (l .k < length (l .late)) × (l .k < length (l .mag))
+roomy c = keep-rooms (c .before .before .before .before .before .before .before .before .before .loop .inv) (c .before .before .before .before .before .before .before .before .loop-test .taken) (ne-eq _ _ false (c .if1 .taken))
 
 loop-holds : tie.Need-loop-holds Inv-loop μ-loop
 loop-holds c = keep-none _ _ _ _ _ _ (c .before .before .before .before .before .before .pre .2)
@@ -57,25 +61,25 @@ add-i : tie.Need-add-i Inv-loop μ-loop
 add-i c = omega arith
 
 mul-early : tie.Need-mul-early Inv-loop μ-loop
-mul-early c = omega (arith, keep-room (c .before .before .before .before .before .before .before .before .before .loop .inv) (c .before .before .before .before .before .before .before .before .loop-test .taken) (ne-eq _ _ false (c .if1 .taken)), c .before .before .before .before .before .before .before .before .before .loop .inv .fits .earlies, c .before .before .before .before .before .before .before .before .before .loop .inv .fits .lates, c .before .before .before .before .before .before .before .before .before .loop .inv .fits .mags, c .before .before .before .before .before .before .before .before .before .loop .inv .earlies, c .before .before .before .before .before .before .before .before .before .loop .inv .lates, c .before .before .before .before .before .before .before .before .before .loop .inv .mags)
+mul-early c = omega (arith, roomy c .0)
 
 slice-write-early : tie.Need-slice-write-early Inv-loop μ-loop
-slice-write-early c = omega (arith, keep-room (c .before .before .before .before .before .before .before .before .before .loop .inv) (c .before .before .before .before .before .before .before .before .loop-test .taken) (ne-eq _ _ false (c .if1 .taken)), c .before .before .before .before .before .before .before .before .before .loop .inv .fits .earlies, c .before .before .before .before .before .before .before .before .before .loop .inv .fits .lates, c .before .before .before .before .before .before .before .before .before .loop .inv .fits .mags, c .before .before .before .before .before .before .before .before .before .loop .inv .earlies, c .before .before .before .before .before .before .before .before .before .loop .inv .lates, c .before .before .before .before .before .before .before .before .before .loop .inv .mags)
+slice-write-early c = omega (arith, roomy c .0)
 
 mul-late : tie.Need-mul-late Inv-loop μ-loop
-mul-late c = omega (arith, keep-room (c .before .before .before .before .before .before .before .before .before .loop .inv) (c .before .before .before .before .before .before .before .before .loop-test .taken) (ne-eq _ _ false (c .if1 .taken)), c .before .before .before .before .before .before .before .before .before .loop .inv .fits .earlies, c .before .before .before .before .before .before .before .before .before .loop .inv .fits .lates, c .before .before .before .before .before .before .before .before .before .loop .inv .fits .mags, c .before .before .before .before .before .before .before .before .before .loop .inv .earlies, c .before .before .before .before .before .before .before .before .before .loop .inv .lates, c .before .before .before .before .before .before .before .before .before .loop .inv .mags)
+mul-late c = omega (arith, roomy c .1)
 
 slice-write-late : tie.Need-slice-write-late Inv-loop μ-loop
-slice-write-late c = omega (arith, keep-room (c .before .before .before .before .before .before .before .before .before .loop .inv) (c .before .before .before .before .before .before .before .before .loop-test .taken) (ne-eq _ _ false (c .if1 .taken)), c .before .before .before .before .before .before .before .before .before .loop .inv .fits .earlies, c .before .before .before .before .before .before .before .before .before .loop .inv .fits .lates, c .before .before .before .before .before .before .before .before .before .loop .inv .fits .mags, c .before .before .before .before .before .before .before .before .before .loop .inv .earlies, c .before .before .before .before .before .before .before .before .before .loop .inv .lates, c .before .before .before .before .before .before .before .before .before .loop .inv .mags)
+slice-write-late c = omega (arith, roomy c .1)
 
 mul-mag : tie.Need-mul-mag Inv-loop μ-loop
-mul-mag c = omega (arith, keep-room (c .before .before .before .before .before .before .before .before .before .loop .inv) (c .before .before .before .before .before .before .before .before .loop-test .taken) (ne-eq _ _ false (c .if1 .taken)), c .before .before .before .before .before .before .before .before .before .loop .inv .fits .earlies, c .before .before .before .before .before .before .before .before .before .loop .inv .fits .lates, c .before .before .before .before .before .before .before .before .before .loop .inv .fits .mags, c .before .before .before .before .before .before .before .before .before .loop .inv .earlies, c .before .before .before .before .before .before .before .before .before .loop .inv .lates, c .before .before .before .before .before .before .before .before .before .loop .inv .mags)
+mul-mag c = omega (arith, roomy c .2)
 
 slice-write-mag : tie.Need-slice-write-mag Inv-loop μ-loop
-slice-write-mag c = omega (arith, keep-room (c .before .before .before .before .before .before .before .before .before .loop .inv) (c .before .before .before .before .before .before .before .before .loop-test .taken) (ne-eq _ _ false (c .if1 .taken)), c .before .before .before .before .before .before .before .before .before .loop .inv .fits .earlies, c .before .before .before .before .before .before .before .before .before .loop .inv .fits .lates, c .before .before .before .before .before .before .before .before .before .loop .inv .fits .mags, c .before .before .before .before .before .before .before .before .before .loop .inv .earlies, c .before .before .before .before .before .before .before .before .before .loop .inv .lates, c .before .before .before .before .before .before .before .before .before .loop .inv .mags)
+slice-write-mag c = omega (arith, roomy c .2)
 
 add-k : tie.Need-add-k Inv-loop μ-loop
-add-k c = omega (arith, keep-room (c .before .before .before .before .before .before .before .before .before .loop .inv) (c .before .before .before .before .before .before .before .before .loop-test .taken) (ne-eq _ _ false (c .if1 .taken)), c .before .before .before .before .before .before .before .before .before .loop .inv .fits .earlies, c .before .before .before .before .before .before .before .before .before .loop .inv .fits .lates, c .before .before .before .before .before .before .before .before .before .loop .inv .fits .mags, c .before .before .before .before .before .before .before .before .before .loop .inv .earlies, c .before .before .before .before .before .before .before .before .before .loop .inv .lates, c .before .before .before .before .before .before .before .before .before .loop .inv .mags)
+add-k c = omega (arith, roomy c .0)
 
 loop-less : tie.Need-loop-less Inv-loop μ-loop
 loop-less c = omega arith

@@ -8,9 +8,6 @@ use mathlib.Core.Path.{_≡_, sym}
 use native.Mathlib.Omega.{arith}
 use Rattle.kept.proofs.reach.longest.Statement.{statement}
 use Rattle.kept.proofs.reach.longest.Tie as tie
-use Rattle.kept.proofs.reach.longest.Reads as reads
-use Rattle.kept.proofs.reach.longest.Lts as lts
-use Rattle.kept.proofs.keep.larger.Reads as larger-reads
 
 abbrev Inv-loop : tie.InvT-loop
 Inv-loop early late most₀ e₀ most e = (most ≡ M.most (λ f. getD late f 0 - getD early f 0) e) × (e ≤ length early)
@@ -18,47 +15,36 @@ Inv-loop early late most₀ e₀ most e = (most ≡ M.most (λ f. getD late f 0 
 abbrev μ-loop : tie.MeasureT-loop
 μ-loop early late most₀ e₀ most e = length early - e
 
--- src/window.rt:15:5
 loop-holds : tie.Need-loop-holds Inv-loop μ-loop
 loop-holds c = (sym (most-zero _), omega arith)
 
--- src/window.rt:16:29
 mul-larger : tie.Need-mul-larger Inv-loop μ-loop
 mul-larger c = omega arith
 
--- src/window.rt:16:29
 shared-slice-read-larger : tie.Need-shared-slice-read-larger Inv-loop μ-loop
 shared-slice-read-larger c = omega arith
 
--- src/window.rt:16:39
 mul-larger-2 : tie.Need-mul-larger-2 Inv-loop μ-loop
 mul-larger-2 c = omega arith
 
--- src/window.rt:16:39
 shared-slice-read-larger-2 : tie.Need-shared-slice-read-larger-2 Inv-loop μ-loop
 shared-slice-read-larger-2 c = omega arith
 
--- src/window.rt:16:29
 sub-larger : tie.Need-sub-larger Inv-loop μ-loop
 sub-larger c = omega (arith, c .before .before .before .before .before .before .pre .ends (c .before .before .before .loop .e) (omega arith))
 
--- src/window.rt:16:9
 larger-requires : tie.Need-larger-requires Inv-loop μ-loop
 larger-requires c κs = omega arith
 
--- src/window.rt:17:9
 add-e : tie.Need-add-e Inv-loop μ-loop
 add-e c = omega arith
 
--- src/window.rt:15:5
 loop-less : tie.Need-loop-less Inv-loop μ-loop
 loop-less c = omega arith
 
--- src/window.rt:15:5
 loop-again : tie.Need-loop-again Inv-loop μ-loop
 loop-again c = (most-more _ _ _ _ (c .before .before .before .before .loop .inv .0) (c .larger .ensures), omega arith)
 
--- src/window.rt:9:1
 returns : tie.Need-returns Inv-loop μ-loop
 unfolding longest
 returns c = let e : c .before .loop .e ≡ length (c .before .before .before .before .args .early .now) = omega arith in rw (← e) (c .before .loop .inv .0)

@@ -1,6 +1,6 @@
 -- A search over the edges: none was bad so far.
 use borrow.Author.Needs.{needs}
-use Rattle.checks.specs.Request.{badEdge}
+use Rattle.checks.specs.Request.{badEnds}
 use Rattle.vector.specs.Search.{some, start, hit, miss, none}
 use lib.ListN.{length}
 use native.Mathlib.Omega.{arith}
@@ -11,7 +11,7 @@ use Rattle.kept.proofs.refuse.bad_edges.Statement.{statement}
 use Rattle.kept.proofs.refuse.bad_edges.Tie as tie
 
 abbrev Inv-loop : tie.InvT-loop
-Inv-loop n a b i₀ i = (some (badEdge n a b) i ≡ false) × (i ≤ length a)
+Inv-loop n a b i₀ i = (some (badEnds n a b) i ≡ false) × (i ≤ length a)
 
 abbrev μ-loop : tie.MeasureT-loop
 μ-loop n a b i₀ i = length a - i

@@ -1,6 +1,7 @@
 -- The tests, one after the other, at the window that was found.
 use Rattle.refuse.proofs.Checking.{edges-of, kept-refused, kept-passed}
 use Rattle.checks.specs.First.{here, past, told}
+use Rattle.limits.specs.Limits.{mostWindow}
 use borrow.Author.Tests.{lt-ltb, le-ltb}
 use mathlib.Core.Path.{refl}
 use borrow.Author.Needs.{needs}
@@ -16,7 +17,7 @@ refused-requires c κs = search needs
 returns : tie.Need-returns
 returns c =
     let found = c .before .before .window-of .ensures in
-    kept-refused 5 _ (c .refused .ensures) found (here _ _ _ (lt-ltb 24 _ (c .before .if1 .taken)))
+    kept-refused 5 _ (c .refused .ensures) found (here _ _ _ (lt-ltb mostWindow _ (c .before .if1 .taken)))
 
 too-many-near-requires : tie.Need-too-many-near-requires
 too-many-near-requires c κs =
@@ -30,10 +31,10 @@ returns-2 : tie.Need-returns-2
 returns-2 c =
     let narrow = c .before .before .before in
     kept-refused 6 _ (c .refused2 .ensures) (narrow .before .window-of .ensures)
-    (past _ _ _ _ (le-ltb 24 _ (narrow .if1 .left)) (here _ _ _ (told (c .before .before .too-many-near .ensures) (c .before .if2 .taken))))
+    (past _ _ _ _ (le-ltb mostWindow _ (narrow .if1 .left)) (here _ _ _ (told (c .before .before .too-many-near .ensures) (c .before .if2 .taken))))
 
-bad-pairs-requires : tie.Need-bad-pairs-requires
-bad-pairs-requires c κs = search needs
+bad-edges-requires : tie.Need-bad-edges-requires
+bad-edges-requires c κs = search needs
 
 refused-requires-3 : tie.Need-refused-requires-3
 refused-requires-3 c κs = search needs
@@ -43,18 +44,18 @@ returns-3 c =
     let near = c .before .before .before in
     let narrow = near .before .before in
     kept-refused 7 _ (c .refused3 .ensures) (narrow .before .window-of .ensures)
-    (past _ _ _ _ (le-ltb 24 _ (narrow .if1 .left))
+    (past _ _ _ _ (le-ltb mostWindow _ (narrow .if1 .left))
     (past _ _ _ _ (told (near .before .too-many-near .ensures) (near .if2 .left))
-    (here _ _ _ (told (c .before .before .bad-pairs .ensures) (c .before .if3 .taken)))))
+    (here _ _ _ (told (c .before .before .bad-edges .ensures) (c .before .if3 .taken)))))
 
 returns-4 : tie.Need-returns-4
 returns-4 c =
     let near = c .before .before in
     let narrow = near .before .before in
     kept-passed (narrow .before .window-of .ensures)
-    (past _ _ _ _ (le-ltb 24 _ (narrow .if1 .left))
+    (past _ _ _ _ (le-ltb mostWindow _ (narrow .if1 .left))
     (past _ _ _ _ (told (near .before .too-many-near .ensures) (near .if2 .left))
-    (past _ _ _ _ (told (c .before .bad-pairs .ensures) (c .if3 .left)) refl)))
+    (past _ _ _ _ (told (c .before .bad-edges .ensures) (c .if3 .left)) refl)))
 
 pub check-kept-spec : {M : Type 1} → statement M
 check-kept-spec =
@@ -66,7 +67,7 @@ check-kept-spec =
     too-many-near-requires
     refused-requires-2
     returns-2
-    bad-pairs-requires
+    bad-edges-requires
     refused-requires-3
     returns-3
     returns-4)

@@ -1,6 +1,5 @@
 -- The checks of the graph and the betas, and of its kept edges at the fronts of the lists.
 use Rattle.refuse.proofs.Checking.{fronts-kept, job-refused, graph-accepted}
-use Rattle.kept.specs.Fronts.{early-fits, late-fits, early-part, late-part}
 use borrow.Author.Needs.{needs}
 use Rattle.refuse.proofs.job.check_with_betas.Statement.{statement}
 use Rattle.refuse.proofs.job.check_with_betas.Tie as tie
@@ -24,30 +23,21 @@ returns : tie.Need-returns
 returns c = job-refused _ _ _ _ _ _ _ _ (c .before .before .before .before .before .before .before .before .check-graph .ensures) (c .refused .ensures) (c .before .if1 .taken)
 
 slice-reshare-prefix-check-kept : tie.Need-slice-reshare-prefix-check-kept
-slice-reshare-prefix-check-kept c =
-    let built = c .before .before .before .before .before .before .before .check-graph .ensures .built (c .if1 .left) in
-    early-fits (built .written (c .if1 .left))
+slice-reshare-prefix-check-kept c = search needs
 
 slice-aggregate-check-kept : tie.Need-slice-aggregate-check-kept
-slice-aggregate-check-kept c =
-    let built = c .before .before .before .before .before .before .before .before .check-graph .ensures .built (c .before .if1 .left) in
-    early-part (built .written (c .before .if1 .left))
+slice-aggregate-check-kept c = search needs
 
 slice-reshare-prefix-check-kept-2 : tie.Need-slice-reshare-prefix-check-kept-2
-slice-reshare-prefix-check-kept-2 c =
-    let built = c .before .before .before .before .before .before .before .before .check-graph .ensures .built (c .before .if1 .left) in
-    late-fits (built .written (c .before .if1 .left))
+slice-reshare-prefix-check-kept-2 c = search needs
 
 slice-aggregate-check-kept-2 : tie.Need-slice-aggregate-check-kept-2
-slice-aggregate-check-kept-2 c =
-    let built = c .before .before .before .before .before .before .before .before .before .check-graph .ensures .built (c .before .before .if1 .left) in
-    late-part (built .written (c .before .before .if1 .left))
+slice-aggregate-check-kept-2 c = search needs
 
 check-kept-requires : tie.Need-check-kept-requires
 check-kept-requires c κs =
     let accepted = c .before .before in
-    let graph = accepted .before .before .before .before .before .before .before .check-graph .ensures in
-    (fronts-kept (graph .built (accepted .if1 .left)) (accepted .if1 .left), graph .matched (accepted .if1 .left))
+    fronts-kept (accepted .before .before .before .before .before .before .before .check-graph .ensures) (accepted .if1 .left)
 
 same-length-4 : tie.Need-same-length-4
 same-length-4 c = search needs

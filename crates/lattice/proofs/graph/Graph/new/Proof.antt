@@ -1,16 +1,20 @@
--- The kept edges are set out twice: for the checks, and where they fit, in the lists of the caller.
-use Rattle.lattice.proofs.Building.{early-fits, late-fits, early-part, late-part, ordered-fronts, is-accepted, of-kept}
-use Rattle.lattice.proofs.Setting.{refused-set, kept-set, holds-all}
+-- The kept edges are set out again, in the lent lists, if the graph is accepted and they hold it.
 use Rattle.lattice.specs.Graphs.{tooShort}
-use Rattle.checks.specs.Later.{then-buffers, refused-before, refused-here, refused-not}
-use Rattle.checks.specs.First.{told}
-use Rattle.checks.specs.Edges.{kept}
+use Rattle.lattice.proofs.Building.{buffers-before, buffers-here, buffers-not, ordered-fronts, is-accepted, of-kept}
+use Rattle.lattice.proofs.Setting.{refused-set, kept-set, holds-all}
 use Rattle.transfer.specs.Job.{windowOf}
-use lib.ListN.{length}
+use Rattle.checks.specs.Edges.{kept}
+use Rattle.checks.specs.First.{told}
 use native.Mathlib.Omega.{arith}
+use lib.ListN.{length}
+use mathlib.Core.Bool.{Bool}
 use borrow.Author.Needs.{needs}
 use Rattle.lattice.proofs.graph.Graph.new.Statement.{statement}
 use Rattle.lattice.proofs.graph.Graph.new.Tie as tie
+
+-- whether the lists are too short, where the graph is built
+abbrev misfit : tie.After-build → Bool
+misfit c = let x = c .before .before .before .before .before .before .before .before .before .before .args in tooShort (length (kept (x .a .now) (x .b .now) (x .m .now))) (x .early .now) (x .late .now) (x .mag .now)
 
 slice-aggregate-build : tie.Need-slice-aggregate-build
 slice-aggregate-build c = search needs
@@ -26,41 +30,41 @@ build-requires c κs = search needs
 
 returns : tie.Need-returns
 returns c =
-    let s = c .before .before .before .before .before .before .before .before .before .before .before .before .before .before in
-    let g = c .before .before .before .before .build .ensures in
-    refused-set _ _ _ _ _ _ _ _ (refused-before (then-buffers (s .args .n) (s .args .a .now) (s .args .b .now) (s .args .m .now) (tooShort (length (kept (s .args .a .now) (s .args .b .now) (s .args .m .now))) (s .args .early .now) (s .args .late .now) (s .args .mag .now))) _ (g .refusal) (c .if1 .taken)) (c .if1 .taken)
+    let g = c .before .before .before .before in
+    refused-set _ _ _ _ _ _ _ _ (buffers-before (g .build .ensures) (misfit g) (c .if1 .taken)) (c .if1 .taken)
 
 is-too-short-requires : tie.Need-is-too-short-requires
 is-too-short-requires c κs = search needs
 
 returns-2 : tie.Need-returns-2
 returns-2 c =
-    let s = c .before .before .before .before .before .before .before .before .before .before .before .before .before .before .before .before in
-    let g = c .before .before .before .before .before .before .build .ensures in
+    let g = c .before .before .before .before .before .before in
     let z = c .before .before .if1 .left in
-    refused-set _ _ _ _ _ _ _ _ (refused-here (then-buffers (s .args .n) (s .args .a .now) (s .args .b .now) (s .args .m .now) (tooShort (length (kept (s .args .a .now) (s .args .b .now) (s .args .m .now))) (s .args .early .now) (s .args .late .now) (s .args .mag .now))) _ (g .refusal) z (rw (← (g .written z .edges)) (told (c .before .is-too-short .ensures) (c .if2 .taken)))) (λ e. omega arith)
+    refused-set _ _ _ _ _ _ _ _
+    (buffers-here (g .build .ensures) (misfit g) z (rw (← (g .build .ensures .written z .edges)) (told (c .before .is-too-short .ensures) (c .if2 .taken)))) (λ e. omega arith)
 
 array-share-prefix-first : tie.Need-array-share-prefix-first
-array-share-prefix-first c = early-fits (c .before .before .before .before .before .before .build .ensures .written (c .before .before .if1 .left))
+array-share-prefix-first c = search needs
 
 slice-aggregate-window-of : tie.Need-slice-aggregate-window-of
-slice-aggregate-window-of c = early-part (c .before .before .before .before .before .before .before .build .ensures .written (c .before .before .before .if1 .left))
+slice-aggregate-window-of c = search needs
 
 array-share-prefix-second : tie.Need-array-share-prefix-second
-array-share-prefix-second c = late-fits (c .before .before .before .before .before .before .before .build .ensures .written (c .before .before .before .if1 .left))
+array-share-prefix-second c = search needs
 
 slice-aggregate-window-of-2 : tie.Need-slice-aggregate-window-of-2
-slice-aggregate-window-of-2 c = late-part (c .before .before .before .before .before .before .before .before .build .ensures .written (c .before .before .before .before .if1 .left))
+slice-aggregate-window-of-2 c = search needs
 
 window-of-requires : tie.Need-window-of-requires
 window-of-requires c κs = ordered-fronts (c .before .before .before .before .before .before .before .before .build .ensures) (c .before .before .before .before .if1 .left)
 
 keep-requires : tie.Need-keep-requires
 keep-requires c κs =
-    let g = c .before .before .before .before .before .before .before .before .before .before .before .before .build .ensures in
-    let z = c .before .before .before .before .before .before .before .before .if1 .left in
+    let fits = c .before .before .before .before .before .before in
+    let g = fits .before .before .before .before .before .before .build .ensures in
+    let z = fits .before .before .if1 .left in
     let l = is-accepted g z .lists in
-    (l .others, l .magnitudes, holds-all _ _ _ _ (rw (← (g .written z .edges)) (told (c .before .before .before .before .before .before .before .is-too-short .ensures) (c .before .before .before .before .before .before .if2 .left))))
+    (l .others, l .magnitudes, holds-all _ _ _ _ (rw (← (g .written z .edges)) (told (fits .before .is-too-short .ensures) (fits .if2 .left))))
 
 same-length : tie.Need-same-length
 same-length c = search needs
@@ -73,10 +77,13 @@ same-length-3 c = search needs
 
 returns-3 : tie.Need-returns-3
 returns-3 c =
-    let s = c .before .before .before .before .before .before .before .before .before .before .before .before .before .before .before .before .before .before .before .before .before .before .before .before .before .before .before .before .before in
-    let g = c .before .before .before .before .before .before .before .before .before .before .before .before .before .before .before .before .before .before .before .build .ensures in
-    let z = c .before .before .before .before .before .before .before .before .before .before .before .before .before .before .before .if1 .left in
-    kept-set _ _ _ _ _ (refused-not (then-buffers (s .args .n) (s .args .a .now) (s .args .b .now) (s .args .m .now) (tooShort (length (kept (s .args .a .now) (s .args .b .now) (s .args .m .now))) (s .args .early .now) (s .args .late .now) (s .args .mag .now))) _ (g .refusal) z (rw (← (g .written z .edges)) (told (c .before .before .before .before .before .before .before .before .before .before .before .before .before .before .is-too-short .ensures) (c .before .before .before .before .before .before .before .before .before .before .before .before .before .if2 .left)))) (c .before .before .before .before .before .before .keep .ensures) (g .written z .edges) (of-kept (g .written z) (windowOf (s .args .floor)) (c .before .before .before .before .before .before .before .before .before .before .window-of .ensures))
+    let fits = c .before .before .before .before .before .before .before .before .before .before .before .before .before in
+    let g = fits .before .before .before .before .before .before in
+    let built = g .build .ensures in
+    let z = fits .before .before .if1 .left in
+    kept-set _ _ _ _ _
+    (buffers-not built (misfit g) z (rw (← (built .written z .edges)) (told (fits .before .is-too-short .ensures) (fits .if2 .left))))
+    (c .before .before .before .before .before .before .keep .ensures) (built .written z .edges) (of-kept (built .written z) (windowOf (g .before .before .before .before .before .before .before .before .before .before .args .floor)) (c .before .before .before .before .before .before .before .before .before .before .window-of .ensures))
 
 pub new-spec : {M : Type 1} → statement M
 new-spec =

@@ -8,8 +8,8 @@ use native.Mathlib.Omega.{arith}
 use Prim.Native.Nat.{_-_, _≤_}
 use mathlib.Core.Bool.{false}
 use mathlib.Core.Path.{_≡_}
-use Rattle.kept.proofs.refuse.bad_magnitudes.Statement.{statement}
-use Rattle.kept.proofs.refuse.bad_magnitudes.Tie as tie
+use Rattle.kept.proofs.refuse.some_oversized.Statement.{statement}
+use Rattle.kept.proofs.refuse.some_oversized.Tie as tie
 
 abbrev Inv-loop : tie.InvT-loop
 Inv-loop m i₀ i = (some (λ e. oversized (getD m e nan)) i ≡ false) × (i ≤ length m)
@@ -44,8 +44,8 @@ loop-again c = (miss _ _ (c .before .before .before .before .loop .inv .0) _ (c 
 returns-2 : tie.Need-returns-2 Inv-loop μ-loop
 returns-2 c = none _ _ (c .before .loop .i) (c .before .loop .inv .0) (c .loop-test .left) (c .before .loop .inv .1)
 
-pub bad-magnitudes-spec : {M : Type 1} → statement M
-bad-magnitudes-spec =
+pub some-oversized-spec : {M : Type 1} → statement M
+some-oversized-spec =
     tie.close
     (tie.spec
     Inv-loop

@@ -1,0 +1,55 @@
+-- The answer of each measure's own function.
+use Rattle.lattice.proofs.Setting.{of-measure}
+use Rattle.lattice.specs.Graphs.{freeCount}
+use Rattle.lattice.specs.declared.graph.Measure.the-variants.{Components, Free}
+use borrow.Author.Needs.{needs}
+use Rattle.lattice.proofs.graph.measure_kept.Statement.{statement}
+use Rattle.lattice.proofs.graph.measure_kept.Tie as tie
+
+enum-known-measure : tie.Need-enum-known-measure
+enum-known-measure c = search needs
+
+window-of-requires : tie.Need-window-of-requires
+window-of-requires c κs = search needs
+
+enum-told : tie.Need-enum-told
+enum-told c = search needs
+
+count-components-requires : tie.Need-count-components-requires
+count-components-requires c κs = search needs
+
+enum-told-2 : tie.Need-enum-told-2
+enum-told-2 c = search needs
+
+count-free-edges-requires : tie.Need-count-free-edges-requires
+count-free-edges-requires c κs = search needs
+
+returns : tie.Need-returns
+returns c =
+    let x = c .before .before .before .before .before .before .args in
+    of-measure (x .n) (x .early .now) (x .late .now) _ _ (c .before .before .measure .given .1) _ (c .window-of .ensures)
+
+returns-2 : tie.Need-returns-2
+returns-2 c =
+    let x = c .before .before .before .before .before .args in
+    of-measure (x .n) (x .early .now) (x .late .now) _ Components (c .before .enum-told .given .1) _ (c .count-components .ensures)
+
+returns-3 : tie.Need-returns-3
+unfolding freeCount
+returns-3 c =
+    let x = c .before .before .before .before .before .args in
+    of-measure (x .n) (x .early .now) (x .late .now) _ Free (c .before .enum-told2 .given .1) _ (c .count-free-edges .ensures .1)
+
+pub measure-kept-spec : {M : Type 1} → statement M
+measure-kept-spec =
+    tie.close
+    (tie.spec
+    enum-known-measure
+    window-of-requires
+    enum-told
+    count-components-requires
+    enum-told-2
+    count-free-edges-requires
+    returns
+    returns-2
+    returns-3)
