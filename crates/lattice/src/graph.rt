@@ -61,7 +61,8 @@ fn measure_kept(measure: Measure, n: usize, early: &[usize], late: &[usize]) -> 
 }
 
 fn measured(measure: Measure, n: usize, a: &[usize], b: &[usize], m: &[f64]) -> Answer
-    ensures { λ r. ⌜ r ≡ answered (refusal ofGraph (graphRequest n (now (a .entry)) (now (b .entry)) (now (m .entry)) false)) (measureOf measure n (earlyEnds (kept (now (a .entry)) (now (b .entry)) (now (m .entry)))) (lateEnds (kept (now (a .entry)) (now (b .entry)) (now (m .entry))))) ⌝ }
+    ensures { λ r. ⌜ r ≡ answered (refusal ofGraph (graphRequest n (now (a .entry)) (now (b .entry)) (now (m .entry)) false))
+        (measureOf measure n (earlyEnds (kept (now (a .entry)) (now (b .entry)) (now (m .entry)))) (lateEnds (kept (now (a .entry)) (now (b .entry)) (now (m .entry))))) ⌝ }
 {
     let mut early = [0usize; EDGES];
     let mut late = [0usize; EDGES];
@@ -77,28 +78,33 @@ fn measured(measure: Measure, n: usize, a: &[usize], b: &[usize], m: &[f64]) -> 
 
 // The largest of 1, the caller's floor and the longest kept edge; a window above 24 is answered.
 pub fn window(n: usize, a: &[usize], b: &[usize], m: &[f64], floor: usize) -> Answer
-    ensures { λ r. ⌜ r ≡ answered (refusal ofGraph (graphRequest n (now (a .entry)) (now (b .entry)) (now (m .entry)) false)) (windowOf floor (earlyEnds (kept (now (a .entry)) (now (b .entry)) (now (m .entry)))) (lateEnds (kept (now (a .entry)) (now (b .entry)) (now (m .entry))))) ⌝ }
+    ensures { λ r. ⌜ r ≡ answered (refusal ofGraph (graphRequest n (now (a .entry)) (now (b .entry)) (now (m .entry)) false))
+        (windowOf floor (earlyEnds (kept (now (a .entry)) (now (b .entry)) (now (m .entry)))) (lateEnds (kept (now (a .entry)) (now (b .entry)) (now (m .entry))))) ⌝ }
 {
     measured(Measure::Window(floor), n, a, b, m)
 }
 
 // How many components the graph has.
 pub fn n_components(n: usize, a: &[usize], b: &[usize], m: &[f64]) -> Answer
-    ensures { λ r. ⌜ r ≡ answered (refusal ofGraph (graphRequest n (now (a .entry)) (now (b .entry)) (now (m .entry)) false)) (componentCount n (earlyEnds (kept (now (a .entry)) (now (b .entry)) (now (m .entry)))) (lateEnds (kept (now (a .entry)) (now (b .entry)) (now (m .entry))))) ⌝ }
+    ensures { λ r. ⌜ r ≡ answered (refusal ofGraph (graphRequest n (now (a .entry)) (now (b .entry)) (now (m .entry)) false))
+        (componentCount n (earlyEnds (kept (now (a .entry)) (now (b .entry)) (now (m .entry)))) (lateEnds (kept (now (a .entry)) (now (b .entry)) (now (m .entry))))) ⌝ }
 {
     measured(Measure::Components, n, a, b, m)
 }
 
 // How many edges are free: kept edges and components, less the vertices.
 pub fn cyclomatic(n: usize, a: &[usize], b: &[usize], m: &[f64]) -> Answer
-    ensures { λ r. ⌜ r ≡ answered (refusal ofGraph (graphRequest n (now (a .entry)) (now (b .entry)) (now (m .entry)) false)) (freeCount (earlyEnds (kept (now (a .entry)) (now (b .entry)) (now (m .entry)))) (lateEnds (kept (now (a .entry)) (now (b .entry)) (now (m .entry))))) ⌝ }
+    ensures { λ r. ⌜ r ≡ answered (refusal ofGraph (graphRequest n (now (a .entry)) (now (b .entry)) (now (m .entry)) false))
+        (freeCount (earlyEnds (kept (now (a .entry)) (now (b .entry)) (now (m .entry)))) (lateEnds (kept (now (a .entry)) (now (b .entry)) (now (m .entry))))) ⌝ }
 {
     measured(Measure::Free, n, a, b, m)
 }
 
 // Marks each kept edge that is a tree edge: no path of earlier kept edges joins its ends. Returns the refusal's number, 0 for accepted.
 pub fn spanning_forest(n: usize, a: &[usize], b: &[usize], m: &[f64], tree: &mut [bool]) -> usize
-    ensures { λ r. ⌜ (r ≡ refusal ofGraphWithBuffers (graphRequest n (now (a .entry)) (now (b .entry)) (now (m .entry)) (not (eqb (length (now (tree .entry))) (length (kept (now (a .entry)) (now (b .entry)) (now (m .entry)))))))) × (now (tree .exit) ≡ left r (treeMarks (earlyEnds (kept (now (a .entry)) (now (b .entry)) (now (m .entry)))) (lateEnds (kept (now (a .entry)) (now (b .entry)) (now (m .entry))))) (now (tree .entry))) × (r ≡ 0 → Spans (earlyEnds (kept (now (a .entry)) (now (b .entry)) (now (m .entry)))) (lateEnds (kept (now (a .entry)) (now (b .entry)) (now (m .entry)))) (now (tree .exit))) ⌝ }
+    ensures { λ r. ⌜ (r ≡ refusal ofGraphWithBuffers (graphRequest n (now (a .entry)) (now (b .entry)) (now (m .entry)) (not (eqb (length (now (tree .entry))) (length (kept (now (a .entry)) (now (b .entry)) (now (m .entry))))))))
+        × (now (tree .exit) ≡ left r (treeMarks (earlyEnds (kept (now (a .entry)) (now (b .entry)) (now (m .entry)))) (lateEnds (kept (now (a .entry)) (now (b .entry)) (now (m .entry))))) (now (tree .entry)))
+        × (r ≡ 0 → Spans (earlyEnds (kept (now (a .entry)) (now (b .entry)) (now (m .entry)))) (lateEnds (kept (now (a .entry)) (now (b .entry)) (now (m .entry)))) (now (tree .exit))) ⌝ }
 {
     let mut early = [0usize; EDGES];
     let mut late = [0usize; EDGES];
@@ -118,7 +124,8 @@ pub fn spanning_forest(n: usize, a: &[usize], b: &[usize], m: &[f64], tree: &mut
 
 // Names each vertex's component by one of its vertices. Returns the refusal's number, 0 for accepted.
 pub fn components(n: usize, a: &[usize], b: &[usize], m: &[f64], out: &mut [usize]) -> usize
-    ensures { λ r. ⌜ (r ≡ refusal ofGraphWithBuffers (graphRequest n (now (a .entry)) (now (b .entry)) (now (m .entry)) (not (eqb (length (now (out .entry))) n)))) × (now (out .exit) ≡ left r (componentNames n (earlyEnds (kept (now (a .entry)) (now (b .entry)) (now (m .entry)))) (lateEnds (kept (now (a .entry)) (now (b .entry)) (now (m .entry))))) (now (out .entry))) ⌝ }
+    ensures { λ r. ⌜ (r ≡ refusal ofGraphWithBuffers (graphRequest n (now (a .entry)) (now (b .entry)) (now (m .entry)) (not (eqb (length (now (out .entry))) n))))
+        × (now (out .exit) ≡ left r (componentNames n (earlyEnds (kept (now (a .entry)) (now (b .entry)) (now (m .entry)))) (lateEnds (kept (now (a .entry)) (now (b .entry)) (now (m .entry))))) (now (out .entry))) ⌝ }
 {
     let mut early = [0usize; EDGES];
     let mut late = [0usize; EDGES];
@@ -138,7 +145,8 @@ pub fn components(n: usize, a: &[usize], b: &[usize], m: &[f64], out: &mut [usiz
 
 // The least number of kept edges on a walk from u to v; equal ends are allowed.
 pub fn distance(n: usize, a: &[usize], b: &[usize], m: &[f64], u: usize, v: usize) -> Reached
-    ensures { λ r. ⌜ Distanced (refusal ofDistance (distanceRequest n (now (a .entry)) (now (b .entry)) (now (m .entry)) u v)) (earlyEnds (kept (now (a .entry)) (now (b .entry)) (now (m .entry)))) (lateEnds (kept (now (a .entry)) (now (b .entry)) (now (m .entry)))) u v r ⌝ }
+    ensures { λ r. ⌜ Distanced (refusal ofDistance (distanceRequest n (now (a .entry)) (now (b .entry)) (now (m .entry)) u v))
+        (earlyEnds (kept (now (a .entry)) (now (b .entry)) (now (m .entry)))) (lateEnds (kept (now (a .entry)) (now (b .entry)) (now (m .entry)))) u v r ⌝ }
 {
     let mut early = [0usize; EDGES];
     let mut late = [0usize; EDGES];
@@ -170,7 +178,10 @@ impl Graph {
         late: &mut [usize],
         mag: &mut [f64],
     ) -> Made
-        ensures { λ r. ⌜ Set (refusal ofGraphWithBuffers (graphRequest n (now (a .entry)) (now (b .entry)) (now (m .entry)) (tooShort (length (kept (now (a .entry)) (now (b .entry)) (now (m .entry)))) (now (early .entry)) (now (late .entry)) (now (mag .entry))))) n floor (kept (now (a .entry)) (now (b .entry)) (now (m .entry))) r (now (early .entry)) (now (early .exit)) (now (late .entry)) (now (late .exit)) (now (mag .entry)) (now (mag .exit)) ⌝ }
+        ensures { λ r. ⌜ Set (refusal ofGraphWithBuffers (graphRequest n (now (a .entry)) (now (b .entry)) (now (m .entry))
+            (tooShort (length (kept (now (a .entry)) (now (b .entry)) (now (m .entry)))) (now (early .entry)) (now (late .entry)) (now (mag .entry)))))
+            n floor (kept (now (a .entry)) (now (b .entry)) (now (m .entry))) r
+            (now (early .entry)) (now (early .exit)) (now (late .entry)) (now (late .exit)) (now (mag .entry)) (now (mag .exit)) ⌝ }
     {
         let mut first = [0usize; EDGES];
         let mut second = [0usize; EDGES];
@@ -200,7 +211,10 @@ impl Graph {
         late: &mut [usize],
         mag: &mut [f64],
     ) -> Made
-        ensures { λ r. ⌜ Set (refusal ofGraphWithBuffers (graphRequest n (now (a .entry)) (now (b .entry)) (now (m .entry)) (tooShort (length (kept (now (a .entry)) (now (b .entry)) (now (m .entry)))) (now (early .entry)) (now (late .entry)) (now (mag .entry))))) n floor (rotate n (kept (now (a .entry)) (now (b .entry)) (now (m .entry)))) r (now (early .entry)) (now (early .exit)) (now (late .entry)) (now (late .exit)) (now (mag .entry)) (now (mag .exit)) ⌝ }
+        ensures { λ r. ⌜ Set (refusal ofGraphWithBuffers (graphRequest n (now (a .entry)) (now (b .entry)) (now (m .entry))
+            (tooShort (length (kept (now (a .entry)) (now (b .entry)) (now (m .entry)))) (now (early .entry)) (now (late .entry)) (now (mag .entry)))))
+            n floor (rotate n (kept (now (a .entry)) (now (b .entry)) (now (m .entry)))) r
+            (now (early .entry)) (now (early .exit)) (now (late .entry)) (now (late .exit)) (now (mag .entry)) (now (mag .exit)) ⌝ }
     {
         match Graph::new(n, floor, a, b, m, early, late, mag) {
             Made::Kept(g) => {

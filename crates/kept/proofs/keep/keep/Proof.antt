@@ -16,7 +16,9 @@ abbrev μ-loop : tie.MeasureT-loop
 
 -- a kept edge has room in each buffer
 roomy : (c : tie.Then1 Inv-loop μ-loop) → let l = c .before .before .before .before .before .before .before .before .before .loop in (l .k < length (l .early)) × (l .k < length (l .late)) × (l .k < length (l .mag))
-roomy c = keep-rooms (c .before .before .before .before .before .before .before .before .before .loop .inv) (c .before .before .before .before .before .before .before .before .loop-test .taken) (ne-eq _ _ false (c .if1 .taken))
+roomy c =
+    let turn = c .before .before .before .before .before .before .before .before in
+    keep-rooms (turn .before .loop .inv) (turn .loop-test .taken) (ne-eq _ _ false (c .if1 .taken))
 
 loop-holds : tie.Need-loop-holds Inv-loop μ-loop
 loop-holds c = keep-none _ _ _ _ _ _ (c .before .before .before .before .before .before .pre .2)
@@ -85,13 +87,18 @@ loop-less : tie.Need-loop-less Inv-loop μ-loop
 loop-less c = omega arith
 
 loop-again : tie.Need-loop-again Inv-loop μ-loop
-loop-again c = keep-it (c .before .before .before .before .before .before .before .before .before .loop .inv) (c .before .before .before .before .before .before .before .before .loop-test .taken) (ne-eq _ _ false (c .if1 .taken)) _ _ (c .before .before .before .before .before .smaller .ensures) (c .before .before .larger .ensures)
+loop-again c =
+    let turn = c .before .before .before .before .before .before .before .before in
+    keep-it (turn .before .loop .inv) (turn .loop-test .taken) (ne-eq _ _ false (c .if1 .taken)) _ _
+    (c .before .before .before .before .before .smaller .ensures) (c .before .before .larger .ensures)
 
 loop-less-2 : tie.Need-loop-less-2 Inv-loop μ-loop
 loop-less-2 c = omega arith
 
 loop-again-2 : tie.Need-loop-again-2 Inv-loop μ-loop
-loop-again-2 c = keep-not (c .before .before .before .before .before .before .before .before .before .loop .inv) (c .before .before .before .before .before .before .before .before .loop-test .taken) (ne-eq _ _ true (c .if1 .left))
+loop-again-2 c =
+    let turn = c .before .before .before .before .before .before .before .before in
+    keep-not (turn .before .loop .inv) (turn .loop-test .taken) (ne-eq _ _ true (c .if1 .left))
 
 same-length : tie.Need-same-length Inv-loop μ-loop
 same-length c = omega arith

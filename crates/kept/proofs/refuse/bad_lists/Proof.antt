@@ -13,13 +13,19 @@ returns-3 : tie.Need-returns-3
 returns-3 c = simp (eq-eqb _ _ (c .before .before .if1 .left), eq-eqb _ _ (c .before .if2 .left), lt-ltb _ _ (c .if3 .taken))
 
 returns-4 : tie.Need-returns-4
-returns-4 c = simp (eq-eqb _ _ (c .before .before .before .if1 .left), eq-eqb _ _ (c .before .before .if2 .left), le-ltb _ _ (c .before .if3 .left), ne-eqb _ _ (c .if4 .taken))
+returns-4 c =
+    let few = c .before in
+    simp (eq-eqb _ _ (few .before .before .if1 .left), eq-eqb _ _ (few .before .if2 .left), le-ltb _ _ (few .if3 .left), ne-eqb _ _ (c .if4 .taken))
 
 returns-5 : tie.Need-returns-5
-returns-5 c = simp (eq-eqb _ _ (c .before .before .before .before .if1 .left), eq-eqb _ _ (c .before .before .before .if2 .left), le-ltb _ _ (c .before .before .if3 .left), eq-eqb _ _ (c .before .if4 .left), lt-ltb _ _ (c .if5 .taken))
+returns-5 c =
+    let few = c .before .before in
+    simp (eq-eqb _ _ (few .before .before .if1 .left), eq-eqb _ _ (few .before .if2 .left), le-ltb _ _ (few .if3 .left), eq-eqb _ _ (c .before .if4 .left), lt-ltb _ _ (c .if5 .taken))
 
 returns-6 : tie.Need-returns-6
-returns-6 c = simp (eq-eqb _ _ (c .before .before .before .before .if1 .left), eq-eqb _ _ (c .before .before .before .if2 .left), le-ltb _ _ (c .before .before .if3 .left), eq-eqb _ _ (c .before .if4 .left), le-ltb _ _ (c .if5 .left))
+returns-6 c =
+    let few = c .before .before in
+    simp (eq-eqb _ _ (few .before .before .if1 .left), eq-eqb _ _ (few .before .if2 .left), le-ltb _ _ (few .if3 .left), eq-eqb _ _ (c .before .if4 .left), le-ltb _ _ (c .if5 .left))
 
 pub bad-lists-spec : {M : Type 1} → statement M
 bad-lists-spec = tie.close (tie.spec returns returns-2 returns-3 returns-4 returns-5 returns-6)

@@ -42,10 +42,16 @@ shared-slice-read-k : tie.Need-shared-slice-read-k Inv-loop μ-loop
 shared-slice-read-k c = omega (arith, c .before .before .before .before .loop .inv .within)
 
 loop-less : tie.Need-loop-less Inv-loop μ-loop
-loop-less c = search-less _ _ _ (c .before .before .before .before .before .before .args .next .now) _ (c .before .before .before .loop-test .taken) (c .before .before .before .before .loop .inv) (c .before .before .before .before .before .before .pre .3)
+loop-less c =
+    let turn = c .before .before .before in
+    let start = turn .before .before .before in
+    search-less _ _ _ (start .args .next .now) _ (turn .loop-test .taken) (turn .before .loop .inv) (start .pre .3)
 
 loop-again : tie.Need-loop-again Inv-loop μ-loop
-loop-again c = search-on _ _ _ (c .before .before .before .before .before .before .args .next .now) _ (c .before .before .before .loop-test .taken) (c .before .before .before .before .loop .inv) (c .before .if1 .left) (c .before .before .before .before .before .before .pre .3)
+loop-again c =
+    let turn = c .before .before .before in
+    let start = turn .before .before .before in
+    search-on _ _ _ (start .args .next .now) _ (turn .loop-test .taken) (turn .before .loop .inv) (c .before .if1 .left) (start .pre .3)
 
 returns-2 : tie.Need-returns-2 Inv-loop μ-loop
 returns-2 c = search-end _ _ _ _ (c .loop-test .left) (c .before .loop .inv)

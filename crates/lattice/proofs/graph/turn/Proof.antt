@@ -1,6 +1,7 @@
 -- The edges before e are turned, the others as they were.
 use Rattle.lattice.proofs.Turning.{Turning, turning-none, turning-more, turning-all, early-waits, late-waits}
-use Prim.Native.Nat.{_-_}
+use lib.ListN.{getD}
+use Prim.Native.Nat.{_-_, _<_}
 use native.Mathlib.Omega.{arith}
 use Rattle.lattice.proofs.graph.turn.Statement.{statement}
 use Rattle.lattice.proofs.graph.turn.Tie as tie
@@ -10,6 +11,14 @@ Inv-loop n edges early₀ late₀ e₀ early late e = Turning n edges early₀ e
 
 abbrev μ-loop : tie.MeasureT-loop
 μ-loop n edges early₀ late₀ e₀ early late e = edges - e
+
+-- the ends of the edge that is turned next are vertices
+ends-below : (c : tie.In-loop Inv-loop μ-loop)
+    → let l = c .before .loop in (getD (l .early) (l .e) 0 < c .before .before .args .n) × (getD (l .late) (l .e) 0 < c .before .before .args .n)
+ends-below c =
+    let l = c .before .loop in
+    let inside = c .before .before .pre .1 (l .e) (omega arith) in
+    (omega (arith, inside .0, early-waits (l .inv)), omega (arith, inside .1, late-waits (l .inv)))
 
 loop-holds : tie.Need-loop-holds Inv-loop μ-loop
 loop-holds c = turning-none _ _ _ _
@@ -27,10 +36,10 @@ slice-read-y : tie.Need-slice-read-y Inv-loop μ-loop
 slice-read-y c = omega arith
 
 sub-early : tie.Need-sub-early Inv-loop μ-loop
-sub-early c = omega (arith, c .before .before .before .before .pre .1 (c .before .before .before .loop .e) (omega arith) .0, c .before .before .before .before .pre .1 (c .before .before .before .loop .e) (omega arith) .1, early-waits (c .before .before .before .loop .inv), late-waits (c .before .before .before .loop .inv))
+sub-early c = omega (arith, ends-below (c .before .before) .1)
 
 sub-early-2 : tie.Need-sub-early-2 Inv-loop μ-loop
-sub-early-2 c = omega (arith, c .before .before .before .before .pre .1 (c .before .before .before .loop .e) (omega arith) .0, c .before .before .before .before .pre .1 (c .before .before .before .loop .e) (omega arith) .1, early-waits (c .before .before .before .loop .inv), late-waits (c .before .before .before .loop .inv))
+sub-early-2 c = omega (arith, ends-below (c .before .before) .1)
 
 mul-early : tie.Need-mul-early Inv-loop μ-loop
 mul-early c = omega arith
@@ -39,10 +48,10 @@ slice-write-early : tie.Need-slice-write-early Inv-loop μ-loop
 slice-write-early c = omega arith
 
 sub-late : tie.Need-sub-late Inv-loop μ-loop
-sub-late c = omega (arith, c .before .before .before .before .pre .1 (c .before .before .before .loop .e) (omega arith) .0, c .before .before .before .before .pre .1 (c .before .before .before .loop .e) (omega arith) .1, early-waits (c .before .before .before .loop .inv), late-waits (c .before .before .before .loop .inv))
+sub-late c = omega (arith, ends-below (c .before .before) .0)
 
 sub-late-2 : tie.Need-sub-late-2 Inv-loop μ-loop
-sub-late-2 c = omega (arith, c .before .before .before .before .pre .1 (c .before .before .before .loop .e) (omega arith) .0, c .before .before .before .before .pre .1 (c .before .before .before .loop .e) (omega arith) .1, early-waits (c .before .before .before .loop .inv), late-waits (c .before .before .before .loop .inv))
+sub-late-2 c = omega (arith, ends-below (c .before .before) .0)
 
 mul-late : tie.Need-mul-late Inv-loop μ-loop
 mul-late c = omega arith
