@@ -3,9 +3,10 @@ use mathlib.Core.Path.{_≡_, ap, _∙_}
 use mathlib.Core.Bool.{Bool, cond}
 use Prim.Native.Nat.{ℕ, _*_, _≤_}
 use native.Mathlib.Nat.{mul-le-mul}
+use Rattle.limits.specs.Limits.{mostBetas, mostEdges}
 
--- of 64 betas and 4,096 edges
-pub few-factors : (betas edges : ℕ) → betas ≤ 64 → edges ≤ 4096 → betas * edges ≤ 262144
+-- one for each beta and edge
+pub few-factors : (betas edges : ℕ) → betas ≤ mostBetas → edges ≤ mostEdges → betas * edges ≤ mostBetas * mostEdges
 few-factors betas edges p q = mul-le-mul p q
 
 -- where t was answered of the test, so it is of the test itself

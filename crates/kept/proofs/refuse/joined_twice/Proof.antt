@@ -1,5 +1,6 @@
 -- No edge has been chained yet.
 use Rattle.kept.proofs.Chaining.{heads-none}
+use Rattle.limits.specs.Limits.{mostVertices}
 use borrow.Author.Needs.{needs}
 use Rattle.kept.proofs.refuse.joined_twice.Statement.{statement}
 use Rattle.kept.proofs.refuse.joined_twice.Tie as tie
@@ -11,7 +12,7 @@ slice-aggregate-find-twice-2 : tie.Need-slice-aggregate-find-twice-2
 slice-aggregate-find-twice-2 c = search needs
 
 find-twice-requires : tie.Need-find-twice-requires
-find-twice-requires c κs = ((c .before .before .before .before .pre .0 .0, c .before .before .before .before .pre .0 .1, heads-none _ 1024), c .before .before .before .before .pre .1)
+find-twice-requires c κs = ((c .before .before .before .before .pre .0 .0, c .before .before .before .before .pre .0 .1, heads-none _ mostVertices), c .before .before .before .before .pre .1)
 
 returns : tie.Need-returns
 returns c = search needs
