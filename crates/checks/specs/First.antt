@@ -1,7 +1,7 @@
 -- The first check that fits, as code finds it: past those that do not, and here at the one that does. And what it means that none fits.
 use mathlib.Core.Path.{_≡_, refl, sym, _∙_}
-use mathlib.Core.Bool.{Bool, true, false, cond, _&&_}
-use mathlib.Core.List.{List, [], _∷_}
+use mathlib.Core.Bool.{Bool, true, false, cond, not, _&&_}
+use mathlib.Core.List.{List, [], _∷_, map}
 use Prim.Native.Nat.{ℕ, _<_}
 use native.Mathlib.Omega.{arith}
 use Rattle.checks.specs.Key.{Key, same, among, among-same}
@@ -35,6 +35,14 @@ checks-numbered = search arith
 abbrev pub testOf : {A : Type 0} → List (Check A) → Key → A → Bool
 testOf [] k r = false
 testOf (c ∷ cs) k r = cond (same (c .key) k) (c .fits r) (testOf cs k r)
+
+-- no key stands twice in the list, so that each has one test
+abbrev pub distinct : {A : Type 0} → List (Check A) → Bool
+distinct [] = true
+distinct (c ∷ cs) = not (among (map (λ d. d .key) cs) (c .key)) && distinct cs
+
+pub checks-distinct : distinct checks ≡ true
+checks-distinct = refl
 
 -- where none of the checks that concern a call fits, the check of each of their keys does not
 pub key-passed : {A : Type 0} (cs : List (Check A)) (concerned : List Key) (r : A) → Numbered cs → first cs concerned r ≡ 0

@@ -45,49 +45,58 @@ refusal concerned r = first checks concerned r
 
 -- ---- which checks concern which call
 
--- those that read the lists as they are lent, before an edge is kept
+-- Those that read the lists as they are lent, before an edge is kept.
 abbrev pub ofRawGraph : List Key
 ofRawGraph = Key.vertexCount ∷ Key.listLengths ∷ Key.edgeEnds ∷ Key.sizes ∷ []
 
+-- Those of a graph: `window`, `n_components`, `cyclomatic`.
 abbrev pub ofGraph : List Key
 ofGraph = ofRawGraph ++ (Key.parallelEdges ∷ [])
 
+-- Those of a graph and lists to write to: `graph`, `rotated`, `spanning_forest`, `components`.
 abbrev pub ofGraphWithBuffers : List Key
 ofGraphWithBuffers = ofGraph ++ (Key.buffers ∷ [])
 
+-- The same of `couplings`, whose betas the first of them read.
 abbrev pub ofCouplings : List Key
 ofCouplings = ofGraphWithBuffers
 
+-- Those of `distance`.
 abbrev pub ofDistance : List Key
 ofDistance = ofGraph ++ (Key.walkEnds ∷ [])
 
--- those that read the kept edges and the pairs
+-- Those that read the kept edges and the pairs.
 abbrev pub ofKept : List Key
 ofKept = Key.window ∷ Key.nearEdges ∷ Key.pairEnds ∷ []
 
+-- Those of `room`, and the first of every call that sweeps.
 abbrev pub ofRoom : List Key
 ofRoom = ofGraph ++ ofKept
 
--- behind those of `room`: what a call is lent for its sweeps
+-- Behind them: what a call is lent for its sweeps.
 abbrev pub ofLists : List Key
 ofLists = Key.factors ∷ Key.buffers ∷ Key.workMemory ∷ []
 
--- the same for totals: sampling has no limit of free edges, and enumeration no chunks to ask of
+-- The same of an enumeration, which has a limit of free edges, and no chunks to ask of.
 abbrev pub ofEnumerationLists : List Key
 ofEnumerationLists = Key.freeEdges ∷ ofLists
 
+-- The same of a sampling, which has chunks, and no limit of free edges.
 abbrev pub ofSamplingLists : List Key
 ofSamplingLists = Key.samples ∷ ofLists
 
--- behind all others: what the sweeps found
+-- Behind all others: what the sweeps found.
 abbrev pub ofSweeps : List Key
 ofSweeps = Key.partitionSums ∷ []
 
+-- Those of `correlations`.
 abbrev pub ofCorrelations : List Key
 ofCorrelations = ofRoom ++ (ofLists ++ ofSweeps)
 
+-- Those of `exhaustive` and `exhaustive_c`.
 abbrev pub ofEnumeration : List Key
 ofEnumeration = ofRoom ++ (ofEnumerationLists ++ ofSweeps)
 
+-- Those of `sample`.
 abbrev pub ofSampling : List Key
 ofSampling = ofRoom ++ (ofSamplingLists ++ ofSweeps)

@@ -1,16 +1,16 @@
 -- The kept edges at the fronts of three lists, as parts of these lists.
-use mathlib.Core.Path.{_≡_, sym, _∙_, ap₂}
+use mathlib.Core.Path.{_≡_, sym, _∙_, ap₂, subst₂}
 use mathlib.Core.List.{List, map}
 use Prim.Native.Nat.{ℕ, _≤_, _<_}
 use native.Mathlib.Omega.{arith}
 use lib.Ieee.{Float}
-use lib.ListN.{length, take, drop, length-map, length-take}
+use lib.ListN.{length, getD, take, drop, length-map, length-take}
 use lib.Seq.{take-at}
 use Rattle.limits.specs.Limits.{mostEdges}
 use Rattle.vector.specs.Front.{over}
 use Rattle.checks.specs.Edges.{Kept, kept, earlyEnds, lateEnds, magnitudes}
-use Rattle.checks.specs.Accepted.{Lengths, Accepted, accepted-graph, kept-inside, kept-most}
-use Rattle.kept.specs.Keep.{Written, CheckedGraph, Ordered}
+use Rattle.checks.specs.Accepted.{Lengths, Accepted, AcceptedRaw, accepted-graph, kept-inside, kept-most}
+use Rattle.kept.specs.Keep.{Written, CheckedGraph, KeptEdges}
 
 -- the front of a buffer is what was written there
 pub front-is : {A : Type 0} (f : Kept → A) (es : List Kept) (l l₀ : List A) (k : ℕ) → k ≡ length es → l ≡ over (map f es) l₀ → take k l ≡ map f es
@@ -57,19 +57,26 @@ module _ {a b : List ℕ} {m : List Float} {k : ℕ} {early early′ late late�
       → x ≡ f (earlyEnds (kept a b m)) (lateEnds (kept a b m))
   of-kept f e = e ∙ ap₂ f front-early front-late
 
--- ---- a graph that was accepted: what is at the fronts of the lists
+-- ---- a graph that was accepted
+
+-- its kept edges
+pub kept-edges : (n : ℕ) (a b : List ℕ) (m : List Float) → Accepted n a b m → KeptEdges n (earlyEnds (kept a b m)) (lateEnds (kept a b m))
+kept-edges n a b m ok =
+    let p = length-map (kept a b m) (λ e. e .early) in
+    let q = length-map (kept a b m) (λ e. e .late) in
+    let at : (e : ℕ) → e < length (earlyEnds (kept a b m))
+    → (getD (earlyEnds (kept a b m)) e 0 < getD (lateEnds (kept a b m)) e 0) × (getD (lateEnds (kept a b m)) e 0 < n) = λ e l.
+    kept-inside n a b m (ok .edges) e (omega (arith, p)) in
+    record { few = ok .few-vertices; ordered = record { lengths = q ∙ sym p; ends = λ e l. at e l .0 }; inside = λ e l. at e l .1 }
+
 module _ {n : ℕ} {a b : List ℕ} {m : List Float} {us vs : List ℕ} {betas : List Float} {r k : ℕ} {early early′ late late′ : List ℕ}
     {mag mag′ : List Float} (G : CheckedGraph n a b m us vs betas r k early early′ late late′ mag mag′) (z : r ≡ 0) where
-  pub is-accepted : Accepted n a b m
-  is-accepted = accepted-graph n 0 a b m us vs betas (sym (G .refusal) ∙ z) .0
+  -- with its pairs and betas
+  pub is-accepted : Accepted n a b m × AcceptedRaw n a b m us vs betas
+  is-accepted = accepted-graph n 0 a b m us vs betas (sym (G .refusal) ∙ z)
 
-  pub ordered-fronts : Ordered (take k early′) (take k late′)
-  ordered-fronts =
+  -- the kept edges at the fronts of the lists
+  pub kept-fronts : KeptEdges n (take k early′) (take k late′)
+  kept-fronts =
       let W = G .written z in
-      let p = early-part W in
-      record {
-        lengths = sym (late-part W) ∙ early-part W;
-        ends = λ e h.
-            let h′ : e < length (kept a b m) = omega (arith, W .edges) in
-            rw (front-early W, front-late W) (kept-inside n a b m (is-accepted .edges) e h′ .0);
-      }
+      subst₂ (KeptEdges n) (sym (front-early W)) (sym (front-late W)) (kept-edges n a b m (is-accepted .0))

@@ -4,6 +4,7 @@ use mathlib.Core.List.{List}
 use Prim.Native.Nat.{ℕ, _≤_, _<_}
 use lib.Ieee.{Float}
 use lib.ListN.{length, getD, take}
+use Rattle.limits.specs.Limits.{mostVertices}
 use Rattle.vector.specs.Front.{over}
 use Rattle.checks.specs.Edges.{keptOf, earlyEnds, lateEnds, magnitudes}
 use Rattle.checks.specs.Request.{jobRequest}
@@ -44,3 +45,9 @@ pub record CheckedGraph (n : ℕ) (a b : List ℕ) (m : List Float) (us vs : Lis
 pub record Ordered (early late : List ℕ) : Type 0 where
   pub lengths : length late ≡ length early
   pub ends : (e : ℕ) → e < length early → getD early e 0 < getD late e 0
+
+-- the kept edges of a graph of n vertices, their ends in two lists
+pub record KeptEdges (n : ℕ) (early late : List ℕ) : Type 0 where
+  pub few : n ≤ mostVertices
+  pub ordered : Ordered early late
+  pub inside : (e : ℕ) → e < length early → getD late e 0 < n

@@ -17,7 +17,7 @@ pub(crate) fn larger(x: usize, y: usize) -> usize
     if x < y { y } else { x }
 }
 
-// Writes the kept edges to the fronts of three buffers, and answers how many there are.
+// Writes the kept edges to the fronts of three buffers, and returns how many there are.
 pub fn keep(
     a: &[usize],
     b: &[usize],

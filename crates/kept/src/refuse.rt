@@ -1,4 +1,4 @@
-// The checks of a graph: one function a check, each with the test it answers.
+// The checks of a graph: one function a check, each with its test in the contract.
 ghost use mathlib.Core.Path.{_≡_};
 ghost use mathlib.Core.Bool.{Bool, not, _&&_, _||_};
 ghost use Prim.Native.Nat.{ℕ, _≤_, _<_};

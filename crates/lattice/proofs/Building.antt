@@ -1,23 +1,21 @@
 -- A graph that was checked, and what is known of its kept edges at the fronts of the lists.
-use mathlib.Core.Path.{_≡_, sym, _∙_, subst, subst₂}
+use mathlib.Core.Path.{_≡_, subst, subst₂}
 use mathlib.Core.Bool.{Bool, true, false}
 use mathlib.Core.List.{List, []}
-use Prim.Native.Nat.{ℕ, _<_}
+use Prim.Native.Nat.{ℕ}
 use native.Mathlib.Omega.{arith}
 use lib.Ieee.{Float}
-use lib.ListN.{length, getD, take}
+use lib.ListN.{length, take}
 use Rattle.checks.specs.Edges.{kept, earlyEnds, lateEnds}
 use Rattle.checks.specs.Request.{graphRequest, distanceRequest, outside}
 use Rattle.checks.specs.Refusal.{refusal, ofGraphWithBuffers, ofDistance}
 use Rattle.checks.specs.Later.{then-buffers, then-pair, refused-before, refused-here, refused-not}
-use Rattle.checks.specs.Accepted.{kept-inside}
-use Rattle.forest.specs.Paths.{Spans}
+use Rattle.forest.specs.Paths.{Edges, Spans}
 use Rattle.distance.specs.Walks.{Distance}
 use Rattle.distance.specs.declared.Reach.{Reach}
-use Rattle.kept.specs.Keep.{Written, CheckedGraph}
-use Rattle.lattice.specs.Graphs.{KeptGraph}
+use Rattle.kept.specs.Keep.{Written, CheckedGraph, KeptEdges}
 pub use Rattle.kept.specs.Fronts.{front-early, front-late, early-part, late-part, early-fits, late-fits}
-pub use Rattle.kept.specs.Fronts.{of-kept, is-accepted, ordered-fronts}
+pub use Rattle.kept.specs.Fronts.{of-kept, is-accepted, kept-fronts}
 
 module _ {a b : List ℕ} {m : List Float} {k : ℕ} {early early′ late late′ : List ℕ} {mag mag′ : List Float}
     (W : Written a b m (length a) k early early′ late late′ mag mag′) where
@@ -53,21 +51,10 @@ module _ {n : ℕ} {a b : List ℕ} {m : List Float} {r k : ℕ} {early early′
     pub pair-not : r ≡ 0 → outside n u v ≡ false → 0 ≡ refusal ofDistance (distanceRequest n a b m u v)
     pair-not = refused-not (then-pair n a b m u v) r (G .refusal)
 
-  -- accepted, its kept edges make a graph
-  module _ (z : r ≡ 0) where
-    pub kept-graph : KeptGraph n (take k early′) (take k late′)
-    kept-graph =
-        let W = G .written z in
-        let p = early-part W in
-        let at : (e : ℕ) → e < length (take k early′) → (getD (take k early′) e 0 < getD (take k late′) e 0) × (getD (take k late′) e 0 < n) = λ e h.
-        let h′ : e < length (kept a b m) = omega (arith, W .edges) in
-        rw (front-early W, front-late W) (kept-inside n a b m (is-accepted G z .edges) e h′) in
-        record {
-          few = is-accepted G z .few-vertices;
-          ordered = ordered-fronts G z;
-          joined = record {
-            paired = sym (late-part W) ∙ early-part W;
-            early-below = λ e h. omega (arith, at e h .0, at e h .1);
-            late-below = λ e h. at e h .1;
-          };
-        }
+-- ---- kept edges as a forest spans them
+pub joined : {n : ℕ} {early late : List ℕ} → KeptEdges n early late → Edges n early late
+joined es = record {
+  paired = es .ordered .lengths;
+  early-below = λ e h. omega (arith, es .ordered .ends e h, es .inside e h);
+  late-below = λ e h. es .inside e h;
+}

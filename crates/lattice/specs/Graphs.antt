@@ -2,17 +2,14 @@
 use mathlib.Core.Path.{_≡_}
 use mathlib.Core.Bool.{Bool, not, _||_}
 use mathlib.Core.List.{List, map}
-use Prim.Native.Nat.{ℕ, zero, suc, _-_, _≤_}
+use Prim.Native.Nat.{ℕ, zero, suc, _-_}
 use lib.Dec.{ltb}
 use lib.Ieee.{Float}
 use lib.ListN.{length, getD}
-use Rattle.limits.specs.Limits.{mostVertices}
 use Rattle.vector.specs.Count.{count}
 use Rattle.vector.specs.Tabulate.{tabulate}
 use Rattle.forest.specs.Labels.{isTree, labels}
 use Rattle.forest.specs.Components.{componentCount}
-use Rattle.forest.specs.Paths as Paths
-use Rattle.kept.specs.Keep.{Ordered}
 use Rattle.lattice.specs.declared.graph.Measure.{Measure}
 use Rattle.lattice.specs.declared.graph.Measure.the-variants.{Window, Components, Free}
 use Rattle.lattice.specs.declared.graph.Graph.{Graph}
@@ -44,12 +41,6 @@ treeMarks early late = tabulate (isTree early late) (length early)
 -- for each of n vertices, the vertex that names its component
 unfoldable pub componentNames : ℕ → List ℕ → List ℕ → List ℕ
 componentNames n early late = tabulate (labels early late (length early)) n
-
--- the kept edges of a graph of n vertices, smaller end first
-pub record KeptGraph (n : ℕ) (early late : List ℕ) : Type 0 where
-  pub few : n ≤ mostVertices
-  pub ordered : Ordered early late
-  pub joined : Paths.Edges n early late
 
 -- what each measure is of the kept edges
 abbrev pub measureOf : Measure → (n : ℕ) → (early late : List ℕ) → ℕ

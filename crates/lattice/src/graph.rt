@@ -11,7 +11,8 @@ ghost use Rattle.checks.specs.Refusal.{refusal, ofGraph, ofGraphWithBuffers, of
 ghost use Rattle.checks.specs.Answers.{answered, left};
 ghost use Rattle.forest.specs.Paths.{Spans};
 ghost use Rattle.forest.specs.Components.{componentCount};
-ghost use Rattle.lattice.specs.Graphs.{tooShort, freeCount, treeMarks, componentNames, KeptGraph, measureOf, Set, rotate, Turned};
+ghost use Rattle.kept.specs.Keep.{KeptEdges};
+ghost use Rattle.lattice.specs.Graphs.{tooShort, freeCount, treeMarks, componentNames, measureOf, Set, rotate, Turned};
 ghost use Rattle.lattice.specs.Reached.{Distanced};
 use checks::Answer;
 use distance::Reach;
@@ -50,7 +51,7 @@ pub enum Measure {
 
 // The measure of the kept edges.
 fn measure_kept(measure: Measure, n: usize, early: &[usize], late: &[usize]) -> usize
-    requires { ⌜ KeptGraph n (now early) (now late) ⌝ }
+    requires { ⌜ KeptEdges n (now early) (now late) ⌝ }
     ensures { λ r. ⌜ r ≡ measureOf measure n (now (early .entry)) (now (late .entry)) ⌝ }
 {
     match measure {

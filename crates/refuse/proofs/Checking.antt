@@ -1,11 +1,11 @@
 -- The checks of a job one after the other, and what has passed where none refuses.
-use mathlib.Core.Path.{_≡_, refl, sym, ap, ap₂, _∙_, subst, subst₂}
+use mathlib.Core.Path.{_≡_, refl, sym, ap, ap₂, _∙_, subst}
 use mathlib.Core.Bool.{false}
 use mathlib.Core.List.{List, []}
 use Prim.Native.Nat.{ℕ, zero, suc, _-_, _≤_, _<_}
 use native.Mathlib.Omega.{arith}
 use lib.Ieee.{Float}
-use lib.ListN.{length, getD, take, length-map}
+use lib.ListN.{length, getD, take}
 use Rattle.limits.specs.Limits.{mostWindow}
 use Rattle.vector.specs.Most.{most-above}
 use Rattle.transfer.specs.Job.{longest, windowOf, tooManyNear}
@@ -17,12 +17,11 @@ use Rattle.checks.specs.Edges.{kept, earlyEnds, lateEnds, windowFrom}
 use Rattle.checks.specs.Request.{jobRequest, roomRequest}
 use Rattle.checks.specs.Refusal.{refusal, ofRoom}
 use Rattle.checks.specs.Later.{orElse}
-use Rattle.checks.specs.Accepted.{Accepted, accepted-graph, kept-inside}
 use Rattle.checks.specs.AcceptedJob.{window-wide, accepted-with, job-in-parts}
-use Rattle.kept.specs.Keep.{CheckedGraph}
-use Rattle.kept.specs.Fronts.{front-early, front-late, early-part, few, of-kept}
+use Rattle.kept.specs.Keep.{CheckedGraph, KeptEdges}
+use Rattle.kept.specs.Fronts.{early-part, few, of-kept, kept-edges}
 use Rattle.plan.specs.Edges.{Edges}
-use Rattle.refuse.specs.Checked.{KeptEdges, keptRefusal, CheckedKept, CheckedJob}
+use Rattle.refuse.specs.Checked.{keptRefusal, CheckedKept, CheckedJob}
 
 -- ---- the kept edges
 
@@ -41,25 +40,6 @@ edges-of n floor early late w es q narrow = record {
   inside = λ e l. es .inside e l;
   reached = λ e l. omega (arith, q, window-reaches floor early late e l);
 }
-
--- of a graph that was accepted
-kept-edges : (n : ℕ) (a b : List ℕ) (m : List Float) → Accepted n a b m → KeptEdges n (earlyEnds (kept a b m)) (lateEnds (kept a b m))
-kept-edges n a b m ok =
-    let p = length-map (kept a b m) (λ e. e .early) in
-    let q = length-map (kept a b m) (λ e. e .late) in
-    let at : (e : ℕ) → e < length (earlyEnds (kept a b m))
-    → (getD (earlyEnds (kept a b m)) e 0 < getD (lateEnds (kept a b m)) e 0) × (getD (lateEnds (kept a b m)) e 0 < n) = λ e l.
-    kept-inside n a b m (ok .edges) e (omega (arith, p)) in
-    record { few = ok .few-vertices; ordered = record { lengths = q ∙ sym p; ends = λ e l. at e l .0 }; inside = λ e l. at e l .1 }
-
--- at the fronts of the lists
-pub fronts-kept : {n : ℕ} {a b : List ℕ} {m : List Float} {us vs : List ℕ} {betas : List Float} {r k : ℕ} {early early′ late late′ : List ℕ}
-    {mag mag′ : List Float} → CheckedGraph n a b m us vs betas r k early early′ late late′ mag mag′ → r ≡ 0
-    → KeptEdges n (take k early′) (take k late′) × (length vs ≡ length us)
-fronts-kept {n} {a} {b} {m} {us} {vs} {betas} G z =
-    let W = G .written z in
-    let ok = accepted-graph n 0 a b m us vs betas (sym (G .refusal) ∙ z) in
-    (subst₂ (KeptEdges n) (sym (front-early W)) (sym (front-late W)) (kept-edges n a b m (ok .0)), sym (ok .1 .matched))
 
 -- ---- the answer
 

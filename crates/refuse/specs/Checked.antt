@@ -2,11 +2,11 @@
 use mathlib.Core.Path.{_≡_}
 use mathlib.Core.Bool.{false, cond}
 use mathlib.Core.List.{List}
-use Prim.Native.Nat.{ℕ, _≤_, _<_}
+use Prim.Native.Nat.{ℕ, _≤_}
 use lib.Dec.{ltb}
 use lib.Ieee.{Float}
-use lib.ListN.{length, getD}
-use Rattle.limits.specs.Limits.{mostVertices, mostEdges, mostWindow}
+use lib.ListN.{length}
+use Rattle.limits.specs.Limits.{mostEdges, mostWindow}
 use Rattle.vector.specs.Search.{some}
 use Rattle.transfer.specs.Job.{windowOf, tooManyNear}
 use Rattle.transfer.specs.Configuration.{numbered}
@@ -16,15 +16,9 @@ use Rattle.checks.specs.Refusal as Refusal
 use Rattle.checks.specs.Refusal.{ofRoom}
 use Rattle.checks.specs.Accepted.{AcceptedBetas}
 use Rattle.checks.specs.AcceptedJob.{AcceptedJob}
-use Rattle.kept.specs.Keep.{Written, Ordered}
+use Rattle.kept.specs.Keep.{Written}
 use Rattle.plan.specs.Edges.{Edges}
 use Rattle.places.specs.Places.{Pairs}
-
--- kept edges of a graph of n vertices, their ends in two lists, smaller end first
-pub record KeptEdges (n : ℕ) (early late : List ℕ) : Type 0 where
-  pub few : n ≤ mostVertices
-  pub ordered : Ordered early late
-  pub inside : (e : ℕ) → e < length early → getD late e 0 < n
 
 -- of the checks 6, 7 and 8 the first that fits, at window w
 abbrev pub keptRefusal : (n w : ℕ) → (early late us vs : List ℕ) → ℕ

@@ -1,6 +1,6 @@
 -- The names of the components, if the graph is accepted and the buffer fits.
 use Rattle.lattice.specs.Graphs.{componentNames}
-use Rattle.lattice.proofs.Building.{buffers-before, buffers-here, buffers-not, kept-graph, of-kept}
+use Rattle.lattice.proofs.Building.{buffers-before, buffers-here, buffers-not, kept-fronts, joined, of-kept}
 use Rattle.checks.specs.Answers.{left-alone}
 use borrow.Author.Tests.{eq-eqb, ne-eqb}
 use lib.ListN.{length}
@@ -52,8 +52,8 @@ slice-aggregate-name-components-2 c = search needs
 name-components-requires : tie.Need-name-components-requires
 name-components-requires c κs =
     let fits = c .before .before .before in
-    let graph = kept-graph (fits .before .before .before .before .before .build .ensures) (fits .before .if1 .left) in
-    (graph .joined, graph .few, fits .if2 .left)
+    let graph = kept-fronts (fits .before .before .before .before .before .build .ensures) (fits .before .if1 .left) in
+    (joined graph, graph .few, fits .if2 .left)
 
 same-length : tie.Need-same-length
 same-length c = search needs

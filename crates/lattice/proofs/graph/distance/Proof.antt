@@ -1,5 +1,5 @@
 -- The distance by the kept edges, if the graph is accepted and both ends are inside.
-use Rattle.lattice.proofs.Building.{pair-before, pair-here, pair-not, kept-graph, distance-kept}
+use Rattle.lattice.proofs.Building.{pair-before, pair-here, pair-not, kept-fronts, joined, distance-kept}
 use Rattle.lattice.proofs.Setting.{inside-both, refused-distance, length-distance, no-distance}
 use Rattle.distance.specs.declared.Reach.the-variants as Reach
 use Rattle.checks.specs.First.{told}
@@ -53,8 +53,8 @@ shortest-walk-requires c κs =
     let inside = c .before .before in
     let g = inside .before .before .before .before .before .before in
     let x = g .before .before .before .before .before .before .before .args in
-    let graph = kept-graph (g .build .ensures) (inside .before .before .if1 .left) in
-    let e = graph .joined in
+    let graph = kept-fronts (g .build .ensures) (inside .before .before .if1 .left) in
+    let e = joined graph in
     let i = inside-both (x .n) (x .u) (x .v) (told (inside .before .is-outside .ensures) (inside .if2 .left)) in (
       e .paired,
       λ j h. (omega (arith, graph .few, e .early-below j h), omega (arith, graph .few, e .late-below j h)),

@@ -1,4 +1,5 @@
 -- The answer of each measure's own function.
+use Rattle.lattice.proofs.Building.{joined}
 use Rattle.lattice.proofs.Setting.{of-measure}
 use Rattle.lattice.specs.Graphs.{freeCount}
 use Rattle.lattice.specs.declared.graph.Measure.the-variants.{Components, Free}
@@ -16,13 +17,13 @@ enum-told : tie.Need-enum-told
 enum-told c = search needs
 
 count-components-requires : tie.Need-count-components-requires
-count-components-requires c κs = search needs
+count-components-requires c κs = let es = c .before .before .before .before .pre in (joined es, es .few)
 
 enum-told-2 : tie.Need-enum-told-2
 enum-told-2 c = search needs
 
 count-free-edges-requires : tie.Need-count-free-edges-requires
-count-free-edges-requires c κs = search needs
+count-free-edges-requires c κs = let es = c .before .before .before .before .pre in (joined es, es .few)
 
 returns : tie.Need-returns
 returns c =

@@ -1,6 +1,6 @@
 -- The measure of the kept edges, if the graph is accepted.
 use Rattle.lattice.specs.Graphs.{measureOf}
-use Rattle.lattice.proofs.Building.{kept-graph, of-kept}
+use Rattle.lattice.proofs.Building.{kept-fronts, of-kept}
 use Rattle.checks.specs.Answers.{refused-is, number-is}
 use borrow.Author.Needs.{needs}
 use Rattle.lattice.proofs.graph.measured.Statement.{statement}
@@ -36,7 +36,7 @@ slice-aggregate-measure-kept-2 c = search needs
 measure-kept-requires : tie.Need-measure-kept-requires
 measure-kept-requires c κs =
     let passed = c .before .before in
-    kept-graph (passed .before .before .before .before .build .ensures) (passed .if1 .left)
+    kept-fronts (passed .before .before .before .before .build .ensures) (passed .if1 .left)
 
 returns-2 : tie.Need-returns-2
 returns-2 c =

@@ -1,6 +1,6 @@
 -- The tree edges, if the graph is accepted and the buffer fits.
 use Rattle.lattice.specs.Graphs.{treeMarks}
-use Rattle.lattice.proofs.Building.{buffers-before, buffers-here, buffers-not, kept-graph, of-kept, spans-kept}
+use Rattle.lattice.proofs.Building.{buffers-before, buffers-here, buffers-not, kept-fronts, joined, of-kept, spans-kept}
 use Rattle.checks.specs.Edges.{kept}
 use Rattle.checks.specs.Answers.{left-alone}
 use borrow.Author.Tests.{eq-eqb, ne-eqb}
@@ -59,8 +59,8 @@ mark-tree-edges-requires : tie.Need-mark-tree-edges-requires
 mark-tree-edges-requires c κs =
     let fits = c .before .before .before in
     let g = fits .before .before .before .before .before in
-    let graph = kept-graph (g .build .ensures) (fits .before .if1 .left) in
-    (graph .joined, graph .few, fits .if2 .left ∙ g .build .ensures .early-part)
+    let graph = kept-fronts (g .build .ensures) (fits .before .if1 .left) in
+    (joined graph, graph .few, fits .if2 .left ∙ g .build .ensures .early-part)
 
 same-length : tie.Need-same-length
 same-length c = search needs

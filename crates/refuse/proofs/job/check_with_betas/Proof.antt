@@ -1,5 +1,7 @@
 -- The checks of the graph and the betas, and of its kept edges at the fronts of the lists.
-use Rattle.refuse.proofs.Checking.{fronts-kept, job-refused, graph-accepted}
+use Rattle.refuse.proofs.Checking.{job-refused, graph-accepted}
+use Rattle.kept.specs.Fronts.{is-accepted, kept-fronts}
+use mathlib.Core.Path.{sym}
 use borrow.Author.Needs.{needs}
 use Rattle.refuse.proofs.job.check_with_betas.Statement.{statement}
 use Rattle.refuse.proofs.job.check_with_betas.Tie as tie
@@ -37,7 +39,8 @@ slice-aggregate-check-kept-2 c = search needs
 check-kept-requires : tie.Need-check-kept-requires
 check-kept-requires c κs =
     let accepted = c .before .before in
-    fronts-kept (accepted .before .before .before .before .before .before .before .check-graph .ensures) (accepted .if1 .left)
+    let graph = accepted .before .before .before .before .before .before .before .check-graph .ensures in
+    (kept-fronts graph (accepted .if1 .left), sym (is-accepted graph (accepted .if1 .left) .1 .matched))
 
 same-length-4 : tie.Need-same-length-4
 same-length-4 c = search needs

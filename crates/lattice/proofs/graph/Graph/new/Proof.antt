@@ -1,6 +1,6 @@
 -- The kept edges are set out again, in the lent lists, if the graph is accepted and they hold it.
 use Rattle.lattice.specs.Graphs.{tooShort}
-use Rattle.lattice.proofs.Building.{buffers-before, buffers-here, buffers-not, ordered-fronts, is-accepted, of-kept}
+use Rattle.lattice.proofs.Building.{buffers-before, buffers-here, buffers-not, kept-fronts, is-accepted, of-kept}
 use Rattle.lattice.proofs.Setting.{refused-set, kept-set, holds-all}
 use Rattle.transfer.specs.Job.{windowOf}
 use Rattle.checks.specs.Edges.{kept}
@@ -56,14 +56,14 @@ slice-aggregate-window-of-2 : tie.Need-slice-aggregate-window-of-2
 slice-aggregate-window-of-2 c = search needs
 
 window-of-requires : tie.Need-window-of-requires
-window-of-requires c κs = ordered-fronts (c .before .before .before .before .before .before .before .before .build .ensures) (c .before .before .before .before .if1 .left)
+window-of-requires c κs = kept-fronts (c .before .before .before .before .before .before .before .before .build .ensures) (c .before .before .before .before .if1 .left) .ordered
 
 keep-requires : tie.Need-keep-requires
 keep-requires c κs =
     let fits = c .before .before .before .before .before .before in
     let g = fits .before .before .before .before .before .before .build .ensures in
     let z = fits .before .before .if1 .left in
-    let l = is-accepted g z .lists in
+    let l = is-accepted g z .0 .lists in
     (l .others, l .magnitudes, holds-all _ _ _ _ (rw (← (g .written z .edges)) (told (fits .before .is-too-short .ensures) (fits .if2 .left))))
 
 same-length : tie.Need-same-length
