@@ -1,4 +1,4 @@
--- The checks by name. A name tells two checks apart, and no number: one number may be answered at two places of the list.
+-- The checks by name. Checks are told apart by their keys and not by their numbers: one number may stand at two places of the list.
 use mathlib.Core.Path.{_≡_, refl}
 use mathlib.Core.Bool.{Bool, true, false, _||_}
 use mathlib.Core.List.{List, [], _∷_}
@@ -6,6 +6,7 @@ use Prim.Native.Nat.{ℕ}
 use lib.Dec.{eqb}
 use borrow.Author.Tests.{eqb-true}
 
+-- The checks of a job, in checking order, then those of a strip.
 pub data Key : Type 0 where
   vertexCount : Key
   listLengths : Key
@@ -26,7 +27,7 @@ pub data Key : Type 0 where
   oddCylinder : Key
   dilution : Key
 
--- A number of its own for each key, by which keys are compared; calls answer other numbers.
+-- A number of its own for each key, by which keys are compared: neither its place in the list nor what a call returns.
 abbrev pub rank : Key → ℕ
 rank vertexCount = 0
 rank listLengths = 1
@@ -47,6 +48,7 @@ rank stripSides = 15
 rank oddCylinder = 16
 rank dilution = 17
 
+-- Returns whether two keys are the same.
 abbrev pub same : Key → Key → Bool
 same j k = eqb (rank j) (rank k)
 

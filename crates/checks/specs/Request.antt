@@ -176,7 +176,7 @@ keptIn r = kept (r .ones) (r .others) (r .magnitudes)
 abbrev pub parallelEdges : Request → Bool
 parallelEdges r = joinedTwice (earlyEnds (keptIn r)) (lateEnds (keptIn r))
 
--- 6. The window is above so much.
+-- 6. The window is above its limit, which is 24.
 abbrev pub windowIn : Request → ℕ
 windowIn r = windowFrom (r .floor) (r .ones) (r .others) (r .magnitudes)
 
@@ -187,15 +187,15 @@ wideWindow most r = ltb most (windowIn r)
 abbrev pub manyNear : Request → Bool
 manyNear r = tooManyNear (r .vertices) (windowIn r) (numbered (earlyEnds (keptIn r)) (lateEnds (keptIn r)))
 
--- 8. A pair has equal ends or an end outside the graph;
+-- 8. A pair has equal ends or an end outside the graph.
 abbrev pub badPairs : Request → Bool
 badPairs r = some (badEnds (r .vertices) (r .firsts) (r .seconds)) (length (r .firsts))
 
--- of `distance`, which allows equal ends, an end outside the graph.
+-- 8 of `distance`, which allows equal ends: an end is outside the graph.
 abbrev pub outsidePairs : Request → Bool
 outsidePairs r = some (λ p. outside (r .vertices) (getD (r .firsts) p 0) (getD (r .seconds) p 0)) (length (r .firsts))
 
--- 9. There are more free edges than so many.
+-- 9. Free edges exceed their limit, which is 34 for enumerated totals and 24 for stored correlations.
 abbrev pub manyFree : (most : ℕ) → Request → Bool
 manyFree most r = ltb most (r .configurations .free)
 
