@@ -36,10 +36,10 @@ slice-read-y : tie.Need-slice-read-y Inv-loop μ-loop
 slice-read-y c = omega arith
 
 sub-early : tie.Need-sub-early Inv-loop μ-loop
-sub-early c = omega (arith, ends-below (c .before .before) .1)
+sub-early c = let below = ends-below (c .before .before) in omega (arith, below .0, below .1)
 
 sub-early-2 : tie.Need-sub-early-2 Inv-loop μ-loop
-sub-early-2 c = omega (arith, ends-below (c .before .before) .1)
+sub-early-2 c = let below = ends-below (c .before .before) in omega (arith, below .0, below .1)
 
 mul-early : tie.Need-mul-early Inv-loop μ-loop
 mul-early c = omega arith
@@ -48,10 +48,10 @@ slice-write-early : tie.Need-slice-write-early Inv-loop μ-loop
 slice-write-early c = omega arith
 
 sub-late : tie.Need-sub-late Inv-loop μ-loop
-sub-late c = omega (arith, ends-below (c .before .before) .0)
+sub-late c = let below = ends-below (c .before .before) in omega (arith, below .0, below .1)
 
 sub-late-2 : tie.Need-sub-late-2 Inv-loop μ-loop
-sub-late-2 c = omega (arith, ends-below (c .before .before) .0)
+sub-late-2 c = let below = ends-below (c .before .before) in omega (arith, below .0, below .1)
 
 mul-late : tie.Need-mul-late Inv-loop μ-loop
 mul-late c = omega arith
