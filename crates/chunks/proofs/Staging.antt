@@ -19,6 +19,7 @@ use Rattle.vertex.specs.Ready.{Ready, PlanOf, Backward, Swept, Still, still-swe
 use Rattle.sweeps.specs.Begun.{Stands}
 use Rattle.sweeps.specs.Kept.{SameFrom}
 use Rattle.pair_correlations.specs.Sound.{Outcome}
+use Rattle.chunks.specs.declared.Shape.{Shape}
 use Rattle.chunks.specs.Stage.{Stage}
 use Rattle.chunks.specs.Lists.{part-of}
 
@@ -32,11 +33,11 @@ laid-last d x at e =
     let b′ : i < length x = omega (arith, length-drop at (put d at x)) in
     getD-drop at (put d at x) i nan ∙ sym (part-at (put d at x) at (length x) i nan b′) ∙ ap (λ (y : List Float). getD y i nan) (part-put d at x fits))
 
-module _ (plan us vs : List ℕ) (x r r₁ r₂ r₃ results : List Float) (n w scales c : ℕ) (each sound : Bool) (g : Ready plan (length r) n w scales)
+module _ (plan us vs : List ℕ) (x r r₁ r₂ r₃ results : List Float) (n w scales c : ℕ) (elementwise sound : Bool) (g : Ready plan (length r) n w scales)
     (laid : r₁ ≡ put r (scales + n) x) (ends : scales + n + length x ≡ length r) (same : SameFrom r₁ r₂ (scales + n))
-    (swept : (J : Job Float) → PlanOf J plan (drop (scales + n) r₁) n w each → Stands J plan r₁ n w c → Swept J plan r₂ n w scales)
+    (swept : (J : Job Float) → PlanOf J plan (drop (scales + n) r₁) n w elementwise → Stands J plan r₁ n w c → Swept J plan r₂ n w scales)
     (still : Still r₂ r₃ w scales)
-    (told : (J : Job Float) (each : Bool) → PlanOf J plan (drop (scales + n) r₂) n w each → Swept J plan r₂ n w scales → Outcome J us vs results sound) where
+    (told : (J : Job Float) (elementwise : Bool) → PlanOf J plan (drop (scales + n) r₂) n w elementwise → Swept J plan r₂ n w scales → Outcome J us vs results sound) where
   fits : scales + n + length x ≤ length r
   fits = omega arith
 
@@ -53,17 +54,17 @@ module _ (plan us vs : List ℕ) (x r r₁ r₂ r₃ results : List Float) (n w 
             symmetric-ext (given early .vectors u a b p) (half-held r r₁ w (backwardPlace plan u) (laid-held _ (g .backward .fits u b p)));
       }
 
-  pub told-of : (J : Job Float) → PlanOf J plan x n w each → Stands J plan r n w c → Outcome J us vs results sound × Backward J plan r₃ n w 0
+  pub told-of : (J : Job Float) → PlanOf J plan x n w elementwise → Stands J plan r n w c → Outcome J us vs results sound × Backward J plan r₃ n w 0
   told-of J of given =
       let e : drop (scales + n) r₁ ≡ x = ap (drop (scales + n)) laid ∙ laid-last r x (scales + n) ends in
-      let of₁ : PlanOf J plan (drop (scales + n) r₁) n w each = rw e of in
+      let of₁ : PlanOf J plan (drop (scales + n) r₁) n w elementwise = rw e of in
       let s = swept J of₁ (laid-stands J given) in
       let l : length r₂ ≡ length r = same .same ∙ ap length laid ∙ put-length r (scales + n) x fits in
-      (told J each (rw (same .tail) of₁) s, still-swept J plan r₂ r₃ n w scales (rw l g) still s .backward)
+      (told J elementwise (rw (same .tail) of₁) s, still-swept J plan r₂ r₃ n w scales (rw l g) still s .backward)
 
 -- lists that kept their lengths
-pub stage-keep : {plan us vs order : List ℕ} {m n w scales end results end′ results′ : ℕ} → Stage plan us vs order m n w scales end results
-    → end′ ≡ end → results′ ≡ results → Stage plan us vs order m n w scales end′ results′
+pub stage-keep : {plan us vs order : List ℕ} {m end results end′ results′ : ℕ} {s : Shape} → Stage plan us vs order m s end results
+    → end′ ≡ end → results′ ≡ results → Stage plan us vs order m s end′ results′
 stage-keep g p q = rw (p, q) g
 
 -- beta b has its own part of what is stored

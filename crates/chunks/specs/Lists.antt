@@ -10,8 +10,9 @@ use lib.ListN.{length, drop, drop-of-length-le}
 use Rattle.vector.specs.Part.{put}
 use Rattle.vector.specs.Tabulate.{tabulate, tabulate-length}
 use Rattle.transfer.specs.Job.{Job}
+use Rattle.chunks.specs.declared.Shape.{Shape}
 use Rattle.chunks.specs.Signed.{PlanOfAll}
-use Rattle.chunks.specs.Stage.{Stage, Lent}
+use Rattle.chunks.specs.Stage.{Stage, EnoughFactors}
 
 -- a whole list filled
 pub put-all : (l s : List Float) → length s ≡ length l → put l 0 s ≡ s
@@ -21,16 +22,16 @@ put-all l s e = ap (λ (y : List Float). s ++ y) (drop-of-length-le l {i = 0 + l
 pub filled : (l v : List Float) (z : Float) (n k : ℕ) → n ≡ length l → n ≡ k → v ≡ put l 0 (tabulate (λ _. z) n) → v ≡ tabulate (λ _. z) k
 filled l v z n k e f p = p ∙ put-all l (tabulate (λ _. z) n) (tabulate-length (λ _. z) n ∙ e) ∙ ap (tabulate (λ _. z)) f
 
-pub stage-with : {plan us vs order : List ℕ} {m n w scales end results m′ end′ results′ : ℕ} → Stage plan us vs order m n w scales end results
-    → m′ ≡ m → end′ ≡ end → results′ ≡ results → Stage plan us vs order m′ n w scales end′ results′
+pub stage-with : {plan us vs order : List ℕ} {m end results m′ end′ results′ : ℕ} {s : Shape} → Stage plan us vs order m s end results
+    → m′ ≡ m → end′ ≡ end → results′ ≡ results → Stage plan us vs order m′ s end′ results′
 stage-with g o p q = rw (o, p, q) g
 
-pub lent-with : {lent m betas m′ : ℕ} → Lent lent m betas → m′ ≡ m → Lent lent m′ betas
-lent-with g o = rw o g
+pub factors-with : {factors m betas m′ : ℕ} → EnoughFactors factors m betas → m′ ≡ m → EnoughFactors factors m′ betas
+factors-with g o = rw o g
 
 -- the factors of the first betas
-pub lent-first : {lent m betas : ℕ} (b : ℕ) → Lent lent m betas → b < betas → Lent lent m (b + 1)
-lent-first {lent} {m} {betas} b g l =
+pub factors-first : {factors m betas : ℕ} (b : ℕ) → EnoughFactors factors m betas → b < betas → EnoughFactors factors m (b + 1)
+factors-first {factors} {m} {betas} b g l =
     let h : (b + 1) * m ≤ betas * m = mul-le-mul-right m (omega arith) in
     let e = g .enough in
     let f = g .few in
@@ -41,6 +42,6 @@ pub part-of : (b betas np : ℕ) → b < betas → b * np + np ≤ betas * np
 part-of b betas np l = let h : (b + 1) * np ≤ betas * np = mul-le-mul-right np (omega arith) in omega arith
 
 -- the signs that were made are those of m edges that a rule gives
-pub signed-of : (J : ℕ → Job Float) (plan : List ℕ) (lent : List Float) (minus : ℕ → Bool) (signs : List Bool) (m betas n w : ℕ) (each : Bool)
-    → signs ≡ tabulate minus m → PlanOfAll J plan lent m (tabulate minus m) betas n w each → PlanOfAll J plan lent (length signs) signs betas n w each
-signed-of J plan lent minus signs m betas n w each q of = rw (q, tabulate-length) of
+pub signed-of : (J : ℕ → Job Float) (plan : List ℕ) (factors : List Float) (minus : ℕ → Bool) (signs : List Bool) (m betas : ℕ) (s : Shape)
+    → signs ≡ tabulate minus m → PlanOfAll J plan factors m (tabulate minus m) betas s → PlanOfAll J plan factors (length signs) signs betas s
+signed-of J plan factors minus signs m betas s q of = rw (q, tabulate-length) of

@@ -7,6 +7,7 @@ use native.Mathlib.Nat.{add-zero, mul-add-div-right, mul-add-mod-self-right, mod
 use native.Mathlib.Omega.{arith}
 use lib.Ieee.{Float}
 use lib.ListN.{length, getD}
+use Rattle.vector.specs.Search.{some}
 use Rattle.transfer.specs.Job.{Job}
 use Rattle.transfer.specs.Rounded.{ieee}
 use Rattle.transfer.specs.Sweep as S
@@ -32,6 +33,10 @@ pair-numbered J us vs b p l =
     let m : (b * length us + p) % length us ≡ p = mul-add-mod-self-right b (length us) p ∙ mod-eq-of-lt l in
     rw (d, m)
 
+-- Some pair's Z is not finite and above zero, at one of the first betas.
+abbrev pub unsoundBetas : (ℕ → Job Float) → List ℕ → List ℕ → ℕ → Bool
+unsoundBetas J us vs betas = some (λ b. unsound (J b) us vs) betas
+
 -- Two lists of sums with the powers of n correlations added.
 pub record AddedPowers (c : ℕ → Float) (n : ℕ) (squares squares′ fourths fourths′ : List Float) : Type 0 where
   pub squared : squares′ ≡ addedTo squares n (λ k. square ieee (c k))
@@ -40,6 +45,6 @@ pub record AddedPowers (c : ℕ → Float) (n : ℕ) (squares squares′ fourths
 -- One configuration at one beta: whether it passed, the sums with its powers added, and its backward vectors, which stand in the room r.
 pub record AddedBeta (J : Job Float) (plan us vs : List ℕ) (r : List Float) (n w : ℕ) (passed : Bool) (squares squares′ fourths fourths′ : List Float)
     : Type 0 where
-  pub told : passed ≡ not (unsound J us vs)
+  pub verdict : passed ≡ not (unsound J us vs)
   pub powers : passed ≡ true → AddedPowers (pairAt J us vs) (length us) squares squares′ fourths fourths′
   pub kept : Backward J plan r n w 0

@@ -6,7 +6,16 @@ use lib.Ieee.{Float}
 use Rattle.transfer.specs.Job.{Job}
 use Rattle.vertex.specs.Ready.{PlanOf}
 use Rattle.signed.specs.Signed.{signedFactors}
+use Rattle.chunks.specs.declared.Shape.{Shape}
 
--- The plan is of each beta's job with these signs.
-abbrev pub PlanOfAll : (ℕ → Job Float) → List ℕ → List Float → ℕ → List Bool → (betas n w : ℕ) → Bool → Type 0
-PlanOfAll J plan lent m signs betas n w each = (b : ℕ) → b < betas → PlanOf (J b) plan (signedFactors lent m b signs) n w each
+-- The plan is of the job at beta b with these signs of its m edges;
+abbrev pub PlanOfSigns : Job Float → List ℕ → List Float → (m b : ℕ) → List Bool → Shape → Type 0
+PlanOfSigns J plan factors m b signs s = PlanOf J plan (signedFactors factors m b signs) (s .n) (s .w) (s .elementwise)
+
+-- of each beta's job;
+abbrev pub PlanOfAll : (ℕ → Job Float) → List ℕ → List Float → ℕ → List Bool → ℕ → Shape → Type 0
+PlanOfAll J plan factors m signs betas s = (b : ℕ) → b < betas → PlanOfSigns (J b) plan factors m b signs s
+
+-- and of each configuration of a run, whose signs come by a rule.
+abbrev pub PlanOfRun : (ℕ → ℕ → Job Float) → List ℕ → List Float → ℕ → (ℕ → List Bool) → ℕ → Shape → Type 0
+PlanOfRun J plan factors m signs betas s = (j : ℕ) → PlanOfAll (J j) plan factors m (signs j) betas s

@@ -4,62 +4,63 @@ ghost use mathlib.Core.Bool.{true, not};
 ghost use Prim.Native.Nat.{ℕ, _+_, _*_, _≤_};
 ghost use lib.Ieee.{Float};
 ghost use lib.ListN.{length};
-ghost use Rattle.vector.specs.Search.{some};
 ghost use Rattle.transfer.specs.Job.{Job};
-ghost use Rattle.vertex.specs.Ready.{PlanOf, Backward};
+ghost use Rattle.vertex.specs.Ready.{Backward};
 ghost use Rattle.sweeps.specs.Begun.{Stands};
-ghost use Rattle.pair_correlations.specs.Sound.{unsound, Outcome};
-ghost use Rattle.signed.specs.Signed.{signedFactors};
-ghost use Rattle.chunks.specs.Signed.{PlanOfAll};
-ghost use Rattle.chunks.specs.Powers.{correlationAt, AddedPowers, AddedBeta};
-ghost use Rattle.chunks.specs.Stage.{Stage, Lent};
+ghost use Rattle.pair_correlations.specs.Sound.{Outcome};
+ghost use Rattle.chunks.specs.Signed.{PlanOfSigns, PlanOfAll};
+ghost use Rattle.chunks.specs.Powers.{correlationAt, unsoundBetas, AddedPowers, AddedBeta};
+ghost use Rattle.chunks.specs.Stage.{Stage, EnoughFactors};
+use crate::Shape;
 use pair_correlations::answer_pairs;
 use powers::add_powers;
 use signed::lay_signed;
 use sweeps::sweep;
 
-// The correlations at beta b, with these signs. Answers whether every pair's Z is finite and above zero. The kept backward vectors from
+// The correlations at beta b, with these signs. Returns whether every pair's Z is finite and above zero. The kept backward vectors from
 // vertex `changed` on stand already; none does where `changed` is the last vertex or more.
 pub fn answer_signed(
     room: &mut [f64],
     plan: &[usize],
-    n: usize,
-    w: usize,
-    scales: usize,
-    each: bool,
+    shape: Shape,
     us: &[usize],
     vs: &[usize],
     order: &[usize],
-    lent: &[f64],
+    factors: &[f64],
     b: usize,
     signs: &[bool],
     changed: usize,
     c: &mut [f64],
 ) -> bool
-    requires { ⌜ Stage (now plan) (now us) (now vs) (now order) (length (now signs)) n w scales (length (now room)) (length (now c))
-        × Lent (length (now lent)) (length (now signs)) (b + 1) ⌝ }
-    ensures { λ r. ⌜ ((J : Job Float) → PlanOf J (now (plan .entry)) (signedFactors (now (lent .entry)) (length (now (signs .entry))) b (now (signs .entry))) n w each
-        → Stands J (now (plan .entry)) (now (room .entry)) n w changed
-        → Outcome J (now (us .entry)) (now (vs .entry)) (now (c .exit)) r × Backward J (now (plan .entry)) (now (room .exit)) n w 0) ⌝ }
+    requires { ⌜ Stage (now plan) (now us) (now vs) (now order) (length (now signs)) shape (length (now room)) (length (now c))
+        × EnoughFactors (length (now factors)) (length (now signs)) (b + 1) ⌝ }
+    ensures { λ r. ⌜ ((J : Job Float) → PlanOfSigns J (now (plan .entry)) (now (factors .entry)) (length (now (signs .entry))) b (now (signs .entry)) shape
+        → Stands J (now (plan .entry)) (now (room .entry)) (shape .n) (shape .w) changed
+        → Outcome J (now (us .entry)) (now (vs .entry)) (now (c .exit)) r × Backward J (now (plan .entry)) (now (room .exit)) (shape .n) (shape .w) 0) ⌝ }
 {
-    lay_signed(room, scales + n, lent, b, signs);
-    sweep(room, plan, n, w, scales, each, changed);
-    answer_pairs(room, plan, n, w, scales, us, vs, order, c)
+    lay_signed(room, shape.scales + shape.n, factors, b, signs);
+    sweep(
+        room,
+        plan,
+        shape.n,
+        shape.w,
+        shape.scales,
+        shape.elementwise,
+        changed,
+    );
+    answer_pairs(room, plan, shape.n, shape.w, shape.scales, us, vs, order, c)
 }
 
-// Adds the powers of a configuration's correlations at beta b to two lists of a number a pair. Answers whether every Z was finite and above
+// Adds the powers of a configuration's correlations at beta b to two lists of a number a pair. Returns whether every Z was finite and above
 // zero. `changed` is as in `answer_signed`.
 pub fn add_beta(
     room: &mut [f64],
     plan: &[usize],
-    n: usize,
-    w: usize,
-    scales: usize,
-    each: bool,
+    shape: Shape,
     us: &[usize],
     vs: &[usize],
     order: &[usize],
-    lent: &[f64],
+    factors: &[f64],
     b: usize,
     signs: &[bool],
     changed: usize,
@@ -67,25 +68,22 @@ pub fn add_beta(
     squares: &mut [f64],
     fourths: &mut [f64],
 ) -> bool
-    requires { ⌜ Stage (now plan) (now us) (now vs) (now order) (length (now signs)) n w scales (length (now room)) (length (now c))
-        × Lent (length (now lent)) (length (now signs)) (b + 1)
+    requires { ⌜ Stage (now plan) (now us) (now vs) (now order) (length (now signs)) shape (length (now room)) (length (now c))
+        × EnoughFactors (length (now factors)) (length (now signs)) (b + 1)
         × (length (now squares) ≡ length (now us)) × (length (now fourths) ≡ length (now us)) ⌝ }
-    ensures { λ r. ⌜ ((J : Job Float) → PlanOf J (now (plan .entry)) (signedFactors (now (lent .entry)) (length (now (signs .entry))) b (now (signs .entry))) n w each
-        → Stands J (now (plan .entry)) (now (room .entry)) n w changed
-        → AddedBeta J (now (plan .entry)) (now (us .entry)) (now (vs .entry)) (now (room .exit)) n w r
+    ensures { λ r. ⌜ ((J : Job Float) → PlanOfSigns J (now (plan .entry)) (now (factors .entry)) (length (now (signs .entry))) b (now (signs .entry)) shape
+        → Stands J (now (plan .entry)) (now (room .entry)) (shape .n) (shape .w) changed
+        → AddedBeta J (now (plan .entry)) (now (us .entry)) (now (vs .entry)) (now (room .exit)) (shape .n) (shape .w) r
         (now (squares .entry)) (now (squares .exit)) (now (fourths .entry)) (now (fourths .exit))) ⌝ }
 {
     if !answer_signed(
         room,
         plan,
-        n,
-        w,
-        scales,
-        each,
+        shape,
         us,
         vs,
         order,
-        lent,
+        factors,
         b,
         signs,
         changed,
@@ -97,30 +95,27 @@ pub fn add_beta(
     true
 }
 
-// Adds the powers of a configuration's correlations, at the first `betas` betas, to a chunk's sums. Answers whether every Z was finite and
+// Adds the powers of a configuration's correlations, at the first `betas` betas, to a chunk's sums. Returns whether every Z was finite and
 // above zero; at the first that is not it stops.
 pub fn add_configuration(
     room: &mut [f64],
     plan: &[usize],
-    n: usize,
-    w: usize,
-    scales: usize,
-    each: bool,
+    shape: Shape,
     us: &[usize],
     vs: &[usize],
     order: &[usize],
-    lent: &[f64],
+    factors: &[f64],
     betas: usize,
     signs: &[bool],
     c: &mut [f64],
     squares: &mut [f64],
     fourths: &mut [f64],
 ) -> bool
-    requires { ⌜ Stage (now plan) (now us) (now vs) (now order) (length (now signs)) n w scales (length (now room)) (length (now c))
-        × Lent (length (now lent)) (length (now signs)) betas
+    requires { ⌜ Stage (now plan) (now us) (now vs) (now order) (length (now signs)) shape (length (now room)) (length (now c))
+        × EnoughFactors (length (now factors)) (length (now signs)) betas
         × (length (now squares) ≡ betas * length (now us)) × (length (now fourths) ≡ betas * length (now us)) ⌝ }
-    ensures { λ r. ⌜ ((J : ℕ → Job Float) → PlanOfAll J (now (plan .entry)) (now (lent .entry)) (length (now (signs .entry))) (now (signs .entry)) betas n w each
-        → (r ≡ not (some (λ b. unsound (J b) (now (us .entry)) (now (vs .entry))) betas))
+    ensures { λ r. ⌜ ((J : ℕ → Job Float) → PlanOfAll J (now (plan .entry)) (now (factors .entry)) (length (now (signs .entry))) (now (signs .entry)) betas shape
+        → (r ≡ not (unsoundBetas J (now (us .entry)) (now (vs .entry)) betas))
         × (r ≡ true → AddedPowers (correlationAt J (now (us .entry)) (now (vs .entry))) (betas * length (now (us .entry)))
         (now (squares .entry)) (now (squares .exit)) (now (fourths .entry)) (now (fourths .exit)))) ⌝ }
 {
@@ -129,17 +124,14 @@ pub fn add_configuration(
         if !answer_signed(
             room,
             plan,
-            n,
-            w,
-            scales,
-            each,
+            shape,
             us,
             vs,
             order,
-            lent,
+            factors,
             b,
             signs,
-            n,
+            shape.n,
             c,
         ) {
             return false;

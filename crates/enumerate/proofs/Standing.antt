@@ -11,10 +11,12 @@ use lib.ListN.{length, getD}
 use Rattle.vector.specs.Tabulate.{tabulate-length, tabulate-at}
 use Rattle.transfer.specs.Job.{Job}
 use Rattle.transfer.specs.Configuration.{enumeratedMinus, lentAt}
-use Rattle.vertex.specs.Ready.{Ready, PlanOf, Backward}
+use Rattle.vertex.specs.Ready.{Ready, Backward}
 use Rattle.sweeps.specs.Begun.{Stands}
 use Rattle.sweeps.specs.Reuse.{reads-map, backward-stands}
 use Rattle.signed.specs.Signed.{signedFactors}
+use Rattle.chunks.specs.declared.Shape.{Shape}
+use Rattle.chunks.specs.Signed.{PlanOfSigns}
 use Rattle.standing.specs.Settled.{Settled, EdgesIn, StandingFrom}
 use Rattle.enumerate.specs.Configurations.{signsOf, PlanOfBeta}
 
@@ -47,34 +49,35 @@ module _ (tree signs signs′ : List Bool) (x y last : ℕ) (was : signs ≡ sig
       ap (λ (k : List Bool). getD k e false) (sym was) ∙ sym (same e l b) ∙ ap (λ (k : List Bool). getD k e false) now)
       (λ l. at x ∙ plus marks x e (h (omega arith)) ∙ sym (at y ∙ plus marks y e (h (omega arith))))
 
-  factor-same : (lent : List Float) (b e : ℕ) → e < length tree → Settled tree last e
-      → getD (signedFactors lent (length tree) b (signsOf tree x)) e nan ≡ getD (signedFactors lent (length tree) b (signsOf tree y)) e nan
-  factor-same lent b e l h =
-      let F : List Bool → ℕ → Float = λ s k. getD lent (lentAt (length tree) b k (getD s k false)) nan in
+  factor-same : (factors : List Float) (b e : ℕ) → e < length tree → Settled tree last e
+      → getD (signedFactors factors (length tree) b (signsOf tree x)) e nan ≡ getD (signedFactors factors (length tree) b (signsOf tree y)) e nan
+  factor-same factors b e l h =
+      let F : List Bool → ℕ → Float = λ s k. getD factors (lentAt (length tree) b k (getD s k false)) nan in
       tabulate-at (F (signsOf tree x)) (length tree) e nan l
-      ∙ ap (λ (s : Bool). getD lent (lentAt (length tree) b e s) nan) (sign-same e l h)
+      ∙ ap (λ (s : Bool). getD factors (lentAt (length tree) b e s) nan) (sign-same e l h)
       ∙ sym (tabulate-at (F (signsOf tree y)) (length tree) e nan l)
 
 -- before configuration j of a run
-module _ (plan : List ℕ) (lent : List Float) (tree signs signs′ : List Bool) (room : List Float) (end n w scales : ℕ) (each : Bool)
-    (b first j last c : ℕ) (g : Ready plan end n w scales) (ends : scales + n + length tree ≡ end) (from : StandingFrom plan tree last n j c)
+module _ (plan : List ℕ) (factors : List Float) (tree signs signs′ : List Bool) (room : List Float) (end : ℕ) (s : Shape)
+    (b first j last c : ℕ) (g : Ready plan end (s .n) (s .w) (s .scales)) (ends : s .scales + s .n + length tree ≡ end)
+    (from : StandingFrom plan tree last (s .n) j c)
     (signed : (i : ℕ) → j ≡ i + 1 → signs ≡ signsOf tree (first + i)) (now : signs′ ≡ signsOf tree (first + j))
     (same : (e : ℕ) → last < e → e < length tree → getD signs′ e false ≡ getD signs e false) where
-  pub run-stands : (J : ℕ → Job Float) → PlanOfBeta J plan lent tree b n w each → ((i : ℕ) → j ≡ i + 1 → Backward (J (first + i)) plan room n w 0)
-      → Stands (J (first + j)) plan room n w c
+  pub run-stands : (J : ℕ → Job Float) → PlanOfBeta J plan factors tree first b s → ((i : ℕ) → j ≡ i + 1 → Backward (J i) plan room (s .n) (s .w) 0)
+      → Stands (J j) plan room (s .n) (s .w) c
   run-stands J of stands early =
       dite (decLt 0 j)
       (λ p.
       let i = j - 1 in
       let e : j ≡ i + 1 = omega arith in
-      backward-stands (J (first + i)) (J (first + j)) plan _ _ room n w each c (of (first + i)) (of (first + j))
+      backward-stands (J i) (J j) plan _ _ room (s .n) (s .w) (s .elementwise) c (of i) (of j)
       (λ t a d.
-      reads-map (Settled tree last) _ (g .vertex t d) (λ k l h. factor-same tree signs signs′ (first + i) (first + j) last (signed i e) now same lent b k (omega arith) h)
+      reads-map (Settled tree last) _ (g .vertex t d) (λ k l h. factor-same tree signs signs′ (first + i) (first + j) last (signed i e) now same factors b k (omega arith) h)
       (from .then p t a d))
       (stands i e))
       (λ p. absurd (omega (arith, from .first (omega arith))))
 
 -- the signs that were made are those of configuration x
-pub signed-at : (J : Job Float) (plan : List ℕ) (lent : List Float) (tree signs : List Bool) (b n w x : ℕ) (each : Bool) → signs ≡ signsOf tree x
-    → PlanOf J plan (signedFactors lent (length tree) b (signsOf tree x)) n w each → PlanOf J plan (signedFactors lent (length signs) b signs) n w each
-signed-at J plan lent tree signs b n w x each q of = rw (q, tabulate-length) of
+pub signed-at : (J : Job Float) (plan : List ℕ) (factors : List Float) (tree signs : List Bool) (b x : ℕ) (s : Shape) → signs ≡ signsOf tree x
+    → PlanOfSigns J plan factors (length tree) b (signsOf tree x) s → PlanOfSigns J plan factors (length signs) b signs s
+signed-at J plan factors tree signs b x s q of = rw (q, tabulate-length) of

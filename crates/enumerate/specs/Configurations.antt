@@ -12,10 +12,10 @@ use Rattle.transfer.specs.Configuration.{freeBefore, enumeratedMinus}
 use Rattle.transfer.specs.Arithmetic.{sum}
 use Rattle.transfer.specs.Rounded.{ieee}
 use Rattle.transfer.specs.Totals.{square, fourth}
-use Rattle.vertex.specs.Ready.{PlanOf, Backward}
+use Rattle.vertex.specs.Ready.{Backward}
 use Rattle.pair_correlations.specs.Sound.{unsound}
-use Rattle.signed.specs.Signed.{signedFactors}
-use Rattle.chunks.specs.Signed.{PlanOfAll}
+use Rattle.chunks.specs.declared.Shape.{Shape}
+use Rattle.chunks.specs.Signed.{PlanOfSigns, PlanOfRun}
 use Rattle.chunks.specs.Powers.{pairAt, correlationAt}
 use Rattle.chunks.specs.Sums.{Passed}
 
@@ -29,16 +29,16 @@ pub record Enumerates (tree : List Bool) (signs first size : ℕ) : Type 0 where
 abbrev pub signsOf : List Bool → ℕ → List Bool
 signsOf tree x = tabulate (enumeratedMinus (λ e. getD tree e false) x) (length tree)
 
--- The plan is of each configuration's job at each beta.
-abbrev pub PlanOfEach : (ℕ → ℕ → Job Float) → List ℕ → List Float → List Bool → (betas n w : ℕ) → Bool → Type 0
-PlanOfEach J plan lent tree betas n w each = (x : ℕ) → PlanOfAll (J x) plan lent (length tree) (signsOf tree x) betas n w each
+-- The plan is of the job of each configuration from number `first` on, at each beta;
+abbrev pub PlanFrom : (ℕ → ℕ → Job Float) → List ℕ → List Float → List Bool → (first betas : ℕ) → Shape → Type 0
+PlanFrom J plan factors tree first = PlanOfRun J plan factors (length tree) (λ j. signsOf tree (first + j))
 
--- The plan is of each configuration's job at beta b.
-abbrev pub PlanOfBeta : (ℕ → Job Float) → List ℕ → List Float → List Bool → (b n w : ℕ) → Bool → Type 0
-PlanOfBeta J plan lent tree b n w each = (x : ℕ) → PlanOf (J x) plan (signedFactors lent (length tree) b (signsOf tree x)) n w each
+-- and at beta b.
+abbrev pub PlanOfBeta : (ℕ → Job Float) → List ℕ → List Float → List Bool → (first b : ℕ) → Shape → Type 0
+PlanOfBeta J plan factors tree first b s = (j : ℕ) → PlanOfSigns (J j) plan factors (length tree) b (signsOf tree (first + j)) s
 
 -- Before configuration j of a run at beta b: the signs and the kept backward vectors are those of the configuration before.
-pub record Counting (plan us vs : List ℕ) (lent : List Float) (tree : List Bool) (b n w first : ℕ) (each : Bool) (j size : ℕ)
+pub record Counting (plan us vs : List ℕ) (factors : List Float) (tree : List Bool) (b first : ℕ) (s : Shape) (j size : ℕ)
     (room₀ room : List Float) (signs₀ signs : List Bool) (c₀ c squares₀ squares fourths₀ fourths : List Float) : Type 0 where
   pub below : j ≤ size
   pub rooms : length room ≡ length room₀
@@ -47,9 +47,9 @@ pub record Counting (plan us vs : List ℕ) (lent : List Float) (tree : List Boo
   pub squareds : length squares ≡ length squares₀
   pub fourthds : length fourths ≡ length fourths₀
   pub signed : (i : ℕ) → j ≡ i + 1 → signs ≡ signsOf tree (first + i)
-  pub stands : (J : ℕ → Job Float) → PlanOfBeta J plan lent tree b n w each → (i : ℕ) → j ≡ i + 1 → Backward (J (first + i)) plan room n w 0
-  pub passed : (J : ℕ → Job Float) → PlanOfBeta J plan lent tree b n w each
-      → Passed (λ i. unsound (J (first + i)) us vs) (λ i. pairAt (J (first + i)) us vs) j (length us) squares fourths
+  pub stands : (J : ℕ → Job Float) → PlanOfBeta J plan factors tree first b s → (i : ℕ) → j ≡ i + 1 → Backward (J i) plan room (s .n) (s .w) 0
+  pub passed : (J : ℕ → Job Float) → PlanOfBeta J plan factors tree first b s
+      → Passed (λ i. unsound (J i) us vs) (λ i. pairAt (J i) us vs) j (length us) squares fourths
 
 -- The first b betas of a chunk passed, and are summed.
 pub record Summed (U : ℕ → ℕ → Bool) (c : ℕ → ℕ → Float) (size b n : ℕ) (squares fourths : List Float) : Type 0 where
@@ -58,7 +58,7 @@ pub record Summed (U : ℕ → ℕ → Bool) (c : ℕ → ℕ → Float) (size b
   pub fourthed : (k : ℕ) → k < n → getD fourths k nan ≡ sum ieee size (λ j. fourth ieee (c j k))
 
 -- Before beta b of a chunk.
-pub record Ranging (plan us vs : List ℕ) (lent : List Float) (tree : List Bool) (betas n w first : ℕ) (each : Bool) (size b : ℕ)
+pub record Ranging (plan us vs : List ℕ) (factors : List Float) (tree : List Bool) (betas first : ℕ) (s : Shape) (size b : ℕ)
     (room₀ room : List Float) (signs₀ signs : List Bool) (c₀ c squares₀ squares fourths₀ fourths : List Float) : Type 0 where
   pub below : b ≤ betas
   pub rooms : length room ≡ length room₀
@@ -66,5 +66,5 @@ pub record Ranging (plan us vs : List ℕ) (lent : List Float) (tree : List Bool
   pub results : length c ≡ length c₀
   pub squareds : length squares ≡ length squares₀
   pub fourthds : length fourths ≡ length fourths₀
-  pub summed : (J : ℕ → ℕ → Job Float) → PlanOfEach J plan lent tree betas n w each
-      → Summed (λ j i. unsound (J (first + j) i) us vs) (λ j. correlationAt (J (first + j)) us vs) size b (b * length us) squares fourths
+  pub summed : (J : ℕ → ℕ → Job Float) → PlanFrom J plan factors tree first betas s
+      → Summed (λ j i. unsound (J j i) us vs) (λ j. correlationAt (J j) us vs) size b (b * length us) squares fourths

@@ -7,28 +7,26 @@ ghost use lib.ListN.{length};
 ghost use Rattle.vector.specs.Search.{some};
 ghost use Rattle.transfer.specs.Job.{Job};
 ghost use Rattle.pair_correlations.specs.Sound.{unsound};
-ghost use Rattle.chunks.specs.Powers.{pairAt, correlationAt};
-ghost use Rattle.chunks.specs.Stage.{Stage, Lent};
+ghost use Rattle.chunks.specs.Powers.{pairAt, correlationAt, unsoundBetas};
+ghost use Rattle.chunks.specs.Stage.{Stage, EnoughFactors};
 ghost use Rattle.chunks.specs.Sums.{Sums};
-ghost use Rattle.enumerate.specs.Configurations.{Enumerates, PlanOfBeta, PlanOfEach};
+ghost use Rattle.enumerate.specs.Configurations.{Enumerates, PlanOfBeta, PlanFrom};
+use chunks::Shape;
 use chunks::add_beta;
 use signs::enumerated_signs;
 use standing::standing_from;
 use sweep::fill;
 
-// The sums of `size` configurations from number `first` on at beta b, a number a pair, from zero. Answers whether every Z was finite and
+// The sums of `size` configurations from number `first` on at beta b, a number a pair, from zero. Returns whether every Z was finite and
 // above zero; at the first that is not it stops. Between configurations few signs change, and most backward vectors stand.
 fn enumerated_run(
     room: &mut [f64],
     plan: &[usize],
-    n: usize,
-    w: usize,
-    scales: usize,
-    each: bool,
+    shape: Shape,
     us: &[usize],
     vs: &[usize],
     order: &[usize],
-    lent: &[f64],
+    factors: &[f64],
     b: usize,
     tree: &[bool],
     signs: &mut [bool],
@@ -38,12 +36,12 @@ fn enumerated_run(
     squares: &mut [f64],
     fourths: &mut [f64],
 ) -> bool
-    requires { ⌜ Stage (now plan) (now us) (now vs) (now order) (length (now tree)) n w scales (length (now room)) (length (now c))
-        × Lent (length (now lent)) (length (now tree)) (b + 1) × Enumerates (now tree) (length (now signs)) first size
+    requires { ⌜ Stage (now plan) (now us) (now vs) (now order) (length (now tree)) shape (length (now room)) (length (now c))
+        × EnoughFactors (length (now factors)) (length (now tree)) (b + 1) × Enumerates (now tree) (length (now signs)) first size
         × (length (now squares) ≡ length (now us)) × (length (now fourths) ≡ length (now us)) ⌝ }
-    ensures { λ r. ⌜ ((J : ℕ → Job Float) → PlanOfBeta J (now (plan .entry)) (now (lent .entry)) (now (tree .entry)) b n w each
-        → (r ≡ not (some (λ j. unsound (J (first + j)) (now (us .entry)) (now (vs .entry))) size))
-        × (r ≡ true → Sums (λ j. pairAt (J (first + j)) (now (us .entry)) (now (vs .entry))) size (length (now (us .entry)))
+    ensures { λ r. ⌜ ((J : ℕ → Job Float) → PlanOfBeta J (now (plan .entry)) (now (factors .entry)) (now (tree .entry)) first b shape
+        → (r ≡ not (some (λ j. unsound (J j) (now (us .entry)) (now (vs .entry))) size))
+        × (r ≡ true → Sums (λ j. pairAt (J j) (now (us .entry)) (now (vs .entry))) size (length (now (us .entry)))
         (now (squares .exit)) (now (fourths .exit)))) ⌝ }
 {
     let sums = squares.len();
@@ -52,18 +50,15 @@ fn enumerated_run(
     let mut j = 0usize;
     while j < size {
         let last = enumerated_signs(signs, tree, first + j);
-        let changed = standing_from(plan, n, tree, last, j);
+        let changed = standing_from(plan, shape.n, tree, last, j);
         if !add_beta(
             room,
             plan,
-            n,
-            w,
-            scales,
-            each,
+            shape,
             us,
             vs,
             order,
-            lent,
+            factors,
             b,
             signs,
             changed,
@@ -78,19 +73,16 @@ fn enumerated_run(
     true
 }
 
-// The sums of `size` configurations from number `first` on, from zero, beta after beta. Answers whether every Z was finite and above zero;
+// The sums of `size` configurations from number `first` on, from zero, beta after beta. Returns whether every Z was finite and above zero;
 // at the first that is not it stops.
 pub fn enumerated_chunk(
     room: &mut [f64],
     plan: &[usize],
-    n: usize,
-    w: usize,
-    scales: usize,
-    each: bool,
+    shape: Shape,
     us: &[usize],
     vs: &[usize],
     order: &[usize],
-    lent: &[f64],
+    factors: &[f64],
     betas: usize,
     tree: &[bool],
     signs: &mut [bool],
@@ -100,12 +92,12 @@ pub fn enumerated_chunk(
     squares: &mut [f64],
     fourths: &mut [f64],
 ) -> bool
-    requires { ⌜ Stage (now plan) (now us) (now vs) (now order) (length (now tree)) n w scales (length (now room)) (length (now c))
-        × Lent (length (now lent)) (length (now tree)) betas × Enumerates (now tree) (length (now signs)) first size
+    requires { ⌜ Stage (now plan) (now us) (now vs) (now order) (length (now tree)) shape (length (now room)) (length (now c))
+        × EnoughFactors (length (now factors)) (length (now tree)) betas × Enumerates (now tree) (length (now signs)) first size
         × (length (now squares) ≡ betas * length (now us)) × (length (now fourths) ≡ betas * length (now us)) ⌝ }
-    ensures { λ r. ⌜ ((J : ℕ → ℕ → Job Float) → PlanOfEach J (now (plan .entry)) (now (lent .entry)) (now (tree .entry)) betas n w each
-        → (r ≡ not (some (λ j. some (λ b. unsound (J (first + j) b) (now (us .entry)) (now (vs .entry))) betas) size))
-        × (r ≡ true → Sums (λ j. correlationAt (J (first + j)) (now (us .entry)) (now (vs .entry))) size (betas * length (now (us .entry)))
+    ensures { λ r. ⌜ ((J : ℕ → ℕ → Job Float) → PlanFrom J (now (plan .entry)) (now (factors .entry)) (now (tree .entry)) first betas shape
+        → (r ≡ not (some (λ j. unsoundBetas (J j) (now (us .entry)) (now (vs .entry)) betas) size))
+        × (r ≡ true → Sums (λ j. correlationAt (J j) (now (us .entry)) (now (vs .entry))) size (betas * length (now (us .entry)))
         (now (squares .exit)) (now (fourths .exit)))) ⌝ }
 {
     let pairs = us.len();
@@ -116,14 +108,11 @@ pub fn enumerated_chunk(
         if !enumerated_run(
             room,
             plan,
-            n,
-            w,
-            scales,
-            each,
+            shape,
             us,
             vs,
             order,
-            lent,
+            factors,
             b,
             tree,
             signs,

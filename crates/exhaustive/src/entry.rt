@@ -1,19 +1,20 @@
 // The totals of all configurations, for callers.
 ghost use Rattle.totals.specs.Calls.{Enumerated};
-use crate::job::enumerate_job;
 use checks::Answer;
+use chunked_totals::all_chunks;
 use forest::count_free_edges;
 use glass::Manner;
 use glass::is_each;
 use lent::check_enumeration;
 use refuse::check_with_betas;
 use sweep::pow2;
+use totals_job::total_job;
 
 // At most so many free edges are enumerated.
 const FREE: usize = 34;
 
 // Writes the sums of the squares and of the fourth powers of every correlation, over all configurations, for each beta and pair. Two
-// factors are lent for each beta and kept edge. Answers the count of configurations, or the refusal.
+// factors are lent for each beta and kept edge. Returns the count of configurations, or the refusal.
 pub fn exhaustive(
     n: usize,
     floor: usize,
@@ -74,18 +75,19 @@ pub fn exhaustive(
     if unfit != 0 {
         return Answer::Refused(unfit);
     }
-    let each = is_each(manner);
-    if enumerate_job(
+    let elementwise = is_each(manner);
+    let chunks = all_chunks(free);
+    if total_job(
         n,
         w,
+        elementwise,
         &early[..edges],
         &late[..edges],
         us,
         vs,
         factors,
         betas.len(),
-        free,
-        each,
+        chunks,
         squares,
         fourths,
         work,

@@ -11,7 +11,8 @@ use Rattle.vector.specs.Tabulate.{tabulate}
 use Rattle.transfer.specs.Job.{Job}
 use Rattle.transfer.specs.Configuration.{sampledMinus, drawn, wordsPerSample}
 use Rattle.pair_correlations.specs.Sound.{unsound}
-use Rattle.chunks.specs.Signed.{PlanOfAll}
+use Rattle.chunks.specs.declared.Shape.{Shape}
+use Rattle.chunks.specs.Signed.{PlanOfRun}
 use Rattle.chunks.specs.Powers.{correlationAt}
 use Rattle.chunks.specs.Sums.{Passed}
 
@@ -19,15 +20,12 @@ use Rattle.chunks.specs.Sums.{Passed}
 abbrev pub signsOf : (seed m chunk sample : ℕ) → List Bool
 signsOf seed m chunk sample = tabulate (sampledMinus seed m chunk sample) m
 
--- The plan is of each sample's job at each beta, in one chunk, and in all of them.
-abbrev pub PlanOfSamples : (ℕ → ℕ → Job Float) → List ℕ → List Float → (m seed chunk betas n w : ℕ) → Bool → Type 0
-PlanOfSamples J plan lent m seed chunk betas n w each = (j : ℕ) → PlanOfAll (J j) plan lent m (signsOf seed m chunk j) betas n w each
-
-abbrev pub PlanOfChunks : (ℕ → ℕ → ℕ → Job Float) → List ℕ → List Float → (m seed betas n w : ℕ) → Bool → Type 0
-PlanOfChunks J plan lent m seed betas n w each = (i : ℕ) → PlanOfSamples (J i) plan lent m seed i betas n w each
+-- The plan is of the job of each of a chunk's samples, at each beta.
+abbrev pub PlanOfSamples : (ℕ → ℕ → Job Float) → List ℕ → List Float → (m seed chunk betas : ℕ) → Shape → Type 0
+PlanOfSamples J plan factors m seed chunk = PlanOfRun J plan factors m (signsOf seed m chunk)
 
 -- Before sample j of a chunk: its words begin where the generator stands.
-pub record Sampling (plan us vs : List ℕ) (lent : List Float) (seed chunk betas n w : ℕ) (each : Bool) (state : List ℕ) (j samples : ℕ)
+pub record Sampling (plan us vs : List ℕ) (factors : List Float) (seed chunk betas : ℕ) (s : Shape) (state : List ℕ) (j samples : ℕ)
     (room₀ room : List Float) (signs₀ signs : List Bool) (c₀ c squares₀ squares fourths₀ fourths : List Float) : Type 0 where
   pub below : j ≤ samples
   pub generator : state ≡ drawn (streamed seed chunk) (j * wordsPerSample (length signs₀))
@@ -36,5 +34,5 @@ pub record Sampling (plan us vs : List ℕ) (lent : List Float) (seed chunk beta
   pub results : length c ≡ length c₀
   pub squareds : length squares ≡ length squares₀
   pub fourthds : length fourths ≡ length fourths₀
-  pub passed : (J : ℕ → ℕ → Job Float) → PlanOfSamples J plan lent (length signs₀) seed chunk betas n w each
+  pub passed : (J : ℕ → ℕ → Job Float) → PlanOfSamples J plan factors (length signs₀) seed chunk betas s
       → Passed (λ i. some (λ b. unsound (J i b) us vs) betas) (λ i. correlationAt (J i) us vs) j (betas * length us) squares fourths

@@ -6,29 +6,26 @@ ghost use lib.Ieee.{Float};
 ghost use lib.ListN.{length};
 ghost use Rattle.vector.specs.Search.{some};
 ghost use Rattle.transfer.specs.Job.{Job};
-ghost use Rattle.pair_correlations.specs.Sound.{unsound};
-ghost use Rattle.chunks.specs.Powers.{correlationAt};
-ghost use Rattle.chunks.specs.Stage.{Stage, Lent};
+ghost use Rattle.chunks.specs.Powers.{correlationAt, unsoundBetas};
+ghost use Rattle.chunks.specs.Stage.{Stage, EnoughFactors};
 ghost use Rattle.chunks.specs.Sums.{Sums};
 ghost use Rattle.sample.specs.Samples.{PlanOfSamples};
+use chunks::Shape;
 use chunks::add_configuration;
 use rng::Rng;
 use signs::sampled_signs;
 use sweep::fill;
 
-// The sums of the samples of a chunk, from zero: chunk number c uses the stream of the seed and c. Answers whether every Z was finite and
+// The sums of the samples of a chunk, from zero: chunk number c uses the stream of the seed and c. Returns whether every Z was finite and
 // above zero; at the first that is not it stops.
 pub fn sampled_chunk(
     room: &mut [f64],
     plan: &[usize],
-    n: usize,
-    w: usize,
-    scales: usize,
-    each: bool,
+    shape: Shape,
     us: &[usize],
     vs: &[usize],
     order: &[usize],
-    lent: &[f64],
+    factors: &[f64],
     betas: usize,
     seed: u64,
     chunk: u64,
@@ -38,12 +35,12 @@ pub fn sampled_chunk(
     squares: &mut [f64],
     fourths: &mut [f64],
 ) -> bool
-    requires { ⌜ Stage (now plan) (now us) (now vs) (now order) (length (now signs)) n w scales (length (now room)) (length (now c))
-        × Lent (length (now lent)) (length (now signs)) betas
+    requires { ⌜ Stage (now plan) (now us) (now vs) (now order) (length (now signs)) shape (length (now room)) (length (now c))
+        × EnoughFactors (length (now factors)) (length (now signs)) betas
         × (length (now squares) ≡ betas * length (now us)) × (length (now fourths) ≡ betas * length (now us)) ⌝ }
     ensures { λ r. ⌜ ((J : ℕ → ℕ → Job Float)
-        → PlanOfSamples J (now (plan .entry)) (now (lent .entry)) (length (now (signs .entry))) seed chunk betas n w each
-        → (r ≡ not (some (λ j. some (λ b. unsound (J j b) (now (us .entry)) (now (vs .entry))) betas) samples))
+        → PlanOfSamples J (now (plan .entry)) (now (factors .entry)) (length (now (signs .entry))) seed chunk betas shape
+        → (r ≡ not (some (λ j. unsoundBetas (J j) (now (us .entry)) (now (vs .entry)) betas) samples))
         × (r ≡ true → Sums (λ j. correlationAt (J j) (now (us .entry)) (now (vs .entry))) samples (betas * length (now (us .entry)))
         (now (squares .exit)) (now (fourths .exit)))) ⌝ }
 {
@@ -57,14 +54,11 @@ pub fn sampled_chunk(
         if !add_configuration(
             room,
             plan,
-            n,
-            w,
-            scales,
-            each,
+            shape,
             us,
             vs,
             order,
-            lent,
+            factors,
             betas,
             signs,
             c,

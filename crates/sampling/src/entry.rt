@@ -1,15 +1,16 @@
 // The totals of drawn configurations, for callers.
 ghost use Rattle.totals.specs.Calls.{Sampled};
-use crate::job::sample_job;
 use checks::Answer;
+use chunked_totals::Chunks;
 use counting::sampled_count;
 use glass::Manner;
 use glass::is_each;
 use lent::check_sampling;
 use refuse::check_with_betas;
+use totals_job::total_job;
 
 // Writes the sums of the squares and of the fourth powers of every correlation, over the samples of the chunks from `from` up to, and
-// without, `to`, for each beta and pair. Two factors are lent for each beta and kept edge. Answers the count of configurations, or the
+// without, `to`, for each beta and pair. Two factors are lent for each beta and kept edge. Returns the count of configurations, or the
 // refusal.
 pub fn sample(
     n: usize,
@@ -75,21 +76,25 @@ pub fn sample(
     if unfit != 0 {
         return Answer::Refused(unfit);
     }
-    let each = is_each(manner);
-    if sample_job(
+    let elementwise = is_each(manner);
+    let chunks = Chunks {
+        drawn: true,
+        seed,
+        first: from,
+        end: to,
+        size: samples,
+    };
+    if total_job(
         n,
         w,
+        elementwise,
         &early[..edges],
         &late[..edges],
         us,
         vs,
         factors,
         betas.len(),
-        seed,
-        from,
-        to,
-        samples,
-        each,
+        chunks,
         squares,
         fourths,
         work,

@@ -9,4 +9,4 @@ use Rattle.transfer.specs.Configuration.{lentAt}
 
 -- The factors in use at beta b of m edges: of each edge the one for its sign.
 abbrev pub signedFactors : List Float → ℕ → ℕ → List Bool → List Float
-signedFactors lent m b signs = tabulate (λ e. getD lent (lentAt m b e (getD signs e false)) nan) m
+signedFactors factors m b signs = tabulate (λ e. getD factors (lentAt m b e (getD signs e false)) nan) m

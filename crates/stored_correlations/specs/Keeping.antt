@@ -8,17 +8,19 @@ use lib.ListN.{length}
 use Rattle.vector.specs.Search.{some}
 use Rattle.transfer.specs.Job.{Job}
 use Rattle.pair_correlations.specs.Sound.{unsound}
+use Rattle.chunks.specs.declared.Shape.{Shape}
+use Rattle.chunks.specs.Signed.{PlanOfRun}
 use Rattle.chunks.specs.Powers.{correlationAt}
 use Rattle.stored_correlations.specs.Stored.{Stored}
-use Rattle.enumerate.specs.Configurations.{PlanOfEach}
+use Rattle.enumerate.specs.Configurations.{signsOf}
 
 -- Before configuration x, where each is stored.
-pub record Keeping (plan us vs : List ℕ) (lent : List Float) (tree : List Bool) (betas n w : ℕ) (each : Bool) (x all : ℕ)
+pub record Keeping (plan us vs : List ℕ) (factors : List Float) (tree : List Bool) (betas : ℕ) (s : Shape) (x all : ℕ)
     (room₀ room : List Float) (signs₀ signs : List Bool) (c₀ c stored₀ stored : List Float) : Type 0 where
   pub below : x ≤ all
   pub rooms : length room ≡ length room₀
   pub marks : length signs ≡ length signs₀
   pub results : length c ≡ length c₀
   pub storeds : length stored ≡ length stored₀
-  pub so-far : (J : ℕ → ℕ → Job Float) → PlanOfEach J plan lent tree betas n w each → (some (λ y. some (λ b. unsound (J y b) us vs) betas) x ≡ false)
+  pub so-far : (J : ℕ → ℕ → Job Float) → PlanOfRun J plan factors (length tree) (signsOf tree) betas s → (some (λ y. some (λ b. unsound (J y b) us vs) betas) x ≡ false)
       × Stored (λ y. correlationAt (J y) us vs) all (betas * length us) x 0 stored

@@ -13,6 +13,7 @@ use Rattle.vector.specs.Search.{some}
 use Rattle.vector.specs.Tabulate.{tabulate, tabulated}
 use Rattle.transfer.specs.Job.{Job}
 use Rattle.pair_correlations.specs.Sound.{unsound}
+use Rattle.chunks.specs.declared.Shape.{Shape}
 use Rattle.chunks.specs.Signed.{PlanOfAll}
 use Rattle.chunks.specs.Powers.{correlationAt}
 
@@ -89,12 +90,12 @@ pub record Placing (all x first : ℕ) (c : List Float) (p : ℕ) (stored₀ sto
       → Stored value all n x (first + p) stored
 
 -- Before beta b of configuration x.
-pub record Storing (plan us vs : List ℕ) (lent : List Float) (signs : List Bool) (betas n w : ℕ) (each : Bool) (all x b : ℕ)
+pub record Storing (plan us vs : List ℕ) (factors : List Float) (signs : List Bool) (betas : ℕ) (s : Shape) (all x b : ℕ)
     (room₀ room c₀ c stored₀ stored : List Float) : Type 0 where
   pub below : b ≤ betas
   pub rooms : length room ≡ length room₀
   pub results : length c ≡ length c₀
   pub storeds : length stored ≡ length stored₀
-  pub so-far : (J : ℕ → Job Float) → PlanOfAll J plan lent (length signs) signs betas n w each → (some (λ i. unsound (J i) us vs) b ≡ false)
+  pub so-far : (J : ℕ → Job Float) → PlanOfAll J plan factors (length signs) signs betas s → (some (λ i. unsound (J i) us vs) b ≡ false)
       × ((value : ℕ → ℕ → Float) → ((k : ℕ) → k < betas * length us → correlationAt J us vs k ≡ value x k)
       → Stored value all (betas * length us) x 0 stored₀ → Stored value all (betas * length us) x (b * length us) stored)

@@ -4,13 +4,12 @@ ghost use mathlib.Core.Bool.{true, not};
 ghost use Prim.Native.Nat.{ℕ, _+_, _*_, _≤_, _<_};
 ghost use lib.Ieee.{Float, nan};
 ghost use lib.ListN.{length, getD};
-ghost use Rattle.vector.specs.Search.{some};
 ghost use Rattle.transfer.specs.Job.{Job};
-ghost use Rattle.pair_correlations.specs.Sound.{unsound};
 ghost use Rattle.chunks.specs.Signed.{PlanOfAll};
-ghost use Rattle.chunks.specs.Powers.{correlationAt};
-ghost use Rattle.chunks.specs.Stage.{Stage, Lent};
+ghost use Rattle.chunks.specs.Powers.{correlationAt, unsoundBetas};
+ghost use Rattle.chunks.specs.Stage.{Stage, EnoughFactors};
 ghost use Rattle.stored_correlations.specs.Stored.{Stored};
+use chunks::Shape;
 use chunks::answer_signed;
 
 // The results of configuration x, of `all`, to the numbers from `first` on.
@@ -26,19 +25,16 @@ fn store_results(stored: &mut [f64], all: usize, x: usize, first: usize, c: &[f6
     }
 }
 
-// Stores the correlations of configuration x, of `all`, at the first `betas` betas. Answers whether every Z was finite and above zero; at
+// Stores the correlations of configuration x, of `all`, at the first `betas` betas. Returns whether every Z was finite and above zero; at
 // the first that is not it stops.
 pub(crate) fn store_configuration(
     room: &mut [f64],
     plan: &[usize],
-    n: usize,
-    w: usize,
-    scales: usize,
-    each: bool,
+    shape: Shape,
     us: &[usize],
     vs: &[usize],
     order: &[usize],
-    lent: &[f64],
+    factors: &[f64],
     betas: usize,
     signs: &[bool],
     x: usize,
@@ -46,10 +42,10 @@ pub(crate) fn store_configuration(
     c: &mut [f64],
     stored: &mut [f64],
 ) -> bool
-    requires { ⌜ Stage (now plan) (now us) (now vs) (now order) (length (now signs)) n w scales (length (now room)) (length (now c))
-        × Lent (length (now lent)) (length (now signs)) betas × (x < all) × (length (now stored) ≡ betas * length (now us) * all) ⌝ }
-    ensures { λ r. ⌜ ((J : ℕ → Job Float) → PlanOfAll J (now (plan .entry)) (now (lent .entry)) (length (now (signs .entry))) (now (signs .entry)) betas n w each
-        → (r ≡ not (some (λ b. unsound (J b) (now (us .entry)) (now (vs .entry))) betas))
+    requires { ⌜ Stage (now plan) (now us) (now vs) (now order) (length (now signs)) shape (length (now room)) (length (now c))
+        × EnoughFactors (length (now factors)) (length (now signs)) betas × (x < all) × (length (now stored) ≡ betas * length (now us) * all) ⌝ }
+    ensures { λ r. ⌜ ((J : ℕ → Job Float) → PlanOfAll J (now (plan .entry)) (now (factors .entry)) (length (now (signs .entry))) (now (signs .entry)) betas shape
+        → (r ≡ not (unsoundBetas J (now (us .entry)) (now (vs .entry)) betas))
         × (r ≡ true → (value : ℕ → ℕ → Float)
         → ((k : ℕ) → k < betas * length (now (us .entry)) → correlationAt J (now (us .entry)) (now (vs .entry)) k ≡ value x k)
         → Stored value all (betas * length (now (us .entry))) x 0 (now (stored .entry))
@@ -60,17 +56,14 @@ pub(crate) fn store_configuration(
         if !answer_signed(
             room,
             plan,
-            n,
-            w,
-            scales,
-            each,
+            shape,
             us,
             vs,
             order,
-            lent,
+            factors,
             b,
             signs,
-            n,
+            shape.n,
             c,
         ) {
             return false;

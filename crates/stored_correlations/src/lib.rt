@@ -9,11 +9,12 @@ ghost use lib.ListN.{length};
 ghost use Rattle.vector.specs.Search.{some};
 ghost use Rattle.vector.specs.Tabulate.{tabulate};
 ghost use Rattle.transfer.specs.Job.{Job};
-ghost use Rattle.pair_correlations.specs.Sound.{unsound};
-ghost use Rattle.chunks.specs.Powers.{correlationAt};
-ghost use Rattle.chunks.specs.Stage.{Stage, Lent};
-ghost use Rattle.enumerate.specs.Configurations.{Enumerates, PlanOfEach};
+ghost use Rattle.chunks.specs.Signed.{PlanOfRun};
+ghost use Rattle.chunks.specs.Powers.{correlationAt, unsoundBetas};
+ghost use Rattle.chunks.specs.Stage.{Stage, EnoughFactors};
+ghost use Rattle.enumerate.specs.Configurations.{Enumerates, signsOf};
 use crate::configuration::store_configuration;
+use chunks::Shape;
 use signs::enumerated_signs;
 use sweep::pow2;
 
@@ -22,14 +23,11 @@ use sweep::pow2;
 pub fn stored_correlations(
     room: &mut [f64],
     plan: &[usize],
-    n: usize,
-    w: usize,
-    scales: usize,
-    each: bool,
+    shape: Shape,
     us: &[usize],
     vs: &[usize],
     order: &[usize],
-    lent: &[f64],
+    factors: &[f64],
     betas: usize,
     tree: &[bool],
     signs: &mut [bool],
@@ -37,11 +35,11 @@ pub fn stored_correlations(
     c: &mut [f64],
     stored: &mut [f64],
 ) -> bool
-    requires { ⌜ Stage (now plan) (now us) (now vs) (now order) (length (now tree)) n w scales (length (now room)) (length (now c))
-        × Lent (length (now lent)) (length (now tree)) betas × Enumerates (now tree) (length (now signs)) 0 (2 ^ free) × (free ≤ 34)
+    requires { ⌜ Stage (now plan) (now us) (now vs) (now order) (length (now tree)) shape (length (now room)) (length (now c))
+        × EnoughFactors (length (now factors)) (length (now tree)) betas × Enumerates (now tree) (length (now signs)) 0 (2 ^ free) × (free ≤ 34)
         × (length (now stored) ≡ betas * length (now us) * 2 ^ free) ⌝ }
-    ensures { λ r. ⌜ ((J : ℕ → ℕ → Job Float) → PlanOfEach J (now (plan .entry)) (now (lent .entry)) (now (tree .entry)) betas n w each
-        → (r ≡ not (some (λ x. some (λ b. unsound (J x b) (now (us .entry)) (now (vs .entry))) betas) (2 ^ free)))
+    ensures { λ r. ⌜ ((J : ℕ → ℕ → Job Float) → PlanOfRun J (now (plan .entry)) (now (factors .entry)) (length (now (tree .entry))) (signsOf (now (tree .entry))) betas shape
+        → (r ≡ not (some (λ x. unsoundBetas (J x) (now (us .entry)) (now (vs .entry)) betas) (2 ^ free)))
         × (r ≡ true → now (stored .exit)
         ≡ tabulate (λ k. correlationAt (J (k % 2 ^ free)) (now (us .entry)) (now (vs .entry)) (k / 2 ^ free)) (betas * length (now (us .entry)) * 2 ^ free))) ⌝ }
 {
@@ -55,14 +53,11 @@ pub fn stored_correlations(
         if !store_configuration(
             room,
             plan,
-            n,
-            w,
-            scales,
-            each,
+            shape,
             us,
             vs,
             order,
-            lent,
+            factors,
             betas,
             signs,
             x,

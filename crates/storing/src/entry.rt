@@ -26,7 +26,7 @@ fn stored_count(sums: usize, free: usize) -> usize
 }
 
 // Writes every correlation to `stored`: that of a beta, a pair and a configuration at (beta times pairs + pair) times the configurations +
-// the configuration. Two factors are lent for each beta and kept edge. Answers the count of configurations, or the refusal.
+// the configuration. Two factors are lent for each beta and kept edge. Returns the count of configurations, or the refusal.
 pub fn exhaustive_c(
     n: usize,
     floor: usize,
@@ -85,10 +85,11 @@ pub fn exhaustive_c(
     if unfit != 0 {
         return Answer::Refused(unfit);
     }
-    let each = is_each(manner);
+    let elementwise = is_each(manner);
     if store_job(
         n,
         w,
+        elementwise,
         &early[..edges],
         &late[..edges],
         us,
@@ -96,7 +97,6 @@ pub fn exhaustive_c(
         factors,
         betas.len(),
         free,
-        each,
         stored,
         work,
     ) {

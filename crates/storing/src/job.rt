@@ -1,14 +1,11 @@
 // An enumeration that passed its checks: from its kept edges to every correlation, stored.
 ghost use mathlib.Core.Path.{_≡_};
-ghost use mathlib.Core.Bool.{cond};
 ghost use Prim.Native.Nat.{_*_, _^_, _≤_};
 ghost use lib.ListN.{length};
-ghost use Rattle.transfer.specs.Job.{block, perElement};
-ghost use Rattle.transfer.specs.Room.{room as roomOf};
 ghost use Rattle.plan.specs.Layout.{Holds};
 ghost use Rattle.lattice.specs.Graphs.{freeCount};
-ghost use Rattle.totals.specs.Jobs.{unsoundEnumeration, storedCorrelations};
-ghost use Rattle.totals.specs.Finished.{Passed, Marks, Finished};
+ghost use Rattle.totals.specs.Finished.{Passed, Marks, stepping, StoredAre};
+use chunks::Shape;
 use forest::mark_tree_edges;
 use places::make_plan;
 use places::order_pairs;
@@ -19,7 +16,7 @@ use totals::PAIRS;
 use totals::PLAN;
 use totals::clear_unsound;
 
-// Plans the job, orders its pairs, marks the tree edges, stores and clears. The first five lists are made here.
+// Plans the job, orders its pairs, marks the tree edges, stores and clears. The first five lists are made by the caller for this alone.
 fn plan_and_store(
     plan: &mut [usize],
     order: &mut [usize],
@@ -28,44 +25,44 @@ fn plan_and_store(
     c: &mut [f64],
     n: usize,
     w: usize,
+    elementwise: bool,
     early: &[usize],
     late: &[usize],
     us: &[usize],
     vs: &[usize],
-    lent: &[f64],
+    factors: &[f64],
     betas: usize,
     free: usize,
-    each: bool,
     stored: &mut [f64],
     work: &mut [f64],
 ) -> bool
-    requires { ⌜ Passed n w (now early) (now late) (now us) (now vs) (length (now lent)) betas (length (now work))
+    requires { ⌜ Passed n w (now early) (now late) (now us) (now vs) (length (now factors)) betas (length (now work))
         × (free ≡ freeCount (now early) (now late)) × (free ≤ 34) × Holds (now plan) n × (length (now order) ≡ length (now us))
         × Marks (length (now early)) (length (now tree)) (length (now signs)) × (length (now c) ≡ length (now us))
         × (length (now stored) ≡ betas * length (now us) * 2 ^ free) ⌝ }
-    ensures { λ r. ⌜ Finished
-        (unsoundEnumeration n w (now (early .entry)) (now (late .entry)) (now (lent .entry)) (cond each perElement block) (now (us .entry)) (now (vs .entry)) betas)
-        (storedCorrelations n w (now (early .entry)) (now (late .entry)) (now (lent .entry)) (cond each perElement block) (now (us .entry)) (now (vs .entry)) betas)
-        (storedCorrelations n w (now (early .entry)) (now (late .entry)) (now (lent .entry)) (cond each perElement block) (now (us .entry)) (now (vs .entry)) betas)
-        (betas * length (now (us .entry)) * 2 ^ free) (roomOf n w (length (now (early .entry))) (now (us .entry)) (now (vs .entry)))
-        r (now (stored .exit)) (now (stored .exit)) (now (work .entry)) (now (work .exit)) ⌝ }
+    ensures { λ r. ⌜ StoredAre n w (now (early .entry)) (now (late .entry)) (now (factors .entry)) (stepping elementwise) (now (us .entry))
+        (now (vs .entry)) betas (betas * length (now (us .entry)) * 2 ^ free) (length (now (early .entry))) r (now (stored .exit))
+        (now (work .entry)) (now (work .exit)) ⌝ }
 {
     let layout = make_plan(plan, n, w, early, late, us, vs);
     order_pairs(order, n, w, us, vs);
     mark_tree_edges(n, early, late, tree);
+    let shape = Shape {
+        n,
+        w,
+        scales: layout.scales,
+        elementwise,
+    };
     let end = layout.room;
     let room = &mut work[..end];
     let sound = stored_correlations(
         room,
         plan,
-        n,
-        w,
-        layout.scales,
-        each,
+        shape,
         us,
         vs,
         order,
-        lent,
+        factors,
         betas,
         tree,
         signs,
@@ -78,31 +75,28 @@ fn plan_and_store(
     sound
 }
 
-// The correlations of all configurations, with the room at +0.0 after. Answers whether every Z was finite and above zero; where one is
+// The correlations of all configurations, with the room at +0.0 after. Returns whether every Z was finite and above zero; where one is
 // not, all are +0.0.
 pub(crate) fn store_job(
     n: usize,
     w: usize,
+    elementwise: bool,
     early: &[usize],
     late: &[usize],
     us: &[usize],
     vs: &[usize],
-    lent: &[f64],
+    factors: &[f64],
     betas: usize,
     free: usize,
-    each: bool,
     stored: &mut [f64],
     work: &mut [f64],
 ) -> bool
-    requires { ⌜ Passed n w (now early) (now late) (now us) (now vs) (length (now lent)) betas (length (now work))
+    requires { ⌜ Passed n w (now early) (now late) (now us) (now vs) (length (now factors)) betas (length (now work))
         × (free ≡ freeCount (now early) (now late)) × (free ≤ 34)
         × (length (now stored) ≡ betas * length (now us) * 2 ^ free) ⌝ }
-    ensures { λ r. ⌜ Finished
-        (unsoundEnumeration n w (now (early .entry)) (now (late .entry)) (now (lent .entry)) (cond each perElement block) (now (us .entry)) (now (vs .entry)) betas)
-        (storedCorrelations n w (now (early .entry)) (now (late .entry)) (now (lent .entry)) (cond each perElement block) (now (us .entry)) (now (vs .entry)) betas)
-        (storedCorrelations n w (now (early .entry)) (now (late .entry)) (now (lent .entry)) (cond each perElement block) (now (us .entry)) (now (vs .entry)) betas)
-        (betas * length (now (us .entry)) * 2 ^ free) (roomOf n w (length (now (early .entry))) (now (us .entry)) (now (vs .entry)))
-        r (now (stored .exit)) (now (stored .exit)) (now (work .entry)) (now (work .exit)) ⌝ }
+    ensures { λ r. ⌜ StoredAre n w (now (early .entry)) (now (late .entry)) (now (factors .entry)) (stepping elementwise) (now (us .entry))
+        (now (vs .entry)) betas (betas * length (now (us .entry)) * 2 ^ free) (length (now (early .entry))) r (now (stored .exit))
+        (now (work .entry)) (now (work .exit)) ⌝ }
 {
     let mut plan = [0usize; PLAN];
     let mut order = [0usize; PAIRS];
@@ -119,14 +113,14 @@ pub(crate) fn store_job(
         &mut c[..pairs],
         n,
         w,
+        elementwise,
         early,
         late,
         us,
         vs,
-        lent,
+        factors,
         betas,
         free,
-        each,
         stored,
         work,
     )

@@ -14,77 +14,76 @@ use Rattle.glass.specs.Correlations.{settled, cleared}
 use Rattle.glass.specs.Settling.{settled-not, cleared-not}
 use Rattle.totals.specs.Calls.{Totalled, Stored}
 use Rattle.totals.specs.Finished.{Finished}
+use Rattle.totals.specs.Refusing.{Parts}
 
 not-none : (r count : ℕ) → (r ≡ 0 → ⊥) → Refused r ≡ answered r count
 not-none zero count z = absurd (z refl)
 not-none (suc r) count z = refl
 
-module _ (early lists number count : ℕ) (bad : Bool) (whole : number ≡ orElse early (orElse lists (cond bad 14 0)))
-    (squared fourthed : List Float) (end : ℕ) (squares fourths work : List Float) where
+turned : (s u : Bool) → s ≡ not u → u ≡ not s
+turned true true p = p
+turned true false p = refl
+turned false true p = refl
+turned false false p = p
+
+-- the first of two numbers that is not 0
+first : (k r rest : ℕ) → (r ≡ 0 → ⊥) → k ≡ r → orElse k rest ≡ r
+first zero r rest z p = absurd (z (sym p))
+first (suc k) r rest z p = p
+
+-- a number past the checks of the job, and past those of the lists
+module _ {number k : ℕ} (p : Parts number) (u : k ≡ p .early) (v : k ≡ 0) where
+  past-early : number ≡ orElse (p .lists) (cond (p .bad) 14 0)
+  past-early = p .whole ∙ ap (λ (i : ℕ). orElse i (orElse (p .lists) (cond (p .bad) 14 0))) (sym u ∙ v)
+
+  past-lists : {d : ℕ} → d ≡ p .lists → d ≡ 0 → (t : Bool) → p .bad ≡ t → number ≡ cond t 14 0
+  past-lists e z t q = past-early ∙ ap (λ (i : ℕ). orElse i (cond (p .bad) 14 0)) (sym e ∙ z) ∙ ap (λ (x : Bool). cond x 14 0) q
+
+module _ {number count : ℕ} {squared fourthed : List Float} {end : ℕ} {squares fourths work : List Float} (p : Parts number) where
   -- a refusal by a check that stands before 14
-  module _ (r : ℕ) (z : r ≡ 0 → ⊥) (q : r ≡ 14 → ⊥) where
-    refused-by : number ≡ r → Totalled number count squared fourthed end (Refused r) squares squares fourths fourths work work
-    refused-by e = record {
-      answer = not-none r count z ∙ ap (λ (k : ℕ). answered k count) (sym e);
-      squares-are = settled-not r squared squares z q ∙ ap (λ (k : ℕ). settled k squared squares) (sym e);
-      fourths-are = settled-not r fourthed fourths z q ∙ ap (λ (k : ℕ). settled k fourthed fourths) (sym e);
-      memory = cleared-not r end work z q ∙ ap (λ (k : ℕ). cleared k end work) (sym e);
-    }
+  refused-by : (r : ℕ) → (r ≡ 0 → ⊥) → (r ≡ 14 → ⊥) → number ≡ r
+      → Totalled number count squared fourthed end (Refused r) squares squares fourths fourths work work
+  refused-by r z q e = record {
+    answer = not-none r count z ∙ ap (λ (k : ℕ). answered k count) (sym e);
+    squares-are = settled-not r squared squares z q ∙ ap (λ (k : ℕ). settled k squared squares) (sym e);
+    fourths-are = settled-not r fourthed fourths z q ∙ ap (λ (k : ℕ). settled k fourthed fourths) (sym e);
+    memory = cleared-not r end work z q ∙ ap (λ (k : ℕ). cleared k end work) (sym e);
+  }
 
-    pub refused-early : r ≡ early → Totalled number count squared fourthed end (Refused r) squares squares fourths fourths work work
-    refused-early e = refused-by (whole ∙ go early (sym e))
-      where
-        go : (k : ℕ) → k ≡ r → orElse k (orElse lists (cond bad 14 0)) ≡ r
-        go zero p = absurd (z (sym p))
-        go (suc k) p = p
+  pub refused-early : (r : ℕ) → r ≡ p .early → (r ≡ 0 → ⊥)
+      → Totalled number count squared fourthed end (Refused r) squares squares fourths fourths work work
+  refused-early r e z = refused-by r z (λ h. p .early-other (sym e ∙ h)) (p .whole ∙ first (p .early) r _ z (sym e))
 
-    pub refused-lists : (k : ℕ) → k ≡ early → k ≡ 0 → r ≡ lists → Totalled number count squared fourthed end (Refused r) squares squares fourths fourths work work
-    refused-lists k u v e = refused-by (whole ∙ ap (λ (i : ℕ). orElse i (orElse lists (cond bad 14 0))) (sym u ∙ v) ∙ go lists (sym e))
-      where
-        go : (k : ℕ) → k ≡ r → orElse k (cond bad 14 0) ≡ r
-        go zero p = absurd (z (sym p))
-        go (suc k) p = p
+  pub refused-lists : {k : ℕ} → k ≡ p .early → k ≡ 0 → (r : ℕ) → r ≡ p .lists → (r ≡ 0 → ⊥)
+      → Totalled number count squared fourthed end (Refused r) squares squares fourths fourths work work
+  refused-lists u v r e z = refused-by r z (λ h. p .lists-other (sym e ∙ h)) (past-early p u v ∙ first (p .lists) r _ z (sym e))
 
   -- by none of these: what was found decides
-  module _ (q : ℕ) (u : q ≡ early) (v : q ≡ 0) (d : ℕ) (e : d ≡ lists) (z : d ≡ 0) (sums : ℕ) (s : Bool) (squares′ fourths′ work′ : List Float)
-      (f : Finished bad squared fourthed sums end s squares′ fourths′ work work′) where
-    found : (t : Bool) → bad ≡ t → number ≡ cond t 14 0
-    found t p =
-        whole ∙ ap (λ (k : ℕ). orElse k (orElse lists (cond bad 14 0))) (sym u ∙ v) ∙ ap (λ (k : ℕ). orElse k (cond bad 14 0)) (sym e ∙ z)
-        ∙ ap (λ (x : Bool). cond x 14 0) p
+  pub all-added : {k d n : ℕ} {s : Bool} {squares′ fourths′ work′ : List Float} → k ≡ p .early → k ≡ 0 → d ≡ p .lists → d ≡ 0
+      → Finished (p .bad) squared fourthed n end s squares′ fourths′ work work′ → s ≡ true → (c : ℕ) → c ≡ count
+      → Totalled number count squared fourthed end (Number c) squares squares′ fourths fourths′ work work′
+  unfolding settled cleared
+  all-added {n = n} {squares′ = squares′} {fourths′} {work′} u v e z f y c q =
+      let g = subst (λ (x : Bool). Finished (p .bad) squared fourthed n end x squares′ fourths′ work work′) y f in
+      rw (past-lists p u v e z false (turned true (p .bad) (g .squares-are .verdict))) (record {
+        answer = ap Number q;
+        squares-are = g .squares-are .values;
+        fourths-are = g .fourths-are .values;
+        memory = g .memory;
+      })
 
-    turned : (s u : Bool) → s ≡ not u → u ≡ not s
-    turned true true p = p
-    turned true false p = refl
-    turned false true p = refl
-    turned false false p = p
-
-    made : (t : Bool) → s ≡ t → Finished bad squared fourthed sums end t squares′ fourths′ work work′
-    made t y = subst (λ (x : Bool). Finished bad squared fourthed sums end x squares′ fourths′ work work′) y f
-
-    pub all-added : s ≡ true → (k : ℕ) → k ≡ count
-        → Totalled number count squared fourthed end (Number k) squares squares′ fourths fourths′ work work′
-    unfolding settled cleared
-    all-added y k c =
-        let g = made true y in
-        rw (found false (turned true bad (g .squares-are .told))) (record {
-          answer = ap Number c;
-          squares-are = g .squares-are .values;
-          fourths-are = g .fourths-are .values;
-          memory = g .memory;
-        })
-
-    pub refused-14 : s ≡ false → length squares ≡ sums → length fourths ≡ sums
-        → Totalled number count squared fourthed end (Refused 14) squares squares′ fourths fourths′ work work′
-    unfolding settled cleared
-    refused-14 y p q =
-        let g = made false y in
-        rw (found true (turned false bad (g .squares-are .told))) (record {
-          answer = refl;
-          squares-are = g .squares-are .values ∙ ap zeros (sym p);
-          fourths-are = g .fourths-are .values ∙ ap zeros (sym q);
-          memory = g .memory;
-        })
+  pub refused-14 : {k d n : ℕ} {s : Bool} {squares′ fourths′ work′ : List Float} → k ≡ p .early → k ≡ 0 → d ≡ p .lists → d ≡ 0
+      → Finished (p .bad) squared fourthed n end s squares′ fourths′ work work′ → s ≡ false → length squares ≡ n → length fourths ≡ n
+      → Totalled number count squared fourthed end (Refused 14) squares squares′ fourths fourths′ work work′
+  unfolding settled cleared
+  refused-14 {n = n} {squares′ = squares′} {fourths′} {work′} u v e z f y h i =
+      let g = subst (λ (x : Bool). Finished (p .bad) squared fourthed n end x squares′ fourths′ work work′) y f in
+      rw (past-lists p u v e z true (turned false (p .bad) (g .squares-are .verdict))) (record {
+        answer = refl;
+        squares-are = g .squares-are .values ∙ ap zeros (sym h);
+        fourths-are = g .fourths-are .values ∙ ap zeros (sym i);
+        memory = g .memory;
+      })
 
 -- a call with one list, from one that has it twice
 pub once : {number count : ℕ} {correlations : List Float} {end : ℕ} {r : Answer} {stored stored′ work work′ : List Float}

@@ -1,8 +1,8 @@
 -- A call that its checks pass, from the fronts of the lists that its kept edges stand in.
 use mathlib.Core.Path.{_≡_, sym, ap, _∙_, subst}
-use mathlib.Core.Bool.{Bool, false, not}
+use mathlib.Core.Bool.{Bool, true, false, not}
 use mathlib.Core.List.{List}
-use Prim.Native.Nat.{ℕ, _-_, _*_, _≤_, _<_}
+use Prim.Native.Nat.{ℕ, _-_, _*_, _^_, _≤_, _<_}
 use native.Mathlib.Nat.{mul-le-mul-right}
 use native.Mathlib.Decide.{decLt}
 use native.Mathlib.Omega.{arith}
@@ -28,8 +28,12 @@ use Rattle.kept.specs.Fronts.{front-early, front-late, early-part}
 use Rattle.lattice.specs.Graphs.{freeCount}
 use Rattle.refuse.specs.Checked.{ReadyJob}
 use Rattle.refuse.specs.Plannable.{edge-count, plannable}
-use Rattle.totals.specs.Jobs.{unsoundEnumeration, unsoundSampling, enumeratedTotals, sampledTotals, storedCorrelations}
-use Rattle.totals.specs.Finished.{Passed, Finished}
+use Rattle.chunks.specs.Powers.{correlationAt}
+use Rattle.chunked_totals.specs.declared.Chunks.{Chunks}
+use Rattle.chunked_totals.specs.Totals.{allChunks, drawnChunks}
+use Rattle.chunked_totals.specs.Blocks.{all-unsound, all-totals, all-fit}
+use Rattle.totals.specs.Jobs.{jobEnumerated, unsoundEnumeration, unsoundIn, enumeratedTotals, totalsIn}
+use Rattle.totals.specs.Finished.{Passed, Numbered, Finished, TotalsAre, StoredAre}
 
 -- a sum for each beta and pair
 pub few-products : (betas pairs : ℕ) → betas ≤ 64 → pairs ≤ 256 → betas * pairs ≤ 16384
@@ -83,15 +87,15 @@ module _ {n floor : ℕ} {a b : List ℕ} {m : List Float} {us vs : List ℕ} {k
   pub joined : Paths.Edges n (take k early′) (take k late′)
   joined = rw (front-early (g .written), front-late (g .written)) (joins (g .edges))
 
-  pub enumeration-lists : (betas : ℕ) (factors : List Float) (free free′ most : ℕ) (misfit : Bool) (work r : ℕ) → free ≡ free′
+  pub all-lists : (betas : ℕ) (factors : List Float) (free free′ most : ℕ) (misfit : Bool) (work r : ℕ) → free ≡ free′
       → r ≡ enumerationLists n w k us vs betas factors free most misfit work
       → r ≡ enumerationLists n (windowFrom floor a b m) (length (kept a b m)) us vs betas factors free′ most misfit work
-  enumeration-lists betas factors free free′ most misfit work r e h = rw (g .window, g .written .edges, e) at h
+  all-lists betas factors free free′ most misfit work r e h = rw (g .window, g .written .edges, e) at h
 
-  pub enumeration-passed : (betas : ℕ) (factors : List Float) (free most : ℕ) (misfit : Bool) (work r : ℕ) → betas ≤ 64
+  pub all-passed : (betas : ℕ) (factors : List Float) (free most : ℕ) (misfit : Bool) (work r : ℕ) → betas ≤ 64
       → r ≡ enumerationLists n w k us vs betas factors free most misfit work → r ≡ 0
       → Passed n w (take k early′) (take k late′) us vs (length factors) betas work × (misfit ≡ false) × (free ≤ most)
-  enumeration-passed betas factors free most misfit work r few h z =
+  all-passed betas factors free most misfit work r few h z =
       let t9 = unless (ltb most free) {k = 9} (omega arith) (sym h ∙ z) in
       let t10 = unless (badFactorList factors (signedFactors betas k)) {k = 10} (omega arith) (t9 .1) in
       let p = passed-lists factors betas misfit work few (t10 .0) (t10 .1) in
@@ -109,23 +113,13 @@ module _ {n floor : ℕ} {a b : List ℕ} {m : List Float} {us vs : List ℕ} {k
       → free ≡ freeCount (earlyEnds (kept a b m)) (lateEnds (kept a b m))
   free-kept free e = free-is free e ∙ free-fronts
 
-  module _ (betas : ℕ) (lent : List Float) (sound : Bool) (squares fourths work work′ : List Float) where
-    abbrev EnumerationDone : List ℕ → List ℕ → ℕ → Job.Manner → ℕ → Type 0
-    EnumerationDone E L v manner c =
-        Finished (unsoundEnumeration n v E L lent manner us vs betas) (enumeratedTotals n v E L lent manner us vs betas (square ieee))
-        (enumeratedTotals n v E L lent manner us vs betas (fourth ieee)) (betas * length us) (room n v c us vs) sound squares fourths work work′
-
-    pub enumeration-done : (manner manner′ : Job.Manner) → manner ≡ manner′ → EnumerationDone (take k early′) (take k late′) w manner (length (take k early′))
-        → EnumerationDone (earlyEnds (kept a b m)) (lateEnds (kept a b m)) (windowFrom floor a b m) manner′ (length (kept a b m))
-    enumeration-done manner manner′ e f = to-kept EnumerationDone manner manner′ e f
-
   -- ---- of an enumeration that stores each correlation
 
-  pub storing-lists : (betas : ℕ) (factors : List Float) (free free′ wanted wanted′ stored work r : ℕ) → free ≡ free′ → (free ≤ 24 → wanted ≡ wanted′)
+  pub stored-lists : (betas : ℕ) (factors : List Float) (free free′ wanted wanted′ stored work r : ℕ) → free ≡ free′ → (free ≤ 24 → wanted ≡ wanted′)
       → r ≡ enumerationLists n w k us vs betas factors free 24 (misfits wanted stored stored) work
       → r ≡ enumerationLists n (windowFrom floor a b m) (length (kept a b m)) us vs betas factors free′ 24 (not (eqb stored wanted′)) work
-  storing-lists betas factors free free′ wanted wanted′ stored work r e h q =
-      enumeration-lists betas factors free free′ 24 (not (eqb stored wanted′)) work r e (q ∙ go (decLt 24 free))
+  stored-lists betas factors free free′ wanted wanted′ stored work r e h q =
+      all-lists betas factors free free′ 24 (not (eqb stored wanted′)) work r e (q ∙ go (decLt 24 free))
     where
       go : Dec (24 < free) → enumerationLists n w k us vs betas factors free 24 (misfits wanted stored stored) work
           ≡ enumerationLists n w k us vs betas factors free 24 (not (eqb stored wanted′)) work
@@ -134,40 +128,70 @@ module _ {n floor : ℕ} {a b : List ℕ} {m : List Float} {us vs : List ℕ} {k
           ap (λ (t : Bool). enumerationLists n w k us vs betas factors free 24 t work)
           (misfits-alone wanted stored ∙ ap (λ (j : ℕ). not (eqb stored j)) (h (omega arith)))
 
-  module _ (betas : ℕ) (lent : List Float) (sums : ℕ) (sound : Bool) (stored work work′ : List Float) where
-    abbrev StoringDone : List ℕ → List ℕ → ℕ → Job.Manner → ℕ → Type 0
-    StoringDone E L v manner c =
-        Finished (unsoundEnumeration n v E L lent manner us vs betas) (storedCorrelations n v E L lent manner us vs betas)
-        (storedCorrelations n v E L lent manner us vs betas) sums (room n v c us vs) sound stored stored work work′
-
-    pub storing-done : (manner manner′ : Job.Manner) → manner ≡ manner′ → StoringDone (take k early′) (take k late′) w manner (length (take k early′))
-        → StoringDone (earlyEnds (kept a b m)) (lateEnds (kept a b m)) (windowFrom floor a b m) manner′ (length (kept a b m))
-    storing-done manner manner′ e f = to-kept StoringDone manner manner′ e f
-
   -- ---- of a sampling
 
-  pub sampling-lists : (betas : ℕ) (factors : List Float) (from to samples : ℕ) (misfit : Bool) (work r : ℕ)
+  pub drawn-lists : (betas : ℕ) (factors : List Float) (from to samples : ℕ) (misfit : Bool) (work r : ℕ)
       → r ≡ samplingLists n w k us vs betas factors from to samples misfit work
       → r ≡ samplingLists n (windowFrom floor a b m) (length (kept a b m)) us vs betas factors from to samples misfit work
-  sampling-lists betas factors from to samples misfit work r h = rw (g .window, g .written .edges) at h
+  drawn-lists betas factors from to samples misfit work r h = rw (g .window, g .written .edges) at h
 
-  pub sampling-passed : (betas : ℕ) (factors : List Float) (from to samples : ℕ) (misfit : Bool) (work r : ℕ) → betas ≤ 64
+  pub drawn-passed : (betas : ℕ) (factors : List Float) (from to samples : ℕ) (misfit : Bool) (work r : ℕ) → betas ≤ 64
       → r ≡ samplingLists n w k us vs betas factors from to samples misfit work → r ≡ 0
       → Passed n w (take k early′) (take k late′) us vs (length factors) betas work × (misfit ≡ false) × ((to - from) * samples ≤ 4294967296)
-  sampling-passed betas factors from to samples misfit work r few h z =
+  drawn-passed betas factors from to samples misfit work r few h z =
       let t10 = unless (badFactorList factors (signedFactors betas k)) {k = 10} (omega arith) (sym h ∙ z) in
       let t11 = unless (tooManyChunks from to samples) {k = 11} (omega arith) (t10 .1) in
       let p = passed-lists factors betas misfit work few (t10 .0) (t11 .1) in
       (p .0, p .1, few-samples from to samples (t11 .0))
 
-  module _ (betas : ℕ) (lent : List Float) (seed from to samples : ℕ) (sound : Bool) (squares fourths work work′ : List Float) where
-    abbrev SamplingDone : List ℕ → List ℕ → ℕ → Job.Manner → ℕ → Type 0
-    SamplingDone E L v manner c =
-        Finished (unsoundSampling n v E L lent manner us vs betas seed from to samples)
-        (sampledTotals n v E L lent manner us vs betas seed from to samples (square ieee))
-        (sampledTotals n v E L lent manner us vs betas seed from to samples (fourth ieee))
-        (betas * length us) (room n v c us vs) sound squares fourths work work′
+  -- ---- what is finished
 
-    pub sampling-done : (manner manner′ : Job.Manner) → manner ≡ manner′ → SamplingDone (take k early′) (take k late′) w manner (length (take k early′))
-        → SamplingDone (earlyEnds (kept a b m)) (lateEnds (kept a b m)) (windowFrom floor a b m) manner′ (length (kept a b m))
-    sampling-done manner manner′ e f = to-kept SamplingDone manner manner′ e f
+  module _ (betas : ℕ) (factors : List Float) {sound : Bool} {work work′ : List Float} {manner manner′ : Job.Manner} (e : manner ≡ manner′) where
+    pub totals-kept : (c : Chunks) {squares fourths : List Float}
+        → TotalsAre n w (take k early′) (take k late′) factors manner us vs betas c (length (take k early′)) sound squares fourths work work′
+        → TotalsAre n (windowFrom floor a b m) (earlyEnds (kept a b m)) (lateEnds (kept a b m)) factors manner′ us vs betas c (length (kept a b m)) sound
+        squares fourths work work′
+    totals-kept c {squares} {fourths} =
+        to-kept (λ E L v x edges. TotalsAre n v E L factors x us vs betas c edges sound squares fourths work work′) manner manner′ e
+
+    pub stored-kept : {count : ℕ} {stored : List Float}
+        → StoredAre n w (take k early′) (take k late′) factors manner us vs betas count (length (take k early′)) sound stored work work′
+        → StoredAre n (windowFrom floor a b m) (earlyEnds (kept a b m)) (lateEnds (kept a b m)) factors manner′ us vs betas count (length (kept a b m)) sound
+        stored work work′
+    stored-kept {count} {stored} =
+        to-kept (λ E L v x edges. StoredAre n v E L factors x us vs betas count edges sound stored work work′) manner manner′ e
+
+-- ---- chunks
+
+-- all configurations, of few enough free edges
+pub all-numbered : (k : Chunks) (free graph : ℕ) → k ≡ allChunks free → free ≤ 34 → free ≡ graph → Numbered k graph
+all-numbered k free graph e few f = record { few = λ _. omega arith; fits = λ _. rw e (all-fit free few) }
+
+-- drawn ones
+pub drawn-numbered : (seed from to samples graph : ℕ) → Numbered (drawnChunks seed from to samples) graph
+drawn-numbered seed from to samples graph = record { few = λ z. absurd (no z); fits = λ z. absurd (no z) }
+  where
+    no : true ≡ false → ⊥
+    no z = let z′ : _≡_ {A = ℕ} 0 1 = cc in omega arith
+
+-- the chunks of all configurations are all of them
+module _ (n w : ℕ) (early late : List ℕ) (factors : List Float) (manner : Job.Manner) (us vs : List ℕ) (betas edges : ℕ) {sound : Bool}
+    {squares fourths work work′ : List Float} where
+  pub all-are : (free : ℕ) → free ≡ freeCount early late → (k : Chunks) → k ≡ allChunks free
+      → TotalsAre n w early late factors manner us vs betas k edges sound squares fourths work work′
+      → Finished (unsoundEnumeration n w early late factors manner us vs betas) (enumeratedTotals n w early late factors manner us vs betas (square ieee))
+      (enumeratedTotals n w early late factors manner us vs betas (fourth ieee)) (betas * length us) (room n w edges us vs) sound squares fourths work work′
+  all-are free e k c g =
+      let J = jobEnumerated n w early late factors manner in
+      let F = freeCount early late in
+      let h = subst (λ (x : Chunks). TotalsAre n w early late factors manner us vs betas x edges sound squares fourths work work′) (c ∙ ap allChunks e) g in
+      let sums = all-totals (λ x. correlationAt (J x) us vs) F (betas * length us) in
+      subst (λ (x : Bool). Finished x (enumeratedTotals n w early late factors manner us vs betas (square ieee))
+      (enumeratedTotals n w early late factors manner us vs betas (fourth ieee)) (betas * length us) (room n w edges us vs) sound squares fourths work work′)
+      (all-unsound J us vs betas F)
+      (subst (λ (l : List Float). Finished (unsoundIn n w early late factors manner us vs betas (allChunks F)) l
+      (enumeratedTotals n w early late factors manner us vs betas (fourth ieee)) (betas * length us) (room n w edges us vs) sound squares fourths work work′)
+      (sums (square ieee))
+      (subst (λ (l : List Float). Finished (unsoundIn n w early late factors manner us vs betas (allChunks F))
+      (totalsIn n w early late factors manner us vs betas (allChunks F) (square ieee)) l (betas * length us) (room n w edges us vs) sound squares fourths work work′)
+      (sums (fourth ieee)) h))

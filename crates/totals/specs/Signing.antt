@@ -1,8 +1,8 @@
 -- The plan of a job is that of each of its configurations.
-use mathlib.Core.Path.{_≡_, sym, ap, _∙_, subst}
-use mathlib.Core.Bool.{Bool, false, cond, not, _&&_}
+use mathlib.Core.Path.{_≡_, refl, sym, ap, _∙_, subst}
+use mathlib.Core.Bool.{Bool, true, false, cond, not, _&&_}
 use mathlib.Core.List.{List}
-use Prim.Native.Nat.{ℕ, _-_, _≤_, _<_}
+use Prim.Native.Nat.{ℕ, _+_, _-_, _*_, _≤_, _<_}
 use native.Mathlib.Omega.{arith}
 use lib.Ieee.{Float, nan}
 use lib.ListN.{length, getD}
@@ -10,16 +10,21 @@ use Rattle.vector.specs.Bits.{bit}
 use Rattle.vector.specs.Count.{count, count-ext}
 use Rattle.vector.specs.Tabulate.{tabulate, tabulate-length, tabulate-at, tabulate-ext}
 use Rattle.forest.specs.Labels.{isTree}
-use Rattle.transfer.specs.Job.{Edge, block, perElement}
+use Rattle.transfer.specs.Job.{Edge}
 use Rattle.transfer.specs.Configuration.{freeBefore, enumeratedMinus, sampledMinus, lentAt, edgesWith, configured}
 use Rattle.lattice.specs.Graphs.{freeCount}
 use Rattle.places.specs.Work.{Planned}
 use Rattle.vertex.specs.Ready.{PlanOf}
 use Rattle.pair_correlations.specs.Planning.{plan-of}
 use Rattle.signed.specs.Signed.{signedFactors}
-use Rattle.enumerate.specs.Configurations.{signsOf, PlanOfEach}
-use Rattle.sample.specs.Samples.{PlanOfChunks}
-use Rattle.totals.specs.Jobs.{jobSigned, jobEnumerated, jobSampled}
+use Rattle.chunks.specs.declared.Shape.{Shape}
+use Rattle.chunks.specs.Signed.{PlanOfAll, PlanOfRun}
+use Rattle.enumerate.specs.Configurations.{signsOf}
+use Rattle.sample.specs.Samples as Drawn
+use Rattle.chunked_totals.specs.declared.Chunks.{Chunks}
+use Rattle.chunked_totals.specs.Totals.{PlanOfChunks}
+use Rattle.totals.specs.Jobs.{jobSigned, jobEnumerated, jobIn}
+use Rattle.totals.specs.Finished.{stepping}
 
 -- ---- the marks of the tree edges, as a list and as a rule
 
@@ -51,34 +56,54 @@ module _ (early late : List ℕ) (tree : List Bool) (marked : tree ≡ tabulate 
 -- ---- the plan
 
 module _ (plan early late us vs : List ℕ) (n w places scales at end : ℕ) (g : Planned plan early late us vs n w places scales at end) (some : 1 ≤ n)
-    (lent : List Float) (each : Bool) where
+    (factors : List Float) (elementwise : Bool) where
   -- the factors in use, by the signs as a list and as a rule
   signed-edges : (b : ℕ) (minus : ℕ → Bool)
-      → edgesWith early late (λ e. getD (signedFactors lent (length early) b (tabulate minus (length early))) e nan) ≡ configured nan early late lent b minus
+      → edgesWith early late (λ e. getD (signedFactors factors (length early) b (tabulate minus (length early))) e nan) ≡ configured nan early late factors b minus
   unfolding configured edgesWith
   signed-edges b minus =
       tabulate-ext _ _ (length early)
       (λ e l. ap (λ (x : Float). record { early = getD early e 0; late = getD late e 0; factor = x })
-      (tabulate-at (λ i. getD lent (lentAt (length early) b i (getD (tabulate minus (length early)) i false)) nan) (length early) e nan l
-      ∙ ap (λ (s : Bool). getD lent (lentAt (length early) b e s) nan) (tabulate-at minus (length early) e false l)))
+      (tabulate-at (λ i. getD factors (lentAt (length early) b i (getD (tabulate minus (length early)) i false)) nan) (length early) e nan l
+      ∙ ap (λ (s : Bool). getD factors (lentAt (length early) b e s) nan) (tabulate-at minus (length early) e false l)))
 
-  signed-plan : (b : ℕ) (minus : ℕ → Bool) → PlanOf (jobSigned n w early late lent (cond each perElement block) minus b) plan
-      (signedFactors lent (length early) b (tabulate minus (length early))) n w each
-  signed-plan b minus =
-      let x = signedFactors lent (length early) b (tabulate minus (length early)) in
-      subst (λ (es : List (Edge Float)). PlanOf (record { last = n - 1; window = w; edges = es; manner = cond each perElement block }) plan x n w each)
-      (signed-edges b minus) (plan-of plan early late us vs n w places scales at end g some x each)
+  -- what every sweep reads
+  abbrev shape : Shape
+  shape = record { n = n; w = w; scales = scales; elementwise = elementwise }
 
-  pub enumerated-plan : (tree : List Bool) (betas : ℕ) → tree ≡ tabulate (isTree early late) (length early)
-      → PlanOfEach (jobEnumerated n w early late lent (cond each perElement block)) plan lent tree betas n w each
-  enumerated-plan tree betas marked x b l =
-      let J = jobEnumerated n w early late lent (cond each perElement block) x b in
-      let p = signed-plan b (enumeratedMinus (isTree early late) x) in
-      let q = subst (λ (signs : List Bool). PlanOf J plan (signedFactors lent (length early) b signs) n w each) (sym (same-signs early late tree marked x)) p in
-      subst (λ (m : ℕ). PlanOf J plan (signedFactors lent m b (signsOf tree x)) n w each) (sym (marks-long early late tree marked)) q
+  signed-plan : (minus : ℕ → Bool) (betas : ℕ)
+      → PlanOfAll (jobSigned n w early late factors (stepping elementwise) minus) plan factors (length early) (tabulate minus (length early)) betas shape
+  signed-plan minus betas b l =
+      let x = signedFactors factors (length early) b (tabulate minus (length early)) in
+      subst (λ (es : List (Edge Float)). PlanOf (record { last = n - 1; window = w; edges = es; manner = stepping elementwise }) plan x n w elementwise)
+      (signed-edges b minus) (plan-of plan early late us vs n w places scales at end g some x elementwise)
 
-  pub sampled-plan : (m seed betas : ℕ) → m ≡ length early
-      → PlanOfChunks (jobSampled n w early late lent (cond each perElement block) seed) plan lent m seed betas n w each
-  sampled-plan m seed betas e =
-      subst (λ (k : ℕ). PlanOfChunks (jobSampled n w early late lent (cond each perElement block) seed) plan lent k seed betas n w each) (sym e)
-      (λ i j b l. signed-plan b (sampledMinus seed (length early) i j))
+  -- the same with the signs of a list that a rule gives, of so many edges
+  listed-plan : (minus : ℕ → Bool) (betas m : ℕ) (signs : List Bool) → m ≡ length early → signs ≡ tabulate minus (length early)
+      → PlanOfAll (jobSigned n w early late factors (stepping elementwise) minus) plan factors m signs betas shape
+  listed-plan minus betas m signs e s =
+      let J = jobSigned n w early late factors (stepping elementwise) minus in
+      subst (λ (k : ℕ). PlanOfAll J plan factors k signs betas shape) (sym e)
+      (subst (λ (l : List Bool). PlanOfAll J plan factors (length early) l betas shape) (sym s) (signed-plan minus betas))
+
+  -- configurations by number
+  pub numbered-plan : (tree : List Bool) (betas : ℕ) → tree ≡ tabulate (isTree early late) (length early)
+      → PlanOfRun (jobEnumerated n w early late factors (stepping elementwise)) plan factors (length tree) (signsOf tree) betas shape
+  numbered-plan tree betas marked x =
+      listed-plan (enumeratedMinus (isTree early late) x) betas (length tree) (signsOf tree x) (marks-long early late tree marked)
+      (same-signs early late tree marked x)
+
+  -- and chunk by chunk, where drawn ones read no mark
+  pub chunked-plan : (k : Chunks) (tree : List Bool) (betas : ℕ) → length tree ≡ length early
+      → (k .drawn ≡ false → tree ≡ tabulate (isTree early late) (length early))
+      → PlanOfChunks (jobIn n w early late factors (stepping elementwise) k) plan factors tree k betas shape
+  chunked-plan k tree betas long marked i j = go (k .drawn) refl
+    where
+      go : (d : Bool) → k .drawn ≡ d
+          → PlanOfAll (jobSigned n w early late factors (stepping elementwise)
+          (cond d (sampledMinus (k .seed) (length early) i j) (enumeratedMinus (isTree early late) (i * k .size + j)))) plan factors (length tree)
+          (cond d (Drawn.signsOf (k .seed) (length tree) i j) (signsOf tree (i * k .size + j))) betas shape
+      go true e =
+          listed-plan (sampledMinus (k .seed) (length early) i j) betas (length tree) (Drawn.signsOf (k .seed) (length tree) i j) long
+          (ap (λ (m : ℕ). Drawn.signsOf (k .seed) m i j) long)
+      go false e = numbered-plan tree betas (marked e) (i * k .size + j)

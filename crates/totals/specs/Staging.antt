@@ -14,28 +14,27 @@ use Rattle.vector.specs.Tabulate.{tabulate}
 use Rattle.forest.specs.Labels.{isTree}
 use Rattle.transfer.specs.Room.{room}
 use Rattle.transfer.specs.Job.{Job}
-use Rattle.transfer.specs.Rounded.{ieee}
-use Rattle.transfer.specs.Totals.{enumerated}
 use Rattle.lattice.specs.Graphs.{freeCount}
 use Rattle.plan.specs.Layout.{Holds}
 use Rattle.places.specs.Order.{Ordered}
 use Rattle.places.specs.Work.{Planned}
 use Rattle.pair_correlations.specs.Planning.{ready, serves, end-fits}
-use Rattle.pair_correlations.specs.Sound.{unsound}
-use Rattle.chunks.specs.Powers.{correlationAt}
-use Rattle.chunks.specs.Stage.{Stage, Lent}
+use Rattle.chunks.specs.Powers.{correlationAt, unsoundBetas}
+use Rattle.chunks.specs.Stage.{Stage, EnoughFactors}
+use Rattle.chunked_totals.specs.declared.Chunks.{Chunks}
+use Rattle.chunked_totals.specs.Totals.{Summable}
 use Rattle.enumerate.specs.Configurations.{Enumerates}
 use Rattle.planned.specs.Zeros.{zeros}
-use Rattle.totals.specs.Finished.{Passed, Finished, Told}
+use Rattle.totals.specs.Finished.{Passed, Numbered, Finished, Answered}
 use Rattle.totals.specs.Entering.{few-products}
 use Rattle.totals.specs.Signing.{marks-long, marks-free}
 
-module _ {n w : ℕ} {early late us vs : List ℕ} {lent betas work : ℕ} (p : Passed n w early late us vs lent betas work) where
-  pub lent-of : (m : ℕ) → m ≡ length early → Lent lent m betas
-  lent-of m e =
+module _ {n w : ℕ} {early late us vs : List ℕ} {factors betas work : ℕ} (p : Passed n w early late us vs factors betas work) where
+  pub enough-factors : (m : ℕ) → m ≡ length early → EnoughFactors factors m betas
+  enough-factors m e =
       let l = p .job .few-edges in
       let h : betas * m ≤ 64 * m = mul-le-mul-right m (p .few-betas) in
-      let f : lent ≡ 2 * (betas * m) = p .factored ∙ ap (λ (k : ℕ). 2 * (betas * k)) (sym e) in
+      let f : factors ≡ 2 * (betas * m) = p .factored ∙ ap (λ (k : ℕ). 2 * (betas * k)) (sym e) in
       record { enough = omega arith; few = omega arith }
 
   -- a sum for each beta and pair
@@ -43,9 +42,9 @@ module _ {n w : ℕ} {early late us vs : List ℕ} {lent betas work : ℕ} (p : 
   few-sums = few-products betas (length us) (p .few-betas) (p .job .few-pairs)
 
   module _ {plan : List ℕ} {places scales at end : ℕ} (g : Planned plan early late us vs n w places scales at end) where
-    pub staged : (order : List ℕ) (m end′ results : ℕ) → Holds plan n → Ordered order (length us) → m ≡ length early → end′ ≡ end → results ≡ length us
-        → Stage plan us vs order m n w scales end′ results
-    staged order m end′ results holds ordered e f r = rw (e, f) (record {
+    pub staged : (order : List ℕ) (m end′ results : ℕ) (elementwise : Bool) → Holds plan n → Ordered order (length us) → m ≡ length early → end′ ≡ end → results ≡ length us
+        → Stage plan us vs order m (record { n = n; w = w; scales = scales; elementwise = elementwise }) end′ results
+    staged order m end′ results elementwise holds ordered e f r = rw (e, f) (record {
       some = p .job .some;
       ready = ready plan early late us vs n w places scales at end work (p .job) g holds;
       ends = omega (arith, g .laid .factors-at, g .laid .ends);
@@ -54,9 +53,13 @@ module _ {n w : ℕ} {early late us vs : List ℕ} {lent betas work : ℕ} (p : 
       fitting = r;
     })
 
+    -- the room lies in the work memory
+    pub room-fits : end ≤ work
+    room-fits = end-fits plan early late us vs n w places scales at end work (p .job) g
+
     -- the room is +0.0, and what lies past it stayed
     pub finished : (bad : Bool) (squared fourthed : List Float) (sums : ℕ) (sound : Bool) (squares fourths memory room′ : List Float) → length memory ≡ work
-        → room′ ≡ zeros (length (take end memory)) → Told bad squared sums sound squares → Told bad fourthed sums sound fourths
+        → room′ ≡ zeros (length (take end memory)) → Answered bad squared sums sound squares → Answered bad fourthed sums sound fourths
         → Finished bad squared fourthed sums (room n w (length early) us vs) sound squares fourths memory (room′ ++ drop end memory)
     finished bad squared fourthed sums sound squares fourths memory room′ long cleared s f =
         let t = length-take-le end memory (omega (arith, end-fits plan early late us vs n w places scales at end work (p .job) g)) in
@@ -79,33 +82,33 @@ enumerates early late tree signs free marked e f few =
       fits = omega arith;
     }
 
+-- what the chunks of so many free edges ask for
+pub summable : (early late : List ℕ) (k : Chunks) (tree : List Bool) (signs : ℕ) → Numbered k (freeCount early late) → length tree ≡ length early
+    → signs ≡ length early → (k .drawn ≡ false → tree ≡ tabulate (isTree early late) (length early)) → Summable k tree signs
+summable early late k tree signs g long e marked = record {
+  matched = e ∙ sym long;
+  few = λ d. omega (arith, marks-free early late tree (marked d), g .few d);
+  fits = g .fits;
+}
+
 -- ---- what a list holds in the end
 
-pub told-settled : (bad r : Bool) (answers list list′ : List Float) (n : ℕ) → r ≡ not bad → (r ≡ true → list ≡ answers) → length list ≡ n
-    → list′ ≡ cond r list (zeros (length list)) → Told bad answers n r list′
-told-settled bad true answers list list′ n t q l e = record { told = t; values = e ∙ q refl }
-told-settled bad false answers list list′ n t q l e = record { told = t; values = e ∙ ap zeros l }
+pub cleared-answers : (bad r : Bool) (answers list list′ : List Float) (n : ℕ) → r ≡ not bad → (r ≡ true → list ≡ answers) → length list ≡ n
+    → list′ ≡ cond r list (zeros (length list)) → Answered bad answers n r list′
+cleared-answers bad true answers list list′ n t q l e = record { verdict = t; values = e ∙ q refl }
+cleared-answers bad false answers list list′ n t q l e = record { verdict = t; values = e ∙ ap zeros l }
 
-module _ (J : ℕ → ℕ → Job Float) (us vs : List ℕ) (betas free free′ : ℕ) (f : free ≡ free′) (r : Bool) (list list′ : List Float)
-    (t : r ≡ not (some (λ x. some (λ b. unsound (J x b) us vs) betas) (2 ^ free))) (e : list′ ≡ cond r list (zeros (length list))) where
-  abbrev badOf : ℕ → Bool
-  badOf k = some (λ x. some (λ b. unsound (J x b) us vs) betas) (2 ^ k)
+-- of every correlation of so many free edges, said of those that the graph has
+module _ (J : ℕ → ℕ → Job Float) (us vs : List ℕ) (betas : ℕ) (r : Bool) (list list′ : List Float) where
+  abbrev unsoundOf : ℕ → Bool
+  unsoundOf k = some (λ x. unsoundBetas (J x) us vs betas) (2 ^ k)
 
-  abbrev sumsOf : (Float → Float) → ℕ → List Float
-  sumsOf power k = tabulate (λ i. enumerated ieee power k (λ x. correlationAt (J x) us vs i)) (betas * length us)
+  abbrev correlationsOf : ℕ → List Float
+  correlationsOf k = tabulate (λ i. correlationAt (J (i % 2 ^ k)) us vs (i / 2 ^ k)) (betas * length us * 2 ^ k)
 
-  abbrev eachOf : ℕ → List Float
-  eachOf k = tabulate (λ i. correlationAt (J (i % 2 ^ k)) us vs (i / 2 ^ k)) (betas * length us * 2 ^ k)
-
-  -- of an enumeration of so many free edges, said of those that the graph has
-  pub told-sums : (power : Float → Float) → (r ≡ true → list ≡ sumsOf power free) → length list ≡ betas * length us
-      → Told (badOf free′) (sumsOf power free′) (betas * length us) r list′
-  told-sums power q l =
-      subst (λ (k : ℕ). Told (badOf k) (sumsOf power k) (betas * length us) r list′) f
-      (told-settled (badOf free) r (sumsOf power free) list list′ (betas * length us) t q l e)
-
-  pub told-each : (r ≡ true → list ≡ eachOf free) → length list ≡ betas * length us * 2 ^ free
-      → Told (badOf free′) (eachOf free′) (betas * length us * 2 ^ free) r list′
-  told-each q l =
-      subst (λ (k : ℕ). Told (badOf k) (eachOf k) (betas * length us * 2 ^ free) r list′) f
-      (told-settled (badOf free) r (eachOf free) list list′ (betas * length us * 2 ^ free) t q l e)
+  pub cleared-stored : (free free′ : ℕ) → free ≡ free′ → r ≡ not (unsoundOf free) → list′ ≡ cond r list (zeros (length list))
+      → (r ≡ true → list ≡ correlationsOf free) → length list ≡ betas * length us * 2 ^ free
+      → Answered (unsoundOf free′) (correlationsOf free′) (betas * length us * 2 ^ free) r list′
+  cleared-stored free free′ f t e q l =
+      subst (λ (k : ℕ). Answered (unsoundOf k) (correlationsOf k) (betas * length us * 2 ^ free) r list′) f
+      (cleared-answers (unsoundOf free) r (correlationsOf free) list list′ (betas * length us * 2 ^ free) t q l e)

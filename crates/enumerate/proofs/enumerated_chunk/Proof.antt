@@ -5,7 +5,7 @@ use Prim.Native.Nat.{ℕ, _+_, _-_, _*_, _≤_, _<_}
 use lib.ListN.{length}
 use borrow.Author.Tests.{not-true, not-false}
 use borrow.Rule.Slice.PartMut.{mid-len}
-use Rattle.chunks.specs.Lists.{stage-with, lent-first, part-of}
+use Rattle.chunks.specs.Lists.{stage-with, factors-first, part-of}
 use Rattle.enumerate.specs.Configurations.{Ranging}
 use Rattle.enumerate.proofs.Ranges.{came-back, summed-none, summed-more, not-summed, summed-all}
 use native.Mathlib.Omega.{arith}
@@ -13,10 +13,10 @@ use Rattle.enumerate.proofs.enumerated_chunk.Statement.{statement}
 use Rattle.enumerate.proofs.enumerated_chunk.Tie as tie
 
 abbrev Inv-loop : tie.InvT-loop
-Inv-loop room₀ plan n w scales each us vs order lent betas tree signs₀ first size c₀ squares₀ fourths₀ pairs b₀ room signs c squares fourths b = Ranging plan us vs lent tree betas n w first each size b room₀ room signs₀ signs c₀ c squares₀ squares fourths₀ fourths
+Inv-loop room₀ plan shape us vs order factors betas tree signs₀ first size c₀ squares₀ fourths₀ pairs b₀ room signs c squares fourths b = Ranging plan us vs factors tree betas first shape size b room₀ room signs₀ signs c₀ c squares₀ squares fourths₀ fourths
 
 abbrev μ-loop : tie.MeasureT-loop
-μ-loop room₀ plan n w scales each us vs order lent betas tree signs₀ first size c₀ squares₀ fourths₀ pairs b₀ room signs c squares fourths b = betas - b
+μ-loop room₀ plan shape us vs order factors betas tree signs₀ first size c₀ squares₀ fourths₀ pairs b₀ room signs c squares fourths b = betas - b
 
 loop-holds : tie.Need-loop-holds Inv-loop μ-loop
 loop-holds c = record {
@@ -102,7 +102,7 @@ enumerated-run-requires c κs =
     let h = part-of (l .b) (s .args .betas) np t in
     let k : l .b * np + np - l .b * np ≡ np = omega arith in (
       stage-with (p .0) refl (i .rooms) (i .results),
-      lent-first (l .b) (p .1) t,
+      factors-first (l .b) (p .1) t,
       record { matched = i .marks ∙ p .2 .matched; free = p .2 .free; fits = p .2 .fits },
       mid-len (l .b * np) (l .b * np + np) (l .squares) (omega (arith, h, i .squareds, p .3)) ∙ k,
       mid-len (l .b * np) (l .b * np + np) (l .fourths) (omega (arith, h, i .fourthds, p .4)) ∙ k,
@@ -112,10 +112,10 @@ same-length : tie.Need-same-length Inv-loop μ-loop
 same-length c = c .before .before .before .before .before .before .before .before .before .before .before .enumerated-run .kept .0 ∙ c .before .before .before .before .before .before .before .before .before .before .before .before .before .before .before .before .before .before .loop .inv .rooms
 
 same-length-2 : tie.Need-same-length-2 Inv-loop μ-loop
-same-length-2 c = c .before .before .before .before .before .before .before .before .before .before .before .enumerated-run .kept .1 .1 .1 .1 .1 .1 .1 .1 .1 .1 .1 .1 .0 ∙ c .before .before .before .before .before .before .before .before .before .before .before .before .before .before .before .before .before .before .loop .inv .marks
+same-length-2 c = c .before .before .before .before .before .before .before .before .before .before .before .enumerated-run .kept .1 .1 .1 .1 .1 .1 .1 .1 .1 .0 ∙ c .before .before .before .before .before .before .before .before .before .before .before .before .before .before .before .before .before .before .loop .inv .marks
 
 same-length-3 : tie.Need-same-length-3 Inv-loop μ-loop
-same-length-3 c = c .before .before .before .before .before .before .before .before .before .before .before .enumerated-run .kept .1 .1 .1 .1 .1 .1 .1 .1 .1 .1 .1 .1 .1 .1 .1 .0 ∙ c .before .before .before .before .before .before .before .before .before .before .before .before .before .before .before .before .before .before .loop .inv .results
+same-length-3 c = c .before .before .before .before .before .before .before .before .before .before .before .enumerated-run .kept .1 .1 .1 .1 .1 .1 .1 .1 .1 .1 .1 .1 .0 ∙ c .before .before .before .before .before .before .before .before .before .before .before .before .before .before .before .before .before .before .loop .inv .results
 
 same-length-4 : tie.Need-same-length-4 Inv-loop μ-loop
 same-length-4 c = c .before .before .before .before .squares .given .1 ∙ c .before .before .before .before .before .before .before .before .before .before .before .before .before .before .before .before .before .before .loop .inv .squareds
@@ -133,8 +133,8 @@ returns c =
     let t : l .b < a .betas = omega (arith, c .before .before .before .before .before .before .before .before .before .before .before .before .before .before .before .before .before .loop-test .taken) in
     let no : true ≡ false → ⊥ = λ z. (let z′ : _≡_ {A = ℕ} 0 1 = cc in omega arith) in
     λ J of.
-    let told = run .ensures (λ x. J x (l .b)) (λ x. of x (l .b) t) in
-    (not-summed (λ j. J (a .first + j)) _ _ _ (l .b) _ _ _ (i .summed J of) (told .0) _ t (not-true _ (c .if1 .taken)), λ z. absurd (no (sym z)))
+    let said = run .ensures (λ x. J x (l .b)) (λ x. of x (l .b) t) in
+    (not-summed J _ _ _ (l .b) _ _ _ (i .summed J of) (said .0) _ t (not-true _ (c .if1 .taken)), λ z. absurd (no (sym z)))
 
 add-b : tie.Need-add-b Inv-loop μ-loop
 add-b c = omega (arith, c .before .before .before .before .before .before .before .before .before .before .before .before .before .before .before .before .before .loop-test .taken, c .before .before .before .before .before .before .before .before .before .before .before .before .before .before .before .before .before .before .before .before .before .before .before .before .before .before .before .before .before .before .fits .betas)
@@ -157,18 +157,18 @@ loop-again c =
     let k : at + np - at ≡ np = omega arith in
     let fits : at + np ≤ length (l .squares) = omega (arith, i .squareds, s .pre .3) in
     let fits′ : at + np ≤ length (l .fourths) = omega (arith, i .fourthds, s .pre .4) in
-    let full = run .kept .1 .1 .1 .1 .1 .1 .1 .1 .1 .1 .1 .1 .1 .1 .1 .1 .0 ∙ mid-len at (at + np) (l .squares) fits ∙ k in
-    let full′ = run .kept .1 .1 .1 .1 .1 .1 .1 .1 .1 .1 .1 .1 .1 .1 .1 .1 .1 .0 ∙ mid-len at (at + np) (l .fourths) fits′ ∙ k in
+    let full = run .kept .1 .1 .1 .1 .1 .1 .1 .1 .1 .1 .1 .1 .1 .0 ∙ mid-len at (at + np) (l .squares) fits ∙ k in
+    let full′ = run .kept .1 .1 .1 .1 .1 .1 .1 .1 .1 .1 .1 .1 .1 .1 .0 ∙ mid-len at (at + np) (l .fourths) fits′ ∙ k in
     record {
       below = omega arith;
       rooms = run .kept .0 ∙ i .rooms;
-      marks = run .kept .1 .1 .1 .1 .1 .1 .1 .1 .1 .1 .1 .1 .0 ∙ i .marks;
-      results = run .kept .1 .1 .1 .1 .1 .1 .1 .1 .1 .1 .1 .1 .1 .1 .1 .0 ∙ i .results;
+      marks = run .kept .1 .1 .1 .1 .1 .1 .1 .1 .1 .0 ∙ i .marks;
+      results = run .kept .1 .1 .1 .1 .1 .1 .1 .1 .1 .1 .1 .1 .0 ∙ i .results;
       squareds = c .before .before .before .before .squares .given .1 ∙ i .squareds;
       fourthds = c .before .before .fourths .given .1 ∙ i .fourthds;
       summed = λ J of.
-          let told = run .ensures (λ x. J x (l .b)) (λ x. of x (l .b) t) in
-          summed-more (λ j. J (a .first + j)) _ _ _ (l .b) _ _ _ (i .summed J of) (told .0) _ _ _ _ yes (told .1 yes) full full′ fits fits′
+          let said = run .ensures (λ x. J x (l .b)) (λ x. of x (l .b) t) in
+          summed-more J _ _ _ (l .b) _ _ _ (i .summed J of) (said .0) _ _ _ _ yes (said .1 yes) full full′ fits fits′
           (came-back (l .squares) _ at _ (full ∙ sym k)) (came-back (l .fourths) _ at _ (full′ ∙ sym k));
     }
 

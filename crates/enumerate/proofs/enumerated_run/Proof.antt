@@ -1,4 +1,4 @@
--- Each turn makes the signs, finds what stands of the configuration before, and adds the powers of the new one.
+-- Each iteration makes the signs, finds what stands of the configuration before, and adds the powers of the new one.
 use mathlib.Core.Path.{_≡_, refl, sym, ap, _∙_}
 use mathlib.Core.Bool.{true, false, not}
 use Prim.Native.Nat.{ℕ, _+_, _-_, _<_}
@@ -8,7 +8,7 @@ use Rattle.sweep.specs.Constants.{zero-is}
 use Rattle.transfer.specs.Job.{Job}
 use Rattle.chunks.specs.Powers.{AddedBeta}
 use Rattle.chunks.specs.Sums.{passed-none, passed-more, not-passed}
-use Rattle.chunks.specs.Lists.{filled, stage-with, lent-with}
+use Rattle.chunks.specs.Lists.{filled, stage-with, factors-with}
 use Rattle.enumerate.specs.Configurations.{PlanOfBeta, Counting}
 use Rattle.enumerate.proofs.Standing.{edges-in, run-stands, signed-at}
 use native.Mathlib.Omega.{arith}
@@ -16,26 +16,26 @@ use Rattle.enumerate.proofs.enumerated_run.Statement.{statement}
 use Rattle.enumerate.proofs.enumerated_run.Tie as tie
 
 abbrev Inv-loop : tie.InvT-loop
-Inv-loop room₀ plan n w scales each us vs order lent b tree signs₀ first size c₀ squares₀ fourths₀ sums j₀ room signs c squares fourths j = Counting plan us vs lent tree b n w first each j size room₀ room signs₀ signs c₀ c squares₀ squares fourths₀ fourths
+Inv-loop room₀ plan shape us vs order factors b tree signs₀ first size c₀ squares₀ fourths₀ sums j₀ room signs c squares fourths j = Counting plan us vs factors tree b first shape j size room₀ room signs₀ signs c₀ c squares₀ squares fourths₀ fourths
 
 abbrev μ-loop : tie.MeasureT-loop
-μ-loop room₀ plan n w scales each us vs order lent b tree signs₀ first size c₀ squares₀ fourths₀ sums j₀ room signs c squares fourths j = size - j
+μ-loop room₀ plan shape us vs order factors b tree signs₀ first size c₀ squares₀ fourths₀ sums j₀ room signs c squares fourths j = size - j
 
--- what the beta's function told of configuration j
-told : (c : tie.After-add-beta Inv-loop μ-loop)
+-- what was added at configuration j
+added : (c : tie.After-add-beta Inv-loop μ-loop)
     → let a = c .before .before .before .before .before .before .before .before .before .before .before .before .before .before .before .before .before .before .before .before .before .before .before .before .before .before .before .before .before .before .before .before .args in
     let l = c .before .before .before .before .before .before .before .before .before .before .before .before .loop in
     let r = c .add-beta in
-    (J : ℕ → Job Float) → PlanOfBeta J (a .plan .now) (a .lent .now) (a .tree .now) (a .b) (a .n) (a .w) (a .each)
-    → AddedBeta (J (a .first + l .j)) (a .plan .now) (a .us .now) (a .vs .now) (r .last .0) (a .n) (a .w) (r .result) (l .squares) (r .last .1 .1 .1 .1 .1 .1 .1 .1 .1 .1 .1 .1 .1 .1 .0) (l .fourths) (r .last .1 .1 .1 .1 .1 .1 .1 .1 .1 .1 .1 .1 .1 .1 .1 .0)
-told c J of =
+    (J : ℕ → Job Float) → PlanOfBeta J (a .plan .now) (a .factors .now) (a .tree .now) (a .first) (a .b) (a .shape)
+    → AddedBeta (J (l .j)) (a .plan .now) (a .us .now) (a .vs .now) (r .last .0) (a .shape .n) (a .shape .w) (r .result) (l .squares) (r .last .1 .1 .1 .1 .1 .1 .1 .1 .1 .1 .1 .0) (l .fourths) (r .last .1 .1 .1 .1 .1 .1 .1 .1 .1 .1 .1 .1 .0)
+added c J of =
     let s = c .before .before .before .before .before .before .before .before .before .before .before .before .before .before .before .before .before .before .before .before .before .before .before .before .before .before .before .before .before .before .before .before in
     let a = s .args in
     let l = c .before .before .before .before .before .before .before .before .before .before .before .before .loop in
     let e = c .before .before .before .before .before .before .before .before .before .enumerated-signs in
-    c .add-beta .ensures (J (a .first + l .j))
-    (signed-at (J (a .first + l .j)) (a .plan .now) (a .lent .now) (a .tree .now) _ (a .b) (a .n) (a .w) (a .first + l .j) (a .each) (e .ensures .0) (of (a .first + l .j)))
-    (run-stands (a .plan .now) (a .lent .now) (a .tree .now) (l .signs) _ (l .room) _ (a .n) (a .w) (a .scales) (a .each) (a .b) (a .first) (l .j) _ _ (s .pre .0 .ready) (s .pre .0 .ends) (c .before .before .before .before .before .before .standing-from .ensures) (l .inv .signed) (e .ensures .0) (e .ensures .1) J of (l .inv .stands J of))
+    c .add-beta .ensures (J (l .j))
+    (signed-at (J (l .j)) (a .plan .now) (a .factors .now) (a .tree .now) _ (a .b) (a .first + l .j) (a .shape) (e .ensures .0) (of (l .j)))
+    (run-stands (a .plan .now) (a .factors .now) (a .tree .now) (l .signs) _ (l .room) _ (a .shape) (a .b) (a .first) (l .j) _ _ (s .pre .0 .ready) (s .pre .0 .ends) (c .before .before .before .before .before .before .standing-from .ensures) (l .inv .signed) (e .ensures .0) (e .ensures .1) J of (l .inv .stands J of))
 
 fill-requires : tie.Need-fill-requires Inv-loop μ-loop
 fill-requires c κs = omega arith
@@ -74,7 +74,7 @@ add-beta-requires c κs =
     let p = c .before .before .before .before .before .before .before .before .before .before .before .before .before .before .before .before .before .before .before .before .before .before .before .before .before .before .before .before .before .before .before .pre in
     let i = c .before .before .before .before .before .before .before .before .before .before .before .loop .inv in
     let m = c .before .before .before .before .before .before .before .before .enumerated-signs .kept .0 ∙ i .marks ∙ p .2 .matched in
-    (stage-with (p .0) m (i .rooms) (i .results), lent-with (p .1) m, i .squareds ∙ c .before .before .before .before .before .before .before .before .before .before .before .before .before .before .before .before .before .before .fill .kept .0 ∙ p .3, i .fourthds ∙ c .before .before .before .before .before .before .before .before .before .before .before .before .before .before .fill2 .kept .0 ∙ p .4)
+    (stage-with (p .0) m (i .rooms) (i .results), factors-with (p .1) m, i .squareds ∙ c .before .before .before .before .before .before .before .before .before .before .before .before .before .before .before .before .before .before .fill .kept .0 ∙ p .3, i .fourthds ∙ c .before .before .before .before .before .before .before .before .before .before .before .before .before .before .fill2 .kept .0 ∙ p .4)
 
 same-length : tie.Need-same-length Inv-loop μ-loop
 same-length c = c .before .before .before .before .before .before .before .before .before .add-beta .kept .0 ∙ c .before .before .before .before .before .before .before .before .before .before .before .before .before .before .before .before .before .before .before .before .before .loop .inv .rooms
@@ -83,13 +83,13 @@ same-length-2 : tie.Need-same-length-2 Inv-loop μ-loop
 same-length-2 c = c .before .before .before .before .before .before .before .before .before .before .before .before .before .before .before .before .before .before .enumerated-signs .kept .0 ∙ c .before .before .before .before .before .before .before .before .before .before .before .before .before .before .before .before .before .before .before .before .before .loop .inv .marks
 
 same-length-3 : tie.Need-same-length-3 Inv-loop μ-loop
-same-length-3 c = c .before .before .before .before .before .before .before .before .before .add-beta .kept .1 .1 .1 .1 .1 .1 .1 .1 .1 .1 .1 .1 .1 .0 ∙ c .before .before .before .before .before .before .before .before .before .before .before .before .before .before .before .before .before .before .before .before .before .loop .inv .results
+same-length-3 c = c .before .before .before .before .before .before .before .before .before .add-beta .kept .1 .1 .1 .1 .1 .1 .1 .1 .1 .1 .0 ∙ c .before .before .before .before .before .before .before .before .before .before .before .before .before .before .before .before .before .before .before .before .before .loop .inv .results
 
 same-length-4 : tie.Need-same-length-4 Inv-loop μ-loop
-same-length-4 c = c .before .before .before .before .before .before .before .before .before .add-beta .kept .1 .1 .1 .1 .1 .1 .1 .1 .1 .1 .1 .1 .1 .1 .0 ∙ c .before .before .before .before .before .before .before .before .before .before .before .before .before .before .before .before .before .before .before .before .before .loop .inv .squareds ∙ c .before .before .before .before .before .before .before .before .before .before .before .before .before .before .before .before .before .before .before .before .before .before .before .before .before .before .before .before .fill .kept .0
+same-length-4 c = c .before .before .before .before .before .before .before .before .before .add-beta .kept .1 .1 .1 .1 .1 .1 .1 .1 .1 .1 .1 .0 ∙ c .before .before .before .before .before .before .before .before .before .before .before .before .before .before .before .before .before .before .before .before .before .loop .inv .squareds ∙ c .before .before .before .before .before .before .before .before .before .before .before .before .before .before .before .before .before .before .before .before .before .before .before .before .before .before .before .before .fill .kept .0
 
 same-length-5 : tie.Need-same-length-5 Inv-loop μ-loop
-same-length-5 c = c .before .before .before .before .before .before .before .before .before .add-beta .kept .1 .1 .1 .1 .1 .1 .1 .1 .1 .1 .1 .1 .1 .1 .1 .0 ∙ c .before .before .before .before .before .before .before .before .before .before .before .before .before .before .before .before .before .before .before .before .before .loop .inv .fourthds ∙ c .before .before .before .before .before .before .before .before .before .before .before .before .before .before .before .before .before .before .before .before .before .before .before .before .fill2 .kept .0
+same-length-5 c = c .before .before .before .before .before .before .before .before .before .add-beta .kept .1 .1 .1 .1 .1 .1 .1 .1 .1 .1 .1 .1 .0 ∙ c .before .before .before .before .before .before .before .before .before .before .before .before .before .before .before .before .before .before .before .before .before .loop .inv .fourthds ∙ c .before .before .before .before .before .before .before .before .before .before .before .before .before .before .before .before .before .before .before .before .before .before .before .before .fill2 .kept .0
 
 returns : tie.Need-returns Inv-loop μ-loop
 returns c =
@@ -100,7 +100,7 @@ returns c =
     let t : l .j < a .size = omega (arith, c .before .before .before .before .before .before .before .before .before .before .before .before .before .before .before .before .before .before .before .before .loop-test .taken) in
     let no : true ≡ false → ⊥ = λ z. (let z′ : _≡_ {A = ℕ} 0 1 = cc in omega arith) in
     λ J of.
-    (not-passed _ _ _ (l .j) _ _ (i .passed J of) _ (told (c .before .before .before .before .before .before .before .before .before) J of .told) _ t (not-true _ (c .if1 .taken)), λ z. absurd (no (sym z)))
+    (not-passed _ _ _ (l .j) _ _ (i .passed J of) _ (added (c .before .before .before .before .before .before .before .before .before) J of .verdict) _ t (not-true _ (c .if1 .taken)), λ z. absurd (no (sym z)))
 
 add-j : tie.Need-add-j Inv-loop μ-loop
 add-j c = omega (arith, c .before .before .before .before .before .before .before .before .before .before .before .before .before .before .before .before .before .before .before .before .loop-test .taken, c .before .before .before .before .before .before .before .before .before .before .before .before .before .before .before .before .before .before .before .before .before .before .before .before .before .before .before .before .before .before .before .before .before .before .before .before .before .before .before .before .before .pre .2 .fits)
@@ -122,14 +122,14 @@ loop-again c =
       below = omega arith;
       rooms = add .kept .0 ∙ i .rooms;
       marks = e .kept .0 ∙ i .marks;
-      results = add .kept .1 .1 .1 .1 .1 .1 .1 .1 .1 .1 .1 .1 .1 .0 ∙ i .results;
-      squareds = add .kept .1 .1 .1 .1 .1 .1 .1 .1 .1 .1 .1 .1 .1 .1 .0 ∙ i .squareds;
-      fourthds = add .kept .1 .1 .1 .1 .1 .1 .1 .1 .1 .1 .1 .1 .1 .1 .1 .0 ∙ i .fourthds;
+      results = add .kept .1 .1 .1 .1 .1 .1 .1 .1 .1 .1 .0 ∙ i .results;
+      squareds = add .kept .1 .1 .1 .1 .1 .1 .1 .1 .1 .1 .1 .0 ∙ i .squareds;
+      fourthds = add .kept .1 .1 .1 .1 .1 .1 .1 .1 .1 .1 .1 .1 .0 ∙ i .fourthds;
       signed = λ k z. let same : k ≡ l .j = omega arith in rw same (e .ensures .0);
-      stands = λ J of k z. let same : k ≡ l .j = omega arith in rw same (told (c .before .before .before .before .before .before .before .before .before) J of .kept);
+      stands = λ J of k z. let same : k ≡ l .j = omega arith in rw same (added (c .before .before .before .before .before .before .before .before .before) J of .kept);
       passed = λ J of.
-          let t = told (c .before .before .before .before .before .before .before .before .before) J of in
-          passed-more _ _ _ (l .j) _ _ (i .passed J of) _ (t .told) _ _ yes (t .powers yes);
+          let t = added (c .before .before .before .before .before .before .before .before .before) J of in
+          passed-more _ _ _ (l .j) _ _ (i .passed J of) _ (t .verdict) _ _ yes (t .powers yes);
     }
 
 same-length-6 : tie.Need-same-length-6 Inv-loop μ-loop

@@ -6,7 +6,7 @@ use lib.ListN.{length}
 use borrow.Author.Tests.{not-true, not-false}
 use Rattle.sweep.specs.Constants.{zero-is}
 use Rattle.chunks.specs.Sums.{passed-none, passed-more, not-passed}
-use Rattle.chunks.specs.Lists.{filled, stage-with, lent-with, signed-of}
+use Rattle.chunks.specs.Lists.{filled, stage-with, factors-with, signed-of}
 use Rattle.vector.specs.Tabulate.{tabulate}
 use Rattle.transfer.specs.Configuration.{drawn, wordsPerSample}
 use Rattle.sample.specs.Samples.{Sampling}
@@ -22,24 +22,20 @@ use Rattle.signs.proofs.sampled_signs.Reads as sampled-signs-reads
 use Rattle.sweep.proofs.fill.Reads as fill-reads
 
 abbrev Inv-loop : tie.InvT-loop
-Inv-loop room₀ plan n w scales each us vs order lent betas seed chunk samples signs₀ c₀ squares₀ fourths₀ sums rng₀ j₀ room signs c squares fourths rng j = Sampling plan us vs lent seed chunk betas n w each (rng .s) j samples room₀ room signs₀ signs c₀ c squares₀ squares fourths₀ fourths
+Inv-loop room₀ plan shape us vs order factors betas seed chunk samples signs₀ c₀ squares₀ fourths₀ sums rng₀ j₀ room signs c squares fourths rng j = Sampling plan us vs factors seed chunk betas shape (rng .s) j samples room₀ room signs₀ signs c₀ c squares₀ squares fourths₀ fourths
 
 abbrev μ-loop : tie.MeasureT-loop
-μ-loop room₀ plan n w scales each us vs order lent betas seed chunk samples signs₀ c₀ squares₀ fourths₀ sums rng₀ j₀ room signs c squares fourths rng j = samples - j
+μ-loop room₀ plan shape us vs order factors betas seed chunk samples signs₀ c₀ squares₀ fourths₀ sums rng₀ j₀ room signs c squares fourths rng j = samples - j
 
--- src/chunk.rt:51:5
 fill-requires : tie.Need-fill-requires Inv-loop μ-loop
 fill-requires c κs = omega arith
 
--- src/chunk.rt:52:5
 fill-requires-2 : tie.Need-fill-requires-2 Inv-loop μ-loop
 fill-requires-2 c κs = omega (arith, c .before .before .before .before .before .before .before .before .before .before .before .before .before .before .before .pre .2, c .before .before .before .before .before .before .before .before .before .before .before .before .before .before .before .pre .3)
 
--- src/chunk.rt:53:9
 stream-requires : tie.Need-stream-requires Inv-loop μ-loop
 stream-requires c κs = search needs
 
--- src/chunk.rt:55:5
 loop-holds : tie.Need-loop-holds Inv-loop μ-loop
 loop-holds c =
     let s = c .before .before .before .before .before .before .before .before .before .before .before .before .before .before .before .before .before .before .before in
@@ -56,39 +52,31 @@ loop-holds c =
           (filled (s .args .fourths .now) _ _ _ _ (p .2 ∙ sym (p .3)) (p .2) (c .before .before .before .fill2 .ensures));
     }
 
--- src/chunk.rt:56:9
 sampled-signs-requires : tie.Need-sampled-signs-requires Inv-loop μ-loop
 sampled-signs-requires c κs = search needs
 
--- src/chunk.rt:57:13
 add-configuration-requires : tie.Need-add-configuration-requires Inv-loop μ-loop
 add-configuration-requires c κs =
     let p = c .before .before .before .before .before .before .before .before .before .before .before .before .before .before .before .before .before .before .before .before .before .before .before .before .before .before .before .before .before .before .pre in
     let i = c .before .before .before .before .before .before .before .before .before .before .loop .inv in
     let m = c .before .before .before .before .before .before .before .sampled-signs .kept .0 ∙ i .marks in
-    (stage-with (p .0) m (i .rooms) (i .results), lent-with (p .1) m, i .squareds ∙ c .before .before .before .before .before .before .before .before .before .before .before .before .before .before .before .before .before .before .fill .kept .0 ∙ p .2, i .fourthds ∙ c .before .before .before .before .before .before .before .before .before .before .before .before .before .before .fill2 .kept .0 ∙ p .3)
+    (stage-with (p .0) m (i .rooms) (i .results), factors-with (p .1) m, i .squareds ∙ c .before .before .before .before .before .before .before .before .before .before .before .before .before .before .before .before .before .before .fill .kept .0 ∙ p .2, i .fourthds ∙ c .before .before .before .before .before .before .before .before .before .before .before .before .before .before .fill2 .kept .0 ∙ p .3)
 
--- src/chunk.rt:74:13
 same-length : tie.Need-same-length Inv-loop μ-loop
 same-length c = c .before .before .before .before .before .before .before .before .before .add-configuration .kept .0 ∙ c .before .before .before .before .before .before .before .before .before .before .before .before .before .before .before .before .before .before .before .before .loop .inv .rooms
 
--- src/chunk.rt:74:13
 same-length-2 : tie.Need-same-length-2 Inv-loop μ-loop
 same-length-2 c = c .before .before .before .before .before .before .before .before .before .before .before .before .before .before .before .before .before .sampled-signs .kept .0 ∙ c .before .before .before .before .before .before .before .before .before .before .before .before .before .before .before .before .before .before .before .before .loop .inv .marks
 
--- src/chunk.rt:74:13
 same-length-3 : tie.Need-same-length-3 Inv-loop μ-loop
-same-length-3 c = c .before .before .before .before .before .before .before .before .before .add-configuration .kept .1 .1 .1 .1 .1 .1 .1 .1 .1 .1 .1 .1 .0 ∙ c .before .before .before .before .before .before .before .before .before .before .before .before .before .before .before .before .before .before .before .before .loop .inv .results
+same-length-3 c = c .before .before .before .before .before .before .before .before .before .add-configuration .kept .1 .1 .1 .1 .1 .1 .1 .1 .1 .0 ∙ c .before .before .before .before .before .before .before .before .before .before .before .before .before .before .before .before .before .before .before .before .loop .inv .results
 
--- src/chunk.rt:74:13
 same-length-4 : tie.Need-same-length-4 Inv-loop μ-loop
-same-length-4 c = c .before .before .before .before .before .before .before .before .before .add-configuration .kept .1 .1 .1 .1 .1 .1 .1 .1 .1 .1 .1 .1 .1 .0 ∙ c .before .before .before .before .before .before .before .before .before .before .before .before .before .before .before .before .before .before .before .before .loop .inv .squareds ∙ c .before .before .before .before .before .before .before .before .before .before .before .before .before .before .before .before .before .before .before .before .before .before .before .before .before .before .before .before .fill .kept .0
+same-length-4 c = c .before .before .before .before .before .before .before .before .before .add-configuration .kept .1 .1 .1 .1 .1 .1 .1 .1 .1 .1 .0 ∙ c .before .before .before .before .before .before .before .before .before .before .before .before .before .before .before .before .before .before .before .before .loop .inv .squareds ∙ c .before .before .before .before .before .before .before .before .before .before .before .before .before .before .before .before .before .before .before .before .before .before .before .before .before .before .before .before .fill .kept .0
 
--- src/chunk.rt:74:13
 same-length-5 : tie.Need-same-length-5 Inv-loop μ-loop
-same-length-5 c = c .before .before .before .before .before .before .before .before .before .add-configuration .kept .1 .1 .1 .1 .1 .1 .1 .1 .1 .1 .1 .1 .1 .1 .0 ∙ c .before .before .before .before .before .before .before .before .before .before .before .before .before .before .before .before .before .before .before .before .loop .inv .fourthds ∙ c .before .before .before .before .before .before .before .before .before .before .before .before .before .before .before .before .before .before .before .before .before .before .before .before .fill2 .kept .0
+same-length-5 c = c .before .before .before .before .before .before .before .before .before .add-configuration .kept .1 .1 .1 .1 .1 .1 .1 .1 .1 .1 .1 .0 ∙ c .before .before .before .before .before .before .before .before .before .before .before .before .before .before .before .before .before .before .before .before .loop .inv .fourthds ∙ c .before .before .before .before .before .before .before .before .before .before .before .before .before .before .before .before .before .before .before .before .before .before .before .before .fill2 .kept .0
 
--- src/chunk.rt:74:13
 returns : tie.Need-returns Inv-loop μ-loop
 returns c =
     let s = c .before .before .before .before .before .before .before .before .before .before .before .before .before .before .before .before .before .before .before .before .before .before .before .before .before .before .before .before .before .before .before .before .before .before .before .before .before .before .before .before in
@@ -99,18 +87,15 @@ returns c =
     let t : l .j < s .args .samples = omega (arith, c .before .before .before .before .before .before .before .before .before .before .before .before .before .before .before .before .before .before .before .loop-test .taken) in
     let no : true ≡ false → ⊥ = λ z. (let z′ : _≡_ {A = ℕ} 0 1 = cc in omega arith) in
     λ J of.
-    let told = a .ensures (J (l .j)) (signed-of (J (l .j)) (s .args .plan .now) (s .args .lent .now) _ _ (length (s .args .signs .now)) (s .args .betas) (s .args .n) (s .args .w) (s .args .each) q (of (l .j))) in
+    let told = a .ensures (J (l .j)) (signed-of (J (l .j)) (s .args .plan .now) (s .args .factors .now) _ _ (length (s .args .signs .now)) (s .args .betas) (s .args .shape) q (of (l .j))) in
     (not-passed _ _ _ (l .j) _ _ (l .inv .passed J of) _ (told .0) _ t (not-true _ (c .if1 .taken)), λ z. absurd (no (sym z)))
 
--- src/chunk.rt:76:9
 add-j : tie.Need-add-j Inv-loop μ-loop
 add-j c = omega (arith, c .before .before .before .before .before .before .before .before .before .before .before .before .before .before .before .before .before .before .before .loop-test .taken, c .before .before .before .before .before .before .before .before .before .before .before .before .before .before .before .before .before .before .before .before .before .before .before .before .before .before .before .before .before .before .before .before .before .before .before .before .before .before .before .before .good)
 
--- src/chunk.rt:55:5
 loop-less : tie.Need-loop-less Inv-loop μ-loop
 loop-less c = omega (arith, c .before .before .before .before .before .before .before .before .before .before .before .before .before .before .before .before .before .before .before .loop-test .taken)
 
--- src/chunk.rt:55:5
 loop-again : tie.Need-loop-again Inv-loop μ-loop
 loop-again c =
     let s = c .before .before .before .before .before .before .before .before .before .before .before .before .before .before .before .before .before .before .before .before .before .before .before .before .before .before .before .before .before .before .before .before .before .before .before .before .before .before .before .before in
@@ -126,35 +111,29 @@ loop-again c =
       generator = words-more _ _ _ _ _ (i .generator) (e .ensures .1 ∙ ap (λ (k : ℕ). drawn (l .rng .s) (wordsPerSample k)) (i .marks));
       rooms = a .kept .0 ∙ i .rooms;
       marks = e .kept .0 ∙ i .marks;
-      results = a .kept .1 .1 .1 .1 .1 .1 .1 .1 .1 .1 .1 .1 .0 ∙ i .results;
-      squareds = a .kept .1 .1 .1 .1 .1 .1 .1 .1 .1 .1 .1 .1 .1 .0 ∙ i .squareds;
-      fourthds = a .kept .1 .1 .1 .1 .1 .1 .1 .1 .1 .1 .1 .1 .1 .1 .0 ∙ i .fourthds;
+      results = a .kept .1 .1 .1 .1 .1 .1 .1 .1 .1 .0 ∙ i .results;
+      squareds = a .kept .1 .1 .1 .1 .1 .1 .1 .1 .1 .1 .0 ∙ i .squareds;
+      fourthds = a .kept .1 .1 .1 .1 .1 .1 .1 .1 .1 .1 .1 .0 ∙ i .fourthds;
       passed = λ J of.
-          let told = a .ensures (J (l .j)) (signed-of (J (l .j)) (s .args .plan .now) (s .args .lent .now) _ _ (length (s .args .signs .now)) (s .args .betas) (s .args .n) (s .args .w) (s .args .each) q (of (l .j))) in
+          let told = a .ensures (J (l .j)) (signed-of (J (l .j)) (s .args .plan .now) (s .args .factors .now) _ _ (length (s .args .signs .now)) (s .args .betas) (s .args .shape) q (of (l .j))) in
           passed-more _ _ _ (l .j) _ _ (i .passed J of) _ (told .0) _ _ yes (told .1 yes);
     }
 
--- src/chunk.rt:21:1
 same-length-6 : tie.Need-same-length-6 Inv-loop μ-loop
 same-length-6 c = c .before .loop .inv .rooms
 
--- src/chunk.rt:21:1
 same-length-7 : tie.Need-same-length-7 Inv-loop μ-loop
 same-length-7 c = c .before .loop .inv .marks
 
--- src/chunk.rt:21:1
 same-length-8 : tie.Need-same-length-8 Inv-loop μ-loop
 same-length-8 c = c .before .loop .inv .results
 
--- src/chunk.rt:21:1
 same-length-9 : tie.Need-same-length-9 Inv-loop μ-loop
 same-length-9 c = c .before .loop .inv .squareds ∙ c .before .before .before .before .before .before .before .before .before .fill .kept .0
 
--- src/chunk.rt:21:1
 same-length-10 : tie.Need-same-length-10 Inv-loop μ-loop
 same-length-10 c = c .before .loop .inv .fourthds ∙ c .before .before .before .before .before .fill2 .kept .0
 
--- src/chunk.rt:21:1
 returns-2 : tie.Need-returns-2 Inv-loop μ-loop
 returns-2 c =
     let s = c .before .before .before .before .before .before .before .before .before .before .before .before .before .before .before .before .before .before .before .before .before in

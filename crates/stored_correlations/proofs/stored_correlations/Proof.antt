@@ -7,7 +7,7 @@ use lib.ListN.{length}
 use lib.Pow.{pow-mono, pow-pos}
 use borrow.Author.Tests.{not-true, not-false}
 use Rattle.vector.specs.Search as Search
-use Rattle.chunks.specs.Lists.{stage-with, lent-with, signed-of}
+use Rattle.chunks.specs.Lists.{stage-with, factors-with, signed-of}
 use Rattle.chunks.specs.Nothing.{never, none-unsound, no-product, empty-list}
 use Rattle.chunks.specs.Passing.{one-passed, one-failed}
 use Rattle.stored_correlations.specs.Stored.{Stored, stored-none, stored-next, stored-all}
@@ -22,12 +22,11 @@ use Rattle.signs.proofs.enumerated_signs.Reads as enumerated-signs-reads
 use Rattle.sweep.proofs.pow2.Reads as pow2-reads
 
 abbrev Inv-loop : tie.InvT-loop
-Inv-loop room₀ plan n w scales each us vs order lent betas tree signs₀ free c₀ stored₀ all x₀ room signs c stored x = (all ≡ 2 ^ free) × Keeping plan us vs lent tree betas n w each x all room₀ room signs₀ signs c₀ c stored₀ stored
+Inv-loop room₀ plan shape us vs order factors betas tree signs₀ free c₀ stored₀ all x₀ room signs c stored x = (all ≡ 2 ^ free) × Keeping plan us vs factors tree betas shape x all room₀ room signs₀ signs c₀ c stored₀ stored
 
 abbrev μ-loop : tie.MeasureT-loop
-μ-loop room₀ plan n w scales each us vs order lent betas tree signs₀ free c₀ stored₀ all x₀ room signs c stored x = all - x
+μ-loop room₀ plan shape us vs order factors betas tree signs₀ free c₀ stored₀ all x₀ room signs c stored x = all - x
 
--- src/store.rt:47:9
 returns : tie.Need-returns Inv-loop μ-loop
 returns c =
     let s = c .before .before .before .before .before .before .before .before .before .before .before in
@@ -36,11 +35,9 @@ returns c =
     let some = pow-pos (s .args .free) in
     λ J of. (never _ _ (λ x. none-unsound (J x) (s .args .us .now) (s .args .vs .now) _ (no-product _ _ some (sym (p .4) ∙ z))), λ _. empty-list _ _ _ (p .4) z)
 
--- src/store.rt:49:9
 pow2-requires : tie.Need-pow2-requires Inv-loop μ-loop
 pow2-requires c κs = let p = c .before .before .before .before .before .before .before .before .before .before .before .pre .3 in omega arith
 
--- src/store.rt:51:5
 loop-holds : tie.Need-loop-holds Inv-loop μ-loop
 loop-holds c =
     let s = c .before .before .before .before .before .before .before .before .before .before .before .before in (
@@ -55,35 +52,28 @@ loop-holds c =
       },
     )
 
--- src/store.rt:52:9
 enumerated-signs-requires : tie.Need-enumerated-signs-requires Inv-loop μ-loop
 enumerated-signs-requires c κs = let p = c .before .before .before .before .before .before .before .before .before .before .before .before .before .before .before .pre .2 in (c .before .before .loop .inv .1 .marks ∙ p .matched, p .free)
 
--- src/store.rt:53:13
 store-configuration-requires : tie.Need-store-configuration-requires Inv-loop μ-loop
 store-configuration-requires c κs =
     let p = c .before .before .before .before .before .before .before .before .before .before .before .before .before .before .before .before .before .before .before .before .before .before .pre in
     let i = c .before .before .before .before .before .before .before .before .before .loop .inv in
     let m = c .before .before .before .before .before .before .enumerated-signs .kept .0 ∙ i .1 .marks ∙ p .2 .matched in
-    (stage-with (p .0) m (i .1 .rooms) (i .1 .results), lent-with (p .1) m, c .before .before .before .before .before .before .before .before .loop-test .taken, i .1 .storeds ∙ p .4 ∙ ap (λ (k : ℕ). c .before .before .before .before .before .before .before .before .before .before .before .before .before .before .before .before .before .before .before .before .before .before .args .betas * length (c .before .before .before .before .before .before .before .before .before .before .before .before .before .before .before .before .before .before .before .before .before .before .args .us .now) * k) (sym (i .0)))
+    (stage-with (p .0) m (i .1 .rooms) (i .1 .results), factors-with (p .1) m, c .before .before .before .before .before .before .before .before .loop-test .taken, i .1 .storeds ∙ p .4 ∙ ap (λ (k : ℕ). c .before .before .before .before .before .before .before .before .before .before .before .before .before .before .before .before .before .before .before .before .before .before .args .betas * length (c .before .before .before .before .before .before .before .before .before .before .before .before .before .before .before .before .before .before .before .before .before .before .args .us .now) * k) (sym (i .0)))
 
--- src/store.rt:71:13
 same-length : tie.Need-same-length Inv-loop μ-loop
 same-length c = c .before .before .before .before .before .before .before .store-configuration .kept .0 ∙ c .before .before .before .before .before .before .before .before .before .before .before .before .before .before .before .before .before .loop .inv .1 .rooms
 
--- src/store.rt:71:13
 same-length-2 : tie.Need-same-length-2 Inv-loop μ-loop
 same-length-2 c = c .before .before .before .before .before .before .before .before .before .before .before .before .before .before .enumerated-signs .kept .0 ∙ c .before .before .before .before .before .before .before .before .before .before .before .before .before .before .before .before .before .loop .inv .1 .marks
 
--- src/store.rt:71:13
 same-length-3 : tie.Need-same-length-3 Inv-loop μ-loop
-same-length-3 c = c .before .before .before .before .before .before .before .store-configuration .kept .1 .1 .1 .1 .1 .1 .1 .1 .1 .1 .1 .1 .1 .1 .0 ∙ c .before .before .before .before .before .before .before .before .before .before .before .before .before .before .before .before .before .loop .inv .1 .results
+same-length-3 c = c .before .before .before .before .before .before .before .store-configuration .kept .1 .1 .1 .1 .1 .1 .1 .1 .1 .1 .1 .0 ∙ c .before .before .before .before .before .before .before .before .before .before .before .before .before .before .before .before .before .loop .inv .1 .results
 
--- src/store.rt:71:13
 same-length-4 : tie.Need-same-length-4 Inv-loop μ-loop
-same-length-4 c = c .before .before .before .before .before .before .before .store-configuration .kept .1 .1 .1 .1 .1 .1 .1 .1 .1 .1 .1 .1 .1 .1 .1 .0 ∙ c .before .before .before .before .before .before .before .before .before .before .before .before .before .before .before .before .before .loop .inv .1 .storeds
+same-length-4 c = c .before .before .before .before .before .before .before .store-configuration .kept .1 .1 .1 .1 .1 .1 .1 .1 .1 .1 .1 .1 .0 ∙ c .before .before .before .before .before .before .before .before .before .before .before .before .before .before .before .before .before .loop .inv .1 .storeds
 
--- src/store.rt:71:13
 returns-2 : tie.Need-returns-2 Inv-loop μ-loop
 returns-2 c =
     let s = c .before .before .before .before .before .before .before .before .before .before .before .before .before .before .before .before .before .before .before .before .before .before .before .before .before .before .before .before .before .before in
@@ -94,10 +84,9 @@ returns-2 c =
     let t : l .x < 2 ^ s .args .free = omega (arith, c .before .before .before .before .before .before .before .before .before .before .before .before .before .before .before .before .loop-test .taken, i .0) in
     let no : true ≡ false → ⊥ = λ z. (let z′ : _≡_ {A = ℕ} 0 1 = cc in omega arith) in
     λ J of.
-    let told = a .ensures (J (l .x)) (signed-of (J (l .x)) (s .args .plan .now) (s .args .lent .now) _ _ _ (s .args .betas) (s .args .n) (s .args .w) (s .args .each) q (of (l .x))) in
+    let told = a .ensures (J (l .x)) (signed-of (J (l .x)) (s .args .plan .now) (s .args .factors .now) _ _ _ (s .args .betas) (s .args .shape) q (of (l .x))) in
     (one-failed _ (l .x) _ (told .0) _ t (not-true _ (c .if2 .taken)), λ z. absurd (no (sym z)))
 
--- src/store.rt:73:9
 add-x : tie.Need-add-x Inv-loop μ-loop
 add-x c =
     let s = c .before .before .before .before .before .before .before .before .before .before .before .before .before .before .before .before .before .before .before .before .before .before .before .before .before .before .before .before .before .before in
@@ -105,11 +94,9 @@ add-x c =
     let m : 2 ^ s .args .free ≤ 2 ^ 34 = pow-mono (s .pre .3) in
     omega (arith, m, i .0, c .before .before .before .before .before .before .before .before .before .before .before .before .before .before .before .before .loop-test .taken)
 
--- src/store.rt:51:5
 loop-less : tie.Need-loop-less Inv-loop μ-loop
 loop-less c = omega (arith, c .before .before .before .before .before .before .before .before .before .before .before .before .before .before .before .before .loop-test .taken)
 
--- src/store.rt:51:5
 loop-again : tie.Need-loop-again Inv-loop μ-loop
 loop-again c =
     let s = c .before .before .before .before .before .before .before .before .before .before .before .before .before .before .before .before .before .before .before .before .before .before .before .before .before .before .before .before .before .before in
@@ -125,32 +112,27 @@ loop-again c =
         below = omega arith;
         rooms = a .kept .0 ∙ i .1 .rooms;
         marks = e .kept .0 ∙ i .1 .marks;
-        results = a .kept .1 .1 .1 .1 .1 .1 .1 .1 .1 .1 .1 .1 .1 .1 .0 ∙ i .1 .results;
-        storeds = a .kept .1 .1 .1 .1 .1 .1 .1 .1 .1 .1 .1 .1 .1 .1 .1 .0 ∙ i .1 .storeds;
+        results = a .kept .1 .1 .1 .1 .1 .1 .1 .1 .1 .1 .1 .0 ∙ i .1 .results;
+        storeds = a .kept .1 .1 .1 .1 .1 .1 .1 .1 .1 .1 .1 .1 .0 ∙ i .1 .storeds;
         so-far = λ J of.
-            let told = a .ensures (J (l .x)) (signed-of (J (l .x)) (s .args .plan .now) (s .args .lent .now) _ _ _ (s .args .betas) (s .args .n) (s .args .w) (s .args .each) q (of (l .x))) in
+            let told = a .ensures (J (l .x)) (signed-of (J (l .x)) (s .args .plan .now) (s .args .factors .now) _ _ _ (s .args .betas) (s .args .shape) q (of (l .x))) in
             let g = i .1 .so-far J of in
             (one-passed _ (l .x) _ (told .0) (g .0) yes, stored-next _ _ _ (l .x) _ (told .1 yes _ (λ k b. refl) (g .1)));
       },
     )
 
--- src/store.rt:20:1
 same-length-5 : tie.Need-same-length-5 Inv-loop μ-loop
 same-length-5 c = c .before .loop .inv .1 .rooms
 
--- src/store.rt:20:1
 same-length-6 : tie.Need-same-length-6 Inv-loop μ-loop
 same-length-6 c = c .before .loop .inv .1 .marks
 
--- src/store.rt:20:1
 same-length-7 : tie.Need-same-length-7 Inv-loop μ-loop
 same-length-7 c = c .before .loop .inv .1 .results
 
--- src/store.rt:20:1
 same-length-8 : tie.Need-same-length-8 Inv-loop μ-loop
 same-length-8 c = c .before .loop .inv .1 .storeds
 
--- src/store.rt:20:1
 returns-3 : tie.Need-returns-3 Inv-loop μ-loop
 returns-3 c =
     let s = c .before .before .before .before .before .before .before .before .before .before .before .before .before .before in

@@ -26,7 +26,7 @@ returns c =
     let r = not-true _ (c .if1 .taken) in
     λ J of given.
     let a = c .before .before .before .before .before .answer-signed .ensures J of given in
-    record { told = sym r ∙ a .0 .told; powers = λ z. absurd (no (sym z)); kept = a .1 }
+    record { verdict = sym r ∙ a .0 .told; powers = λ z. absurd (no (sym z)); kept = a .1 }
 
 add-powers-requires : tie.Need-add-powers-requires
 add-powers-requires c κs = search needs
@@ -49,11 +49,11 @@ returns-2 c =
     let signed = c .before .before .before .before .before .before .before .before .before .before .before .before .before .answer-signed in
     let added = c .before .before .before .before .add-powers .ensures in
     let r = not-false _ (c .before .before .before .before .before .before .before .before .if1 .left) in
-    let full = signed .kept .1 .1 .1 .1 .1 .1 .1 .1 .1 .1 .1 .1 .1 .0 ∙ s .pre .0 .fitting in
+    let full = signed .kept .1 .1 .1 .1 .1 .1 .1 .1 .1 .1 .0 ∙ s .pre .0 .fitting in
     λ J of given.
     let a = signed .ensures J of given in
     record {
-      told = sym r ∙ a .0 .told;
+      verdict = sym r ∙ a .0 .told;
       powers = λ _. record {
         squared = pairs-added J _ _ (s .args .squares .now) _ _ (square ieee) (s .pre .2) full (a .0 .values r) (added .0);
         fourthed = pairs-added J _ _ (s .args .fourths .now) _ _ (fourth ieee) (s .pre .3) full (a .0 .values r) (added .1);

@@ -5,9 +5,9 @@ use native.Mathlib.Omega.{arith}
 use native.Mathlib.Nat.{mul-le-mul-right}
 use lib.ListN.{length}
 use borrow.Author.Tests.{not-true, not-false}
-use Rattle.chunks.specs.Stage.{Stage, Lent}
+use Rattle.chunks.specs.Stage.{Stage, EnoughFactors}
 use Rattle.chunks.specs.SoFar.{Betas}
-use Rattle.chunks.specs.Lists.{lent-first, part-of}
+use Rattle.chunks.specs.Lists.{factors-first, part-of}
 use Rattle.chunks.proofs.Staging.{stage-keep}
 use Rattle.chunks.proofs.Betas.{none-yet, some-unsound, beta-more, all-betas}
 use borrow.Author.Needs.{needs}
@@ -19,39 +19,32 @@ use Rattle.chunks.proofs.configuration.answer_signed.Reads as answer-si
 use Rattle.powers.proofs.add_powers.Reads as add-powers-reads
 
 abbrev Inv-loop : tie.InvT-loop
-Inv-loop room₀ plan n w scales each us vs order lent betas signs c₀ squares₀ fourths₀ b₀ room c squares fourths b = Betas plan us vs lent signs betas n w each b room₀ room c₀ c squares₀ squares fourths₀ fourths
+Inv-loop room₀ plan shape us vs order factors betas signs c₀ squares₀ fourths₀ b₀ room c squares fourths b = Betas plan us vs factors signs betas shape b room₀ room c₀ c squares₀ squares fourths₀ fourths
 
 abbrev μ-loop : tie.MeasureT-loop
-μ-loop room₀ plan n w scales each us vs order lent betas signs c₀ squares₀ fourths₀ b₀ room c squares fourths b = betas - b
+μ-loop room₀ plan shape us vs order factors betas signs c₀ squares₀ fourths₀ b₀ room c squares fourths b = betas - b
 
--- src/configuration.rt:73:5
 loop-holds : tie.Need-loop-holds Inv-loop μ-loop
 loop-holds c = record { below = omega arith; rooms = refl; results = refl; squareds = refl; fourthds = refl; so-far = λ J of. none-yet J _ _ _ _ }
 
--- src/configuration.rt:74:13
 answer-signed-requires : tie.Need-answer-signed-requires Inv-loop μ-loop
 answer-signed-requires c κs =
     let p = c .before .before .before .before .before .before .before .before .before .before .before .before .before .before .pre in
     let i = c .before .before .before .loop .inv in
-    (stage-keep (p .0) (i .rooms) (i .results), lent-first _ (p .1) (omega arith))
+    (stage-keep (p .0) (i .rooms) (i .results), factors-first _ (p .1) (omega arith))
 
--- src/configuration.rt:89:13
 same-length : tie.Need-same-length Inv-loop μ-loop
 same-length c = c .before .before .before .before .before .answer-signed .kept .0 ∙ c .before .before .before .before .before .before .before .before .before .loop .inv .rooms
 
--- src/configuration.rt:89:13
 same-length-2 : tie.Need-same-length-2 Inv-loop μ-loop
-same-length-2 c = c .before .before .before .before .before .answer-signed .kept .1 .1 .1 .1 .1 .1 .1 .1 .1 .1 .1 .1 .1 .0 ∙ c .before .before .before .before .before .before .before .before .before .loop .inv .results
+same-length-2 c = c .before .before .before .before .before .answer-signed .kept .1 .1 .1 .1 .1 .1 .1 .1 .1 .1 .0 ∙ c .before .before .before .before .before .before .before .before .before .loop .inv .results
 
--- src/configuration.rt:89:13
 same-length-3 : tie.Need-same-length-3 Inv-loop μ-loop
 same-length-3 c = c .before .before .before .before .before .before .before .before .before .loop .inv .squareds
 
--- src/configuration.rt:89:13
 same-length-4 : tie.Need-same-length-4 Inv-loop μ-loop
 same-length-4 c = c .before .before .before .before .before .before .before .before .before .loop .inv .fourthds
 
--- src/configuration.rt:89:13
 returns : tie.Need-returns Inv-loop μ-loop
 returns c =
     let i = c .before .before .before .before .before .before .before .before .before .loop .inv in
@@ -59,28 +52,23 @@ returns c =
     let no : true ≡ false → ⊥ = λ z. (let z′ : _≡_ {A = ℕ} 0 1 = cc in omega arith) in
     λ J of. (some-unsound J _ _ _ (c .before .before .before .before .before .before .before .before .before .loop .b) _ (a .ensures (J (c .before .before .before .before .before .before .before .before .before .loop .b)) (of (c .before .before .before .before .before .before .before .before .before .loop .b) (omega arith)) (λ z. absurd (omega arith)) .0) _ (omega arith) (not-true _ (c .if1 .taken)), λ z. absurd (no (sym z)))
 
--- src/configuration.rt:91:38
 mul-add-powers : tie.Need-mul-add-powers Inv-loop μ-loop
 mul-add-powers c = let h = part-of (c .before .before .before .before .before .before .before .before .before .before .before .loop .b) (c .before .before .before .before .before .before .before .before .before .before .before .before .before .before .before .before .before .before .before .before .before .before .args .betas) (length (c .before .before .before .before .before .before .before .before .before .before .before .before .before .before .before .before .before .before .before .before .before .before .args .us .now)) (omega arith) in omega (arith, c .before .before .before .before .before .before .before .before .before .before .before .before .before .before .before .before .before .before .before .before .before .before .pre .2, c .before .before .before .before .before .before .before .before .before .before .before .before .before .before .before .before .before .before .before .before .before .before .good)
 
--- src/configuration.rt:91:9
 add-powers-requires : tie.Need-add-powers-requires Inv-loop μ-loop
 add-powers-requires c κs =
     let s = c .before .before .before .before .before .before .before .before .before .before .before .before .before .before .before .before .before .before .before .before .before .before .before in
     let i = c .before .before .before .before .before .before .before .before .before .before .before .before .loop .inv in
     let h = part-of (c .before .before .before .before .before .before .before .before .before .before .before .before .loop .b) (s .args .betas) (length (s .args .us .now)) (omega arith) in
-    let l = c .before .before .before .before .before .before .before .before .answer-signed .kept .1 .1 .1 .1 .1 .1 .1 .1 .1 .1 .1 .1 .1 .0 ∙ i .results ∙ s .pre .0 .fitting in
+    let l = c .before .before .before .before .before .before .before .before .answer-signed .kept .1 .1 .1 .1 .1 .1 .1 .1 .1 .1 .0 ∙ i .results ∙ s .pre .0 .fitting in
     (omega (arith, i .squareds, s .pre .2), omega (arith, i .fourthds, s .pre .3))
 
--- src/configuration.rt:92:9
 add-b : tie.Need-add-b Inv-loop μ-loop
 add-b c = search needs
 
--- src/configuration.rt:73:5
 loop-less : tie.Need-loop-less Inv-loop μ-loop
 loop-less c = omega arith
 
--- src/configuration.rt:73:5
 loop-again : tie.Need-loop-again Inv-loop μ-loop
 loop-again c =
     let s = c .before .before .before .before .before .before .before .before .before .before .before .before .before .before .before .before .before .before .before .before .before .before .before .before .before .before .before .before in
@@ -90,7 +78,7 @@ loop-again c =
     let b = c .before .before .before .before .before .before .before .before .before .before .before .before .before .before .before .before .before .loop .b in
     let t : b < s .args .betas = omega (arith, c .before .before .before .before .before .before .before .before .before .before .before .before .before .before .before .before .loop-test .taken) in
     let h = part-of b (s .args .betas) (length (s .args .us .now)) t in
-    let l = a .kept .1 .1 .1 .1 .1 .1 .1 .1 .1 .1 .1 .1 .1 .0 ∙ i .results in
+    let l = a .kept .1 .1 .1 .1 .1 .1 .1 .1 .1 .1 .0 ∙ i .results in
     record {
       below = omega arith;
       rooms = a .kept .0 ∙ i .rooms;
@@ -100,23 +88,18 @@ loop-again c =
       so-far = λ J of. beta-more J _ _ _ _ _ _ _ b (i .so-far J of) _ (a .ensures (J b) (of b t) (λ z. absurd (omega arith)) .0) _ _ (not-false _ (c .before .before .before .before .before .before .before .before .if1 .left)) (l ∙ s .pre .0 .fitting) (omega (arith, s .pre .2)) (omega (arith, s .pre .3)) (p .ensures .0) (p .ensures .1);
     }
 
--- src/configuration.rt:47:1
 same-length-5 : tie.Need-same-length-5 Inv-loop μ-loop
 same-length-5 c = c .before .loop .inv .rooms
 
--- src/configuration.rt:47:1
 same-length-6 : tie.Need-same-length-6 Inv-loop μ-loop
 same-length-6 c = c .before .loop .inv .results
 
--- src/configuration.rt:47:1
 same-length-7 : tie.Need-same-length-7 Inv-loop μ-loop
 same-length-7 c = c .before .loop .inv .squareds
 
--- src/configuration.rt:47:1
 same-length-8 : tie.Need-same-length-8 Inv-loop μ-loop
 same-length-8 c = c .before .loop .inv .fourthds
 
--- src/configuration.rt:47:1
 returns-2 : tie.Need-returns-2 Inv-loop μ-loop
 returns-2 c =
     let s = c .before .before .before .before .before .before .before .before .before .before .before .before in

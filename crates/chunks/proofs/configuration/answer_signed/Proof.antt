@@ -17,50 +17,43 @@ use Rattle.pair_correlations.proofs.answer_pairs.Reads as answer-pairs-reads
 use Rattle.signed.proofs.lay_signed.Reads as lay-signed-reads
 use Rattle.sweeps.proofs.sweep.Reads as sweep-reads
 
--- src/configuration.rt:40:22
 add-lay-signed : tie.Need-add-lay-signed
-add-lay-signed c = omega (arith, c .before .before .before .before .before .before .before .before .before .pre .0 .ready .ends)
+add-lay-signed c = omega (arith, c .before .before .before .before .before .before .before .before .before .before .pre .0 .ready .ends)
 
--- src/configuration.rt:40:5
 lay-signed-requires : tie.Need-lay-signed-requires
 lay-signed-requires c κs =
-    let p = c .before .before .before .before .before .before .before .before .before .pre in
+    let p = c .before .before .before .before .before .before .before .before .before .before .pre in
     let l = p .1 in
     let q = l .enough in
     let f = l .few in
     (omega (arith, p .0 .ends), omega arith, omega arith)
 
--- src/configuration.rt:41:5
 sweep-requires : tie.Need-sweep-requires
 sweep-requires c κs =
-    let s = c .before .before .before .before .before .before .before .before .before .before .before .before .before in
+    let s = c .before .before .before .before .before .before .before .before .before .before .before .before .before .before in
     let p = s .pre .0 in
-    (p .some, subst (λ (k : ℕ). Ready (s .args .plan .now) k (s .args .n) (s .args .w) (s .args .scales)) (sym (c .before .before .before .lay-signed .kept .0)) (p .ready))
+    (p .some, subst (λ (k : ℕ). Ready (s .args .plan .now) k (s .args .shape .n) (s .args .shape .w) (s .args .shape .scales)) (sym (c .before .before .before .lay-signed .kept .0)) (p .ready))
 
--- src/configuration.rt:42:5
 answer-pairs-requires : tie.Need-answer-pairs-requires
 answer-pairs-requires c κs =
-    let s = c .before .before .before .before .before .before .before .before .before .before .before .before .before .before .before .before .before .before in
+    let s = c .before .before .before .before .before .before .before .before .before .before .before .before .before .before .before .before .before .before .before in
     let p = s .pre .0 in
     let l = c .before .before .before .before .sweep .ensures .0 .same ∙ c .before .before .before .before .before .before .before .before .lay-signed .kept .0 in
-    (subst (λ (k : ℕ). Ready (s .args .plan .now) k (s .args .n) (s .args .w) (s .args .scales)) (sym l) (p .ready), p .served, p .ordered, p .fitting)
+    (subst (λ (k : ℕ). Ready (s .args .plan .now) k (s .args .shape .n) (s .args .shape .w) (s .args .shape .scales)) (sym l) (p .ready), p .served, p .ordered, p .fitting)
 
--- src/configuration.rt:20:1
 same-length : tie.Need-same-length
 same-length c = search needs
 
--- src/configuration.rt:20:1
 same-length-2 : tie.Need-same-length-2
 same-length-2 c = search needs
 
--- src/configuration.rt:20:1
 returns : tie.Need-returns
 returns c =
-    let s = c .before .before .before .before .before .before .before .before .before .before .before .before .before .before .before .before .before .before .before .before .before .before .before in
+    let s = c .before .before .before .before .before .before .before .before .before .before .before .before .before .before .before .before .before .before .before .before .before .before .before .before in
     let a = s .args in
-    let x = signedFactors (a .lent .now) (length (a .signs .now)) (a .b) (a .signs .now) in
+    let x = signedFactors (a .factors .now) (length (a .signs .now)) (a .b) (a .signs .now) in
     let t = tabulate-length _ (length (a .signs .now)) in
-    told-of (a .plan .now) (a .us .now) (a .vs .now) x (a .room .now) _ _ _ _ _ _ _ _ _ _ (s .pre .0 .ready) (c .before .before .before .before .before .before .before .before .before .before .before .before .before .lay-signed .ensures) (ap (λ (k : ℕ). a .scales + a .n + k) t ∙ s .pre .0 .ends) (c .before .before .before .before .before .before .before .before .before .sweep .ensures .0) (c .before .before .before .before .before .before .before .before .before .sweep .ensures .1) (c .before .before .before .before .answer-pairs .ensures .0) (c .before .before .before .before .answer-pairs .ensures .1)
+    told-of (a .plan .now) (a .us .now) (a .vs .now) x (a .room .now) _ _ _ _ _ _ _ _ _ _ (s .pre .0 .ready) (c .before .before .before .before .before .before .before .before .before .before .before .before .before .lay-signed .ensures) (ap (λ (k : ℕ). a .shape .scales + a .shape .n + k) t ∙ s .pre .0 .ends) (c .before .before .before .before .before .before .before .before .before .sweep .ensures .0) (c .before .before .before .before .before .before .before .before .before .sweep .ensures .1) (c .before .before .before .before .answer-pairs .ensures .0) (c .before .before .before .before .answer-pairs .ensures .1)
 
 pub answer-signed-spec : {M : Type 1} → statement M
 answer-signed-spec =

@@ -1,200 +1,187 @@
-use mathlib.Core.Path.{ap, _∙_}
-use mathlib.Core.Bool.{cond}
-use Prim.Native.Nat.{ℕ, _*_, _^_}
+-- The checks, then the chunks of all configurations.
+use mathlib.Core.Path.{_≡_, ap, _∙_}
+use mathlib.Core.Bool.{Bool, false}
+use Prim.Native.Nat.{ℕ, _^_, _≤_}
 use native.Mathlib.Omega.{arith}
-use lib.ListN.{length}
-use Rattle.transfer.specs.Job.{block, perElement}
-use Rattle.checks.specs.Edges.{kept, earlyEnds, lateEnds}
+use lib.ListN.{length, take}
+use Rattle.transfer.specs.Rounded.{ieee}
+use Rattle.transfer.specs.Totals.{square, fourth}
 use Rattle.checks.specs.AcceptedTotals.{misfits}
+use Rattle.checks.specs.Request.{mostCounted}
 use Rattle.kept.specs.Fronts.{early-part, late-part, early-fits, late-fits}
 use Rattle.lattice.specs.Graphs.{freeCount}
 use Rattle.glass.specs.Correlations.{mannerOf}
-use Rattle.totals.specs.Entering.{few-products, fits-both, joined, enumeration-lists, enumeration-passed, free-is, free-kept, enumeration-done}
-use Rattle.totals.specs.Refusing.{enumeration-refused-early, enumeration-refused-lists, enumeration-added, enumeration-refused-14}
+use Rattle.totals.specs.Given.{Given, early, late, free, window, end, sums}
+use Rattle.totals.specs.Calls.{unsoundAll, totalsOfAll}
+use Rattle.totals.specs.Finished.{Passed, Finished}
+use Rattle.totals.specs.Refusing.{listsOfAll, allParts}
+use Rattle.totals.specs.Calling.{refused-early, refused-lists, all-added, refused-14}
+use Rattle.totals.specs.Entering.{few-products, fits-both, joined, all-lists, all-passed, all-numbered, all-are, free-is, free-kept, totals-kept}
 use borrow.Author.Needs.{needs}
 use Rattle.exhaustive.proofs.entry.exhaustive.Statement.{statement}
 use Rattle.exhaustive.proofs.entry.exhaustive.Tie as tie
-use Rattle.exhaustive.proofs.entry.exhaustive.Reads as reads
-use Rattle.exhaustive.proofs.entry.exhaustive.Lts as lts
-use Rattle.forest.proofs.count_free_edges.Reads as count-free-edges-reads
-use Rattle.glass.proofs.is_each.Reads as is-each-reads
-use Rattle.refuse.proofs.check_with_betas.Reads as check-with-betas-reads
-use Rattle.lent.proofs.check_enumeration.Reads as check-enumeration-reads
-use Rattle.sweep.proofs.pow2.Reads as pow2-reads
-use Rattle.exhaustive.proofs.job.enumerate_job.Reads as enumerate-job-reads
 
--- src/entry.rt:48:9
+abbrev given : tie.Start → Given
+given s = let a = s .args in record {
+  n = a .n;
+  floor = a .floor;
+  a = a .a .now;
+  b = a .b .now;
+  m = a .m .now;
+  us = a .us .now;
+  vs = a .vs .now;
+  betas = a .betas .now;
+  factors = a .factors .now;
+  manner = a .manner;
+}
+
+abbrev misfit : tie.Start → Bool
+misfit s = misfits (sums (given s)) (length (s .args .squares .now)) (length (s .args .fourths .now))
+
+-- the free edges of the kept edges were counted
+counted : (c : tie.After-count-free-edges) → c .count-free-edges .result ≡ free (given (c .before .before .before .before .before .before .before .before .before .before .before .before .before .before .before .before .before .before .before .before .before))
+counted c = free-kept (c .before .before .before .before .before .before .before .check-with-betas .ensures .ready (c .before .before .before .if1 .left)) _ (c .count-free-edges .ensures .1)
+
+-- the lists were checked
+listed : (c : tie.After-check-enumeration) → c .check-enumeration .result ≡ listsOfAll (given (c .before .before .before .before .before .before .before .before .before .before .before .before .before .before .before .before .before .before .before .before .before .before)) (misfit (c .before .before .before .before .before .before .before .before .before .before .before .before .before .before .before .before .before .before .before .before .before .before)) (length (c .before .before .before .before .before .before .before .before .before .before .before .before .before .before .before .before .before .before .before .before .before .before .args .work .now)) mostCounted
+listed c =
+    let a = c .before .before .before .before .before .before .before .before .before .before .before .before .before .before .before .before .before .before .before .before .before .before .args in
+    all-lists (c .before .before .before .before .before .before .before .before .check-with-betas .ensures .ready (c .before .before .before .before .if1 .left)) (length (a .betas .now)) (a .factors .now) _ _ mostCounted (misfit (c .before .before .before .before .before .before .before .before .before .before .before .before .before .before .before .before .before .before .before .before .before .before)) (length (a .work .now)) _ (counted (c .before)) (c .check-enumeration .ensures)
+
+-- and none refused
+passed : (c : tie.Else2)
+    → let a = c .before .before .before .before .before .before .before .before .before .before .before .before .before .before .before .before .before .before .before .before .before .before .before .args in
+    let k = c .before .before .before .before .before .before .before .before .before .check-with-betas in
+    let free = c .before .before .count-free-edges .result in
+    Passed (a .n) (k .result .window) (take (k .result .edges) (k .last .1 .1 .1 .1 .1 .1 .1 .1 .0)) (take (k .result .edges) (k .last .1 .1 .1 .1 .1 .1 .1 .1 .1 .0)) (a .us .now) (a .vs .now) (length (a .factors .now)) (length (a .betas .now)) (length (a .work .now))
+    × (misfit (c .before .before .before .before .before .before .before .before .before .before .before .before .before .before .before .before .before .before .before .before .before .before .before) ≡ false) × (free ≤ 34)
+passed c =
+    let a = c .before .before .before .before .before .before .before .before .before .before .before .before .before .before .before .before .before .before .before .before .before .before .before .args in
+    let k = c .before .before .before .before .before .before .before .before .before .check-with-betas .ensures in
+    let v = c .before .before .before .before .before .if1 .left in
+    all-passed (k .ready v) (length (a .betas .now)) (a .factors .now) _ mostCounted (misfit (c .before .before .before .before .before .before .before .before .before .before .before .before .before .before .before .before .before .before .before .before .before .before .before)) (length (a .work .now)) _ (k .betas-pass v .few) (c .before .check-enumeration .ensures) (c .if2 .left)
+
+fitting : (c : tie.Else2)
+    → (length (c .before .before .before .before .before .before .before .before .before .before .before .before .before .before .before .before .before .before .before .before .before .before .before .args .squares .now) ≡ sums (given (c .before .before .before .before .before .before .before .before .before .before .before .before .before .before .before .before .before .before .before .before .before .before .before))) × (length (c .before .before .before .before .before .before .before .before .before .before .before .before .before .before .before .before .before .before .before .before .before .before .before .args .fourths .now) ≡ sums (given (c .before .before .before .before .before .before .before .before .before .before .before .before .before .before .before .before .before .before .before .before .before .before .before)))
+fitting c = fits-both (sums (given (c .before .before .before .before .before .before .before .before .before .before .before .before .before .before .before .before .before .before .before .before .before .before .before))) (length (c .before .before .before .before .before .before .before .before .before .before .before .before .before .before .before .before .before .before .before .before .before .before .before .args .squares .now)) (length (c .before .before .before .before .before .before .before .before .before .before .before .before .before .before .before .before .before .before .before .before .before .before .before .args .fourths .now)) (passed c .1)
+
+-- what was found of all configurations
+found : (c : tie.After-total-job)
+    → let s = c .before .before .before .before .before .before .before .before .before .before .before .before .before .before .before .before .before .before .before .before .before .before .before .before .before .before .before .before .before .before .before in
+    let t = c .total-job in
+    Finished (unsoundAll (given s)) (totalsOfAll (given s) (square ieee)) (totalsOfAll (given s) (fourth ieee)) (sums (given s)) (end (given s)) (t .result) (t .last .1 .1 .1 .1 .1 .1 .1 .1 .1 .1 .0) (t .last .1 .1 .1 .1 .1 .1 .1 .1 .1 .1 .1 .0) (s .args .work .now) (t .last .1 .1 .1 .1 .1 .1 .1 .1 .1 .1 .1 .1 .0)
+found c =
+    let a = c .before .before .before .before .before .before .before .before .before .before .before .before .before .before .before .before .before .before .before .before .before .before .before .before .before .before .before .before .before .before .before .args in
+    let g = given (c .before .before .before .before .before .before .before .before .before .before .before .before .before .before .before .before .before .before .before .before .before .before .before .before .before .before .before .before .before .before .before) in
+    let chunks = c .before .before .before .before .before .before .all-chunks in
+    all-are (a .n) (window g) (early g) (late g) (a .factors .now) (mannerOf (a .manner)) (a .us .now) (a .vs .now) (length (a .betas .now)) _ _ (counted (c .before .before .before .before .before .before .before .before .before .before)) (chunks .result) (chunks .ensures)
+    (totals-kept (c .before .before .before .before .before .before .before .before .before .before .before .before .before .before .before .before .before .check-with-betas .ensures .ready (c .before .before .before .before .before .before .before .before .before .before .before .before .before .if1 .left)) (length (a .betas .now)) (a .factors .now) (c .before .before .before .before .before .before .before .is-each .ensures) (chunks .result) (c .total-job .ensures))
+
 slice-aggregate-check-with-betas : tie.Need-slice-aggregate-check-with-betas
 slice-aggregate-check-with-betas c = search needs
 
--- src/entry.rt:49:9
 slice-aggregate-check-with-betas-2 : tie.Need-slice-aggregate-check-with-betas-2
 slice-aggregate-check-with-betas-2 c = search needs
 
--- src/entry.rt:50:9
 slice-aggregate-check-with-betas-3 : tie.Need-slice-aggregate-check-with-betas-3
 slice-aggregate-check-with-betas-3 c = search needs
 
--- src/entry.rt:39:9
 check-with-betas-requires : tie.Need-check-with-betas-requires
 check-with-betas-requires c κs = search needs
 
--- src/entry.rt:54:9
 returns : tie.Need-returns
 returns c =
-    let a = c .before .before .before .before .before .before .before .before .before .before .before .before .before .before .before .before .before .before .args in
+    let s = c .before .before .before .before .before .before .before .before .before .before .before .before .before .before .before .before .before .before in
     let k = c .before .before .before .before .check-with-betas in
-    enumeration-refused-early (a .n) (a .floor) (a .a .now) (a .b .now) (a .m .now) (a .us .now) (a .vs .now) (a .betas .now) (a .factors .now) (a .manner) (a .squares .now) (a .fourths .now) (a .work .now) (k .result .refusal) (k .ensures .refusal) (c .if1 .taken)
+    record { call = refused-early (allParts (given s) (misfit s) (length (s .args .work .now)) mostCounted) (k .result .refusal) (k .ensures .refusal) (c .if1 .taken) }
 
--- src/entry.rt:58:30
 array-share-prefix-early : tie.Need-array-share-prefix-early
 array-share-prefix-early c = early-fits (c .before .before .before .before .check-with-betas .ensures .ready (c .if1 .left) .written)
 
--- src/entry.rt:58:30
 slice-aggregate-count-free-edges : tie.Need-slice-aggregate-count-free-edges
 slice-aggregate-count-free-edges c = early-part (c .before .before .before .before .before .check-with-betas .ensures .ready (c .before .if1 .left) .written)
 
--- src/entry.rt:58:47
 array-share-prefix-late : tie.Need-array-share-prefix-late
 array-share-prefix-late c = late-fits (c .before .before .before .before .before .check-with-betas .ensures .ready (c .before .if1 .left) .written)
 
--- src/entry.rt:58:47
 slice-aggregate-count-free-edges-2 : tie.Need-slice-aggregate-count-free-edges-2
 slice-aggregate-count-free-edges-2 c = late-part (c .before .before .before .before .before .before .check-with-betas .ensures .ready (c .before .before .if1 .left) .written)
 
--- src/entry.rt:58:9
 count-free-edges-requires : tie.Need-count-free-edges-requires
 count-free-edges-requires c κs = let g = c .before .before .before .before .before .before .check-with-betas .ensures .ready (c .before .before .if1 .left) in (joined g, g .edges .few)
 
--- src/entry.rt:69:9
 mul-check-enumeration : tie.Need-mul-check-enumeration
 mul-check-enumeration c =
     let j = c .before .before .before .before .before .before .before .check-with-betas .ensures in
     omega (arith, few-products _ _ (j .betas-pass (c .before .before .before .if1 .left) .few) (j .ready (c .before .before .before .if1 .left) .passed .few-pairs))
 
--- src/entry.rt:59:9
 check-enumeration-requires : tie.Need-check-enumeration-requires
 check-enumeration-requires c κs =
     let j = c .before .before .before .before .before .before .before .check-with-betas .ensures in
     let g = j .ready (c .before .before .before .if1 .left) in
     (g .pairs, g .edges .few, g .edges .narrow, g .few-edges, j .betas-pass (c .before .before .before .if1 .left) .few)
 
--- src/entry.rt:75:9
 returns-2 : tie.Need-returns-2
 returns-2 c =
-    let a = c .before .before .before .before .before .before .before .before .before .before .before .before .before .before .before .before .before .before .before .before .before .before .before .args in
-    let k = c .before .before .before .before .before .before .before .before .before .check-with-betas in
-    let v = c .before .before .before .before .before .if1 .left in
-    let g = k .ensures .ready v in
-    let f = c .before .before .count-free-edges in
-    let h = c .before .check-enumeration in
-    let free = free-kept g (f .result) (f .ensures .1) in
-    enumeration-refused-lists (a .n) (a .floor) (a .a .now) (a .b .now) (a .m .now) (a .us .now) (a .vs .now) (a .betas .now) (a .factors .now) (a .manner) (a .squares .now) (a .fourths .now) (a .work .now) (k .result .refusal) (k .ensures .refusal) v (h .result) (enumeration-lists g (length (a .betas .now)) (a .factors .now) (f .result) (freeCount (earlyEnds (kept (a .a .now) (a .b .now) (a .m .now))) (lateEnds (kept (a .a .now) (a .b .now) (a .m .now)))) 34 (misfits (length (a .betas .now) * length (a .us .now)) (length (a .squares .now)) (length (a .fourths .now))) (length (a .work .now)) (h .result) free (h .ensures)) (c .if2 .taken)
+    let s = c .before .before .before .before .before .before .before .before .before .before .before .before .before .before .before .before .before .before .before .before .before .before .before in
+    record { call = refused-lists (allParts (given s) (misfit s) (length (s .args .work .now)) mostCounted) (c .before .before .before .before .before .before .before .before .before .check-with-betas .ensures .refusal) (c .before .before .before .before .before .if1 .left) (c .before .check-enumeration .result) (listed (c .before)) (c .if2 .taken) }
 
--- src/entry.rt:77:9
 is-each-requires : tie.Need-is-each-requires
 is-each-requires c κs = search needs
 
--- src/entry.rt:81:9
+all-chunks-requires : tie.Need-all-chunks-requires
+all-chunks-requires c κs = omega (arith, passed (c .before) .2)
+
 array-share-prefix-early-2 : tie.Need-array-share-prefix-early-2
-array-share-prefix-early-2 c = early-fits (c .before .before .before .before .before .before .before .before .before .before .check-with-betas .ensures .ready (c .before .before .before .before .before .before .if1 .left) .written)
+array-share-prefix-early-2 c = early-fits (c .before .before .before .before .before .before .before .before .before .before .before .check-with-betas .ensures .ready (c .before .before .before .before .before .before .before .if1 .left) .written)
 
--- src/entry.rt:81:9
-slice-aggregate-enumerate-job : tie.Need-slice-aggregate-enumerate-job
-slice-aggregate-enumerate-job c = early-part (c .before .before .before .before .before .before .before .before .before .before .before .check-with-betas .ensures .ready (c .before .before .before .before .before .before .before .if1 .left) .written)
+slice-aggregate-total-job : tie.Need-slice-aggregate-total-job
+slice-aggregate-total-job c = early-part (c .before .before .before .before .before .before .before .before .before .before .before .before .check-with-betas .ensures .ready (c .before .before .before .before .before .before .before .before .if1 .left) .written)
 
--- src/entry.rt:82:9
 array-share-prefix-late-2 : tie.Need-array-share-prefix-late-2
-array-share-prefix-late-2 c = late-fits (c .before .before .before .before .before .before .before .before .before .before .before .check-with-betas .ensures .ready (c .before .before .before .before .before .before .before .if1 .left) .written)
+array-share-prefix-late-2 c = late-fits (c .before .before .before .before .before .before .before .before .before .before .before .before .check-with-betas .ensures .ready (c .before .before .before .before .before .before .before .before .if1 .left) .written)
 
--- src/entry.rt:82:9
-slice-aggregate-enumerate-job-2 : tie.Need-slice-aggregate-enumerate-job-2
-slice-aggregate-enumerate-job-2 c = late-part (c .before .before .before .before .before .before .before .before .before .before .before .before .check-with-betas .ensures .ready (c .before .before .before .before .before .before .before .before .if1 .left) .written)
+slice-aggregate-total-job-2 : tie.Need-slice-aggregate-total-job-2
+slice-aggregate-total-job-2 c = late-part (c .before .before .before .before .before .before .before .before .before .before .before .before .before .check-with-betas .ensures .ready (c .before .before .before .before .before .before .before .before .before .if1 .left) .written)
 
--- src/entry.rt:78:8
-enumerate-job-requires : tie.Need-enumerate-job-requires
-enumerate-job-requires c κs =
-    let a = c .before .before .before .before .before .before .before .before .before .before .before .before .before .before .before .before .before .before .before .before .before .before .before .before .before .before .before .before .before .args in
-    let k = c .before .before .before .before .before .before .before .before .before .before .before .before .before .before .before .check-with-betas in
-    let v = c .before .before .before .before .before .before .before .before .before .before .before .if1 .left in
-    let g = k .ensures .ready v in
-    let f = c .before .before .before .before .before .before .before .before .count-free-edges in
-    let h = c .before .before .before .before .before .before .before .check-enumeration in
-    let z = c .before .before .before .before .before .before .if2 .left in
-    let p = enumeration-passed g (length (a .betas .now)) (a .factors .now) (f .result) 34 (misfits (length (a .betas .now) * length (a .us .now)) (length (a .squares .now)) (length (a .fourths .now))) (length (a .work .now)) (h .result) (k .ensures .betas-pass v .few) (h .ensures) z in
-    let q = fits-both (length (a .betas .now) * length (a .us .now)) (length (a .squares .now)) (length (a .fourths .now)) (p .1) in
-    (p .0, free-is g (f .result) (f .ensures .1), p .2, q .0, q .1)
+total-job-requires : tie.Need-total-job-requires
+total-job-requires c κs =
+    let p = passed (c .before .before .before .before .before .before .before) in
+    let q = fitting (c .before .before .before .before .before .before .before) in
+    let f = c .before .before .before .before .before .before .before .before .before .count-free-edges in
+    (p .0, all-numbered _ (f .result) _ (c .before .before .before .before .before .all-chunks .ensures) (p .2) (free-is (c .before .before .before .before .before .before .before .before .before .before .before .before .before .before .before .before .check-with-betas .ensures .ready (c .before .before .before .before .before .before .before .before .before .before .before .before .if1 .left)) _ (f .ensures .1)), q .0, q .1)
 
--- src/entry.rt:93:31
 pow2-requires : tie.Need-pow2-requires
-pow2-requires c κs =
-    let a = c .before .before .before .before .before .before .before .before .before .before .before .before .before .before .before .before .before .before .before .before .before .before .before .before .before .before .before .before .before .before .before .before .before .before .before .before .before .args in
-    let k = c .before .before .before .before .before .before .before .before .before .before .before .before .before .before .before .before .before .before .before .before .before .before .before .check-with-betas in
-    let v = c .before .before .before .before .before .before .before .before .before .before .before .before .before .before .before .before .before .before .before .if1 .left in
-    let g = k .ensures .ready v in
-    let f = c .before .before .before .before .before .before .before .before .before .before .before .before .before .before .before .before .count-free-edges in
-    let h = c .before .before .before .before .before .before .before .before .before .before .before .before .before .before .before .check-enumeration in
-    let z = c .before .before .before .before .before .before .before .before .before .before .before .before .before .before .if2 .left in
-    let p = enumeration-passed g (length (a .betas .now)) (a .factors .now) (f .result) 34 (misfits (length (a .betas .now) * length (a .us .now)) (length (a .squares .now)) (length (a .fourths .now))) (length (a .work .now)) (h .result) (k .ensures .betas-pass v .few) (h .ensures) z in
-    omega (arith, p .2)
+pow2-requires c κs = omega (arith, passed (c .before .before .before .before .before .before .before .before .before .before .before .before .before .before .before) .2)
 
--- src/entry.rt:93:9
 same-length : tie.Need-same-length
-same-length c = c .before .before .before .before .before .before .before .before .enumerate-job .kept .1 .1 .1 .1 .1 .1 .1 .1 .1 .1 .0
+same-length c = c .before .before .before .before .before .before .before .before .total-job .kept .1 .1 .1 .1 .1 .1 .1 .1 .1 .1 .0
 
--- src/entry.rt:93:9
 same-length-2 : tie.Need-same-length-2
-same-length-2 c = c .before .before .before .before .before .before .before .before .enumerate-job .kept .1 .1 .1 .1 .1 .1 .1 .1 .1 .1 .1 .0
+same-length-2 c = c .before .before .before .before .before .before .before .before .total-job .kept .1 .1 .1 .1 .1 .1 .1 .1 .1 .1 .1 .0
 
--- src/entry.rt:93:9
 same-length-3 : tie.Need-same-length-3
-same-length-3 c = c .before .before .before .before .before .before .before .before .enumerate-job .kept .1 .1 .1 .1 .1 .1 .1 .1 .1 .1 .1 .1 .0
+same-length-3 c = c .before .before .before .before .before .before .before .before .total-job .kept .1 .1 .1 .1 .1 .1 .1 .1 .1 .1 .1 .1 .0
 
--- src/entry.rt:93:9
 returns-3 : tie.Need-returns-3
 returns-3 c =
-    let a = c .before .before .before .before .before .before .before .before .before .before .before .before .before .before .before .before .before .before .before .before .before .before .before .before .before .before .before .before .before .before .before .before .before .before .before .before .before .before .args in
-    let k = c .before .before .before .before .before .before .before .before .before .before .before .before .before .before .before .before .before .before .before .before .before .before .before .before .check-with-betas in
-    let v = c .before .before .before .before .before .before .before .before .before .before .before .before .before .before .before .before .before .before .before .before .if1 .left in
-    let g = k .ensures .ready v in
-    let f = c .before .before .before .before .before .before .before .before .before .before .before .before .before .before .before .before .before .count-free-edges in
-    let h = c .before .before .before .before .before .before .before .before .before .before .before .before .before .before .before .before .check-enumeration in
-    let free = free-kept g (f .result) (f .ensures .1) in
-    let z = c .before .before .before .before .before .before .before .before .before .before .before .before .before .before .before .if2 .left in
-    let t = c .before .before .before .before .before .before .before .before .enumerate-job in
-    let m = c .before .before .before .before .before .before .before .before .before .before .before .before .before .before .is-each in
-    let d = enumeration-done g (length (a .betas .now)) (a .factors .now) (t .result) (t .last .1 .1 .1 .1 .1 .1 .1 .1 .1 .1 .0) (t .last .1 .1 .1 .1 .1 .1 .1 .1 .1 .1 .1 .0) (a .work .now) (t .last .1 .1 .1 .1 .1 .1 .1 .1 .1 .1 .1 .1 .0) (cond (m .result) perElement block) (mannerOf (a .manner)) (m .ensures) (t .ensures) in
-    enumeration-added (a .n) (a .floor) (a .a .now) (a .b .now) (a .m .now) (a .us .now) (a .vs .now) (a .betas .now) (a .factors .now) (a .manner) (a .squares .now) (a .fourths .now) (a .work .now) (k .result .refusal) (k .ensures .refusal) v (h .result) (enumeration-lists g (length (a .betas .now)) (a .factors .now) (f .result) (freeCount (earlyEnds (kept (a .a .now) (a .b .now) (a .m .now))) (lateEnds (kept (a .a .now) (a .b .now) (a .m .now)))) 34 (misfits (length (a .betas .now) * length (a .us .now)) (length (a .squares .now)) (length (a .fourths .now))) (length (a .work .now)) (h .result) free (h .ensures)) z (t .result) (t .last .1 .1 .1 .1 .1 .1 .1 .1 .1 .1 .0) (t .last .1 .1 .1 .1 .1 .1 .1 .1 .1 .1 .1 .0) (t .last .1 .1 .1 .1 .1 .1 .1 .1 .1 .1 .1 .1 .0) d (c .before .if3 .taken) (c .pow2 .result) (c .pow2 .ensures ∙ ap (λ (i : ℕ). 2 ^ i) free)
+    let s = c .before .before .before .before .before .before .before .before .before .before .before .before .before .before .before .before .before .before .before .before .before .before .before .before .before .before .before .before .before .before .before .before .before .before .before .before .before .before .before in
+    record { call = all-added (allParts (given s) (misfit s) (length (s .args .work .now)) mostCounted) (c .before .before .before .before .before .before .before .before .before .before .before .before .before .before .before .before .before .before .before .before .before .before .before .before .before .check-with-betas .ensures .refusal) (c .before .before .before .before .before .before .before .before .before .before .before .before .before .before .before .before .before .before .before .before .before .if1 .left) (listed (c .before .before .before .before .before .before .before .before .before .before .before .before .before .before .before .before .before)) (c .before .before .before .before .before .before .before .before .before .before .before .before .before .before .before .before .if2 .left) (found (c .before .before .before .before .before .before .before .before)) (c .before .if3 .taken) (c .pow2 .result) (c .pow2 .ensures ∙ ap (λ (i : ℕ). 2 ^ i) (counted (c .before .before .before .before .before .before .before .before .before .before .before .before .before .before .before .before .before .before))) }
 
--- src/entry.rt:17:1
 same-length-4 : tie.Need-same-length-4
-same-length-4 c = c .before .before .before .before .before .before .before .enumerate-job .kept .1 .1 .1 .1 .1 .1 .1 .1 .1 .1 .0
+same-length-4 c = c .before .before .before .before .before .before .before .total-job .kept .1 .1 .1 .1 .1 .1 .1 .1 .1 .1 .0
 
--- src/entry.rt:17:1
 same-length-5 : tie.Need-same-length-5
-same-length-5 c = c .before .before .before .before .before .before .before .enumerate-job .kept .1 .1 .1 .1 .1 .1 .1 .1 .1 .1 .1 .0
+same-length-5 c = c .before .before .before .before .before .before .before .total-job .kept .1 .1 .1 .1 .1 .1 .1 .1 .1 .1 .1 .0
 
--- src/entry.rt:17:1
 same-length-6 : tie.Need-same-length-6
-same-length-6 c = c .before .before .before .before .before .before .before .enumerate-job .kept .1 .1 .1 .1 .1 .1 .1 .1 .1 .1 .1 .1 .0
+same-length-6 c = c .before .before .before .before .before .before .before .total-job .kept .1 .1 .1 .1 .1 .1 .1 .1 .1 .1 .1 .1 .0
 
--- src/entry.rt:17:1
 returns-4 : tie.Need-returns-4
 returns-4 c =
-    let a = c .before .before .before .before .before .before .before .before .before .before .before .before .before .before .before .before .before .before .before .before .before .before .before .before .before .before .before .before .before .before .before .before .before .before .before .before .before .args in
-    let k = c .before .before .before .before .before .before .before .before .before .before .before .before .before .before .before .before .before .before .before .before .before .before .before .check-with-betas in
-    let v = c .before .before .before .before .before .before .before .before .before .before .before .before .before .before .before .before .before .before .before .if1 .left in
-    let g = k .ensures .ready v in
-    let f = c .before .before .before .before .before .before .before .before .before .before .before .before .before .before .before .before .count-free-edges in
-    let h = c .before .before .before .before .before .before .before .before .before .before .before .before .before .before .before .check-enumeration in
-    let free = free-kept g (f .result) (f .ensures .1) in
-    let z = c .before .before .before .before .before .before .before .before .before .before .before .before .before .before .if2 .left in
-    let p = enumeration-passed g (length (a .betas .now)) (a .factors .now) (f .result) 34 (misfits (length (a .betas .now) * length (a .us .now)) (length (a .squares .now)) (length (a .fourths .now))) (length (a .work .now)) (h .result) (k .ensures .betas-pass v .few) (h .ensures) z in
-    let q = fits-both (length (a .betas .now) * length (a .us .now)) (length (a .squares .now)) (length (a .fourths .now)) (p .1) in
-    let t = c .before .before .before .before .before .before .before .enumerate-job in
-    let m = c .before .before .before .before .before .before .before .before .before .before .before .before .before .is-each in
-    let d = enumeration-done g (length (a .betas .now)) (a .factors .now) (t .result) (t .last .1 .1 .1 .1 .1 .1 .1 .1 .1 .1 .0) (t .last .1 .1 .1 .1 .1 .1 .1 .1 .1 .1 .1 .0) (a .work .now) (t .last .1 .1 .1 .1 .1 .1 .1 .1 .1 .1 .1 .1 .0) (cond (m .result) perElement block) (mannerOf (a .manner)) (m .ensures) (t .ensures) in
-    enumeration-refused-14 (a .n) (a .floor) (a .a .now) (a .b .now) (a .m .now) (a .us .now) (a .vs .now) (a .betas .now) (a .factors .now) (a .manner) (a .squares .now) (a .fourths .now) (a .work .now) (k .result .refusal) (k .ensures .refusal) v (h .result) (enumeration-lists g (length (a .betas .now)) (a .factors .now) (f .result) (freeCount (earlyEnds (kept (a .a .now) (a .b .now) (a .m .now))) (lateEnds (kept (a .a .now) (a .b .now) (a .m .now)))) 34 (misfits (length (a .betas .now) * length (a .us .now)) (length (a .squares .now)) (length (a .fourths .now))) (length (a .work .now)) (h .result) free (h .ensures)) z (t .result) (t .last .1 .1 .1 .1 .1 .1 .1 .1 .1 .1 .0) (t .last .1 .1 .1 .1 .1 .1 .1 .1 .1 .1 .1 .0) (t .last .1 .1 .1 .1 .1 .1 .1 .1 .1 .1 .1 .1 .0) d (c .if3 .left) (q .0) (q .1)
+    let s = c .before .before .before .before .before .before .before .before .before .before .before .before .before .before .before .before .before .before .before .before .before .before .before .before .before .before .before .before .before .before .before .before .before .before .before .before .before .before in
+    let q = fitting (c .before .before .before .before .before .before .before .before .before .before .before .before .before .before .before) in
+    record { call = refused-14 (allParts (given s) (misfit s) (length (s .args .work .now)) mostCounted) (c .before .before .before .before .before .before .before .before .before .before .before .before .before .before .before .before .before .before .before .before .before .before .before .before .check-with-betas .ensures .refusal) (c .before .before .before .before .before .before .before .before .before .before .before .before .before .before .before .before .before .before .before .before .if1 .left) (listed (c .before .before .before .before .before .before .before .before .before .before .before .before .before .before .before .before)) (c .before .before .before .before .before .before .before .before .before .before .before .before .before .before .before .if2 .left) (found (c .before .before .before .before .before .before .before)) (c .if3 .left) (q .0) (q .1) }
 
 pub exhaustive-spec : {M : Type 1} → statement M
 exhaustive-spec =
@@ -214,11 +201,12 @@ exhaustive-spec =
     check-enumeration-requires
     returns-2
     is-each-requires
+    all-chunks-requires
     array-share-prefix-early-2
-    slice-aggregate-enumerate-job
+    slice-aggregate-total-job
     array-share-prefix-late-2
-    slice-aggregate-enumerate-job-2
-    enumerate-job-requires
+    slice-aggregate-total-job-2
+    total-job-requires
     pow2-requires
     same-length
     same-length-2

@@ -7,7 +7,7 @@ use lib.ListN.{length}
 use borrow.Author.Tests.{not-true, not-false}
 use Rattle.vector.specs.Search as Search
 use Rattle.stored_correlations.specs.Stored.{Stored, Storing, number-small}
-use Rattle.chunks.specs.Lists.{lent-first, part-of}
+use Rattle.chunks.specs.Lists.{factors-first, part-of}
 use Rattle.chunks.proofs.Staging.{stage-keep, part-stored}
 use Rattle.chunks.proofs.Betas.{some-unsound, sound-more, results-value}
 use borrow.Author.Needs.{needs}
@@ -19,12 +19,11 @@ use Rattle.chunks.proofs.answer_signed.Reads as answer-signed-reads
 use Rattle.stored_correlations.proofs.configuration.store_results.Reads as store-results-reads
 
 abbrev Inv-loop : tie.InvT-loop
-Inv-loop room₀ plan n w scales each us vs order lent betas signs x all c₀ stored₀ b₀ room c stored b = Storing plan us vs lent signs betas n w each all x b room₀ room c₀ c stored₀ stored
+Inv-loop room₀ plan shape us vs order factors betas signs x all c₀ stored₀ b₀ room c stored b = Storing plan us vs factors signs betas shape all x b room₀ room c₀ c stored₀ stored
 
 abbrev μ-loop : tie.MeasureT-loop
-μ-loop room₀ plan n w scales each us vs order lent betas signs x all c₀ stored₀ b₀ room c stored b = betas - b
+μ-loop room₀ plan shape us vs order factors betas signs x all c₀ stored₀ b₀ room c stored b = betas - b
 
--- src/store.rt:59:5
 loop-holds : tie.Need-loop-holds Inv-loop μ-loop
 loop-holds c =
     record {
@@ -35,26 +34,21 @@ loop-holds c =
       so-far = λ J of. (Search.start _, λ value same g. rw (zero-mul (length (c .before .before .before .before .before .before .before .before .before .args .us .now))) g);
     }
 
--- src/store.rt:60:13
 answer-signed-requires : tie.Need-answer-signed-requires Inv-loop μ-loop
 answer-signed-requires c κs =
     let p = c .before .before .before .before .before .before .before .before .before .before .before .before .before .pre in
     let i = c .before .before .before .loop .inv in
-    (stage-keep (p .0) (i .rooms) (i .results), lent-first _ (p .1) (omega arith))
+    (stage-keep (p .0) (i .rooms) (i .results), factors-first _ (p .1) (omega arith))
 
--- src/store.rt:75:13
 same-length : tie.Need-same-length Inv-loop μ-loop
 same-length c = c .before .before .before .before .before .answer-signed .kept .0 ∙ c .before .before .before .before .before .before .before .before .before .loop .inv .rooms
 
--- src/store.rt:75:13
 same-length-2 : tie.Need-same-length-2 Inv-loop μ-loop
-same-length-2 c = c .before .before .before .before .before .answer-signed .kept .1 .1 .1 .1 .1 .1 .1 .1 .1 .1 .1 .1 .1 .0 ∙ c .before .before .before .before .before .before .before .before .before .loop .inv .results
+same-length-2 c = c .before .before .before .before .before .answer-signed .kept .1 .1 .1 .1 .1 .1 .1 .1 .1 .1 .0 ∙ c .before .before .before .before .before .before .before .before .before .loop .inv .results
 
--- src/store.rt:75:13
 same-length-3 : tie.Need-same-length-3 Inv-loop μ-loop
 same-length-3 c = c .before .before .before .before .before .before .before .before .before .loop .inv .storeds
 
--- src/store.rt:75:13
 returns : tie.Need-returns Inv-loop μ-loop
 returns c =
     let l = c .before .before .before .before .before .before .before .before .before .loop in
@@ -62,7 +56,6 @@ returns c =
     let no : true ≡ false → ⊥ = λ z. (let z′ : _≡_ {A = ℕ} 0 1 = cc in omega arith) in
     λ J of. (some-unsound J _ _ _ (l .b) _ (a .ensures (J (l .b)) (of (l .b) (omega arith)) (λ z. absurd (omega arith)) .0) _ (omega arith) (not-true _ (c .if1 .taken)), λ z. absurd (no (sym z)))
 
--- src/store.rt:77:39
 mul-store-results : tie.Need-mul-store-results Inv-loop μ-loop
 mul-store-results c =
     let s = c .before .before .before .before .before .before .before .before .before .before .before .before .before .before .before .before .before .before .before .before in
@@ -71,25 +64,21 @@ mul-store-results c =
     let h = part-of (l .b) (s .args .betas) np (omega arith) in
     omega (arith, h, number-small (s .args .all) (s .args .betas * np) 0 (omega (arith, s .pre .2)), s .pre .3, s .good)
 
--- src/store.rt:77:9
 store-results-requires : tie.Need-store-results-requires Inv-loop μ-loop
 store-results-requires c κs =
     let s = c .before .before .before .before .before .before .before .before .before .before .before .before .before .before .before .before .before .before .before .before .before in
     let l = c .before .before .before .before .before .before .before .before .before .before .before .loop in
     let i = l .inv in
     let np = length (s .args .us .now) in
-    let e : length (c .before .before .before .before .before .before .before .answer-signed .last .1 .1 .1 .1 .1 .1 .1 .1 .1 .1 .1 .1 .1 .0) ≡ np = c .before .before .before .before .before .before .before .answer-signed .kept .1 .1 .1 .1 .1 .1 .1 .1 .1 .1 .1 .1 .1 .0 ∙ i .results ∙ s .pre .0 .fitting in
+    let e : length (c .before .before .before .before .before .before .before .answer-signed .last .1 .1 .1 .1 .1 .1 .1 .1 .1 .1 .0) ≡ np = c .before .before .before .before .before .before .before .answer-signed .kept .1 .1 .1 .1 .1 .1 .1 .1 .1 .1 .0 ∙ i .results ∙ s .pre .0 .fitting in
     (s .pre .2, rw (e, i .storeds, s .pre .3) (part-stored (l .b) (s .args .betas) np (s .args .all) (omega arith)))
 
--- src/store.rt:78:9
 add-b : tie.Need-add-b Inv-loop μ-loop
 add-b c = search needs
 
--- src/store.rt:59:5
 loop-less : tie.Need-loop-less Inv-loop μ-loop
 loop-less c = search needs
 
--- src/store.rt:59:5
 loop-again : tie.Need-loop-again Inv-loop μ-loop
 loop-again c =
     let s = c .before .before .before .before .before .before .before .before .before .before .before .before .before .before .before .before .before .before .before .before .before .before .before .before in
@@ -99,7 +88,7 @@ loop-again c =
     let r = c .before .before .store-results in
     let yes = not-false _ (c .before .before .before .before .before .if1 .left) in
     let t : l .b < s .args .betas = omega (arith, c .before .before .before .before .before .before .before .before .before .before .before .before .before .loop-test .taken) in
-    let e = a .kept .1 .1 .1 .1 .1 .1 .1 .1 .1 .1 .1 .1 .1 .0 ∙ i .results in
+    let e = a .kept .1 .1 .1 .1 .1 .1 .1 .1 .1 .1 .0 ∙ i .results in
     let m : l .b * length (s .args .us .now) + length (s .args .us .now) ≡ (l .b + 1) * length (s .args .us .now) = omega arith in
     record {
       below = omega arith;
@@ -115,19 +104,15 @@ loop-again c =
           );
     }
 
--- src/store.rt:31:1
 same-length-4 : tie.Need-same-length-4 Inv-loop μ-loop
 same-length-4 c = c .before .loop .inv .rooms
 
--- src/store.rt:31:1
 same-length-5 : tie.Need-same-length-5 Inv-loop μ-loop
 same-length-5 c = c .before .loop .inv .results
 
--- src/store.rt:31:1
 same-length-6 : tie.Need-same-length-6 Inv-loop μ-loop
 same-length-6 c = c .before .loop .inv .storeds
 
--- src/store.rt:31:1
 returns-2 : tie.Need-returns-2 Inv-loop μ-loop
 returns-2 c =
     let s = c .before .before .before .before .before .before .before .before .before .before .before in

@@ -16,19 +16,15 @@ Inv-loop stored₀ all x first c p₀ stored p = Placing all x first c p stored�
 abbrev μ-loop : tie.MeasureT-loop
 μ-loop stored₀ all x first c p₀ stored p = length c - p
 
--- src/store.rt:23:5
 loop-holds : tie.Need-loop-holds Inv-loop μ-loop
 loop-holds c = record { below = omega arith; long = refl; so-far = λ value n same g. rw (add-zero (c .args .first)) g }
 
--- src/store.rt:24:41
 mul-stored : tie.Need-mul-stored Inv-loop μ-loop
 mul-stored c = search needs
 
--- src/store.rt:24:41
 shared-slice-read-stored : tie.Need-shared-slice-read-stored Inv-loop μ-loop
 shared-slice-read-stored c = search needs
 
--- src/store.rt:24:17
 add-stored : tie.Need-add-stored Inv-loop μ-loop
 add-stored c =
     let s = c .before .before .before in
@@ -37,7 +33,6 @@ add-stored c =
     let h = place-inside (s .args .all) (s .args .first + length (s .args .c .now)) q (s .args .x) (omega arith) (s .pre .0) in
     omega (arith, h, s .pre .1, l .inv .long, s .good, number-small (s .args .all) q (s .args .x) (s .pre .0))
 
--- src/store.rt:24:16
 mul-stored-2 : tie.Need-mul-stored-2 Inv-loop μ-loop
 mul-stored-2 c =
     let s = c .before .before .before in
@@ -46,7 +41,6 @@ mul-stored-2 c =
     let h = place-inside (s .args .all) (s .args .first + length (s .args .c .now)) q (s .args .x) (omega arith) (s .pre .0) in
     omega (arith, h, s .pre .1, l .inv .long, s .good)
 
--- src/store.rt:24:16
 add-stored-2 : tie.Need-add-stored-2 Inv-loop μ-loop
 add-stored-2 c =
     let s = c .before .before .before in
@@ -55,7 +49,6 @@ add-stored-2 c =
     let h = place-inside (s .args .all) (s .args .first + length (s .args .c .now)) q (s .args .x) (omega arith) (s .pre .0) in
     omega (arith, h, s .pre .1, l .inv .long, s .good)
 
--- src/store.rt:24:9
 mul-stored-3 : tie.Need-mul-stored-3 Inv-loop μ-loop
 mul-stored-3 c =
     let s = c .before .before .before in
@@ -64,7 +57,6 @@ mul-stored-3 c =
     let h = place-inside (s .args .all) (s .args .first + length (s .args .c .now)) q (s .args .x) (omega arith) (s .pre .0) in
     omega (arith, h, s .pre .1, l .inv .long, s .good)
 
--- src/store.rt:24:9
 slice-write-stored : tie.Need-slice-write-stored Inv-loop μ-loop
 slice-write-stored c =
     let s = c .before .before .before in
@@ -73,15 +65,12 @@ slice-write-stored c =
     let h = place-inside (s .args .all) (s .args .first + length (s .args .c .now)) q (s .args .x) (omega arith) (s .pre .0) in
     omega (arith, h, s .pre .1, l .inv .long)
 
--- src/store.rt:25:9
 add-p : tie.Need-add-p Inv-loop μ-loop
 add-p c = search needs
 
--- src/store.rt:23:5
 loop-less : tie.Need-loop-less Inv-loop μ-loop
 loop-less c = search needs
 
--- src/store.rt:23:5
 loop-again : tie.Need-loop-again Inv-loop μ-loop
 loop-again c =
     let s = c .before .before .before in
@@ -96,11 +85,9 @@ loop-again c =
       so-far = λ value n same g. rw (← add-assoc (s .args .first) (l .p) 1) (stored-more value (s .args .all) n (s .args .x) (s .pre .0) q (l .stored) _ b (same (l .p) (omega arith)) (i .so-far value n same g));
     }
 
--- src/store.rt:17:1
 same-length : tie.Need-same-length Inv-loop μ-loop
 same-length c = c .before .loop .inv .long
 
--- src/store.rt:17:1
 returns : tie.Need-returns Inv-loop μ-loop
 returns c = let l = c .before .loop in let e : length (c .before .before .args .c .now) ≡ l .p = omega (arith, l .inv .below) in λ value n same g. rw e (l .inv .so-far value n same g)
 

@@ -10,15 +10,12 @@ use Rattle.storing.proofs.entry.stored_count.Reads as reads
 use Rattle.storing.proofs.entry.stored_count.Lts as lts
 use Rattle.sweep.proofs.pow2.Reads as pow2-reads
 
--- src/entry.rt:23:9
 returns : tie.Need-returns
 returns c = search needs
 
--- src/entry.rt:25:12
 pow2-requires : tie.Need-pow2-requires
 pow2-requires c κs = search needs
 
--- src/entry.rt:25:5
 mul-result : tie.Need-mul-result
 mul-result c =
     let s = c .before .before in
@@ -27,7 +24,6 @@ mul-result c =
     let h : s .args .sums * 2 ^ s .args .free ≤ 16384 * 2 ^ s .args .free = mul-le-mul-right (2 ^ s .args .free) (s .pre) in
     omega (arith, h, m, c .pow2 .ensures, ap (λ (k : ℕ). s .args .sums * k) (c .pow2 .ensures))
 
--- src/entry.rt:18:1
 returns-2 : tie.Need-returns-2
 returns-2 c = λ _. ap (λ (k : ℕ). c .before .before .args .sums * k) (c .pow2 .ensures)
 

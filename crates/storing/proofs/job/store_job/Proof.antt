@@ -4,9 +4,6 @@ use lib.Seq.{length-take-le}
 use borrow.Author.Needs.{needs}
 use Rattle.storing.proofs.job.store_job.Statement.{statement}
 use Rattle.storing.proofs.job.store_job.Tie as tie
-use Rattle.storing.proofs.job.store_job.Reads as reads
-use Rattle.storing.proofs.job.store_job.Lts as lts
-use Rattle.storing.proofs.job.plan_and_store.Reads as plan-and-store-reads
 
 slice-aggregate-plan-and-store : tie.Need-slice-aggregate-plan-and-store
 slice-aggregate-plan-and-store c = search needs

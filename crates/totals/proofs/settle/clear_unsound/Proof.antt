@@ -7,19 +7,15 @@ use Rattle.totals.proofs.settle.clear_unsound.Reads as reads
 use Rattle.totals.proofs.settle.clear_unsound.Lts as lts
 use Rattle.planned.proofs.clear.Reads as clear-reads
 
--- src/settle.rt:13:9
 clear-requires : tie.Need-clear-requires
 clear-requires c κs = search needs
 
--- src/settle.rt:9:1
 same-length : tie.Need-same-length
 same-length c = search needs
 
--- src/settle.rt:9:1
 returns : tie.Need-returns
 returns c = rw (not-true (c .before .before .before .before .before .before .args .sound) (c .before .before .before .before .if1 .taken)) (c .before .before .clear .ensures)
 
--- src/settle.rt:9:1
 returns-2 : tie.Need-returns-2
 returns-2 c = rw (not-false (c .before .before .args .sound) (c .if1 .left)) refl
 
