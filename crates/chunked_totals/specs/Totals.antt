@@ -1,6 +1,6 @@
 -- Chunks of configurations: which signs each has, and the totals over them, for every beta and pair.
 use mathlib.Core.Path.{_≡_}
-use mathlib.Core.Bool.{Bool, true, false, cond}
+use mathlib.Core.Bool.{Bool, true, false, cond, not}
 use mathlib.Core.List.{List}
 use mathlib.Core.Logic.{_⊎_}
 use Prim.Native.Nat.{ℕ, _+_, _-_, _*_, _≤_}
@@ -54,6 +54,12 @@ totalsOver k c n power = tabulate (λ x. sampled ieee power (k .first) (k .end) 
 pub record Totals (k : Chunks) (c : ℕ → ℕ → ℕ → Float) (n : ℕ) (squares fourths : List Float) : Type 0 where
   pub squared : squares ≡ totalsOver k c n (square ieee)
   pub fourthed : fourths ≡ totalsOver k c n (fourth ieee)
+
+-- Whether every Z of the chunks was finite and above zero; then the lists hold the totals at each beta and pair.
+abbrev pub ChunksSummed : (ℕ → ℕ → ℕ → Job Float) → (us vs : List ℕ) → (betas : ℕ) → Chunks → Bool → (squares fourths : List Float) → Type 0
+ChunksSummed J us vs betas k sound squares fourths =
+    (sound ≡ not (unsoundChunks J us vs betas k))
+    × (sound ≡ true → Totals k (λ i j. correlationAt (J i j) us vs) (betas * length us) squares fourths)
 
 -- No chunk, no configuration in it, or nothing to add up: the totals are zeros, and no Z is looked at.
 abbrev pub Idle : (first end size n : ℕ) → Type 0

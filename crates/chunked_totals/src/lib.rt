@@ -1,17 +1,15 @@
 // The totals of chunks of configurations, one chunk after another.
 ghost use mathlib.Core.Path.{_≡_};
-ghost use mathlib.Core.Bool.{true, false, not};
+ghost use mathlib.Core.Bool.{true, false};
 ghost use Prim.Native.Nat.{ℕ, _+_, _*_, _≤_, _<_};
 ghost use lib.Ieee.{Float};
 ghost use lib.ListN.{length};
-ghost use Rattle.vector.specs.Search.{some};
 ghost use Rattle.transfer.specs.Job.{Job};
 ghost use Rattle.chunks.specs.Chunked.{Lists};
-ghost use Rattle.chunks.specs.Powers.{correlationAt, unsoundBetas};
 ghost use Rattle.chunks.specs.Signed.{PlanOfRun};
 ghost use Rattle.chunks.specs.Stage.{Stage, EnoughFactors};
-ghost use Rattle.chunks.specs.Sums.{Sums};
-ghost use Rattle.chunked_totals.specs.Totals.{allChunks, signsIn, Idle, Summable, PlanOfChunks, unsoundChunks, Totals};
+ghost use Rattle.chunks.specs.Sums.{RunSummed};
+ghost use Rattle.chunked_totals.specs.Totals.{allChunks, signsIn, Idle, Summable, PlanOfChunks, ChunksSummed};
 use chunks::Shape;
 use counting::chunk_size;
 use enumerate::enumerated_chunk;
@@ -82,9 +80,7 @@ fn sum_chunk(
         × (length (now squares) ≡ betas * length (now us)) × (length (now fourths) ≡ betas * length (now us)) ⌝ }
     ensures { λ r. ⌜ ((J : ℕ → ℕ → Job Float)
         → PlanOfRun J (now (plan .entry)) (now (factors .entry)) (length (now (tree .entry))) (signsIn chunks (now (tree .entry)) i) betas shape
-        → (r ≡ not (some (λ j. unsoundBetas (J j) (now (us .entry)) (now (vs .entry)) betas) (chunks .size)))
-        × (r ≡ true → Sums (λ j. correlationAt (J j) (now (us .entry)) (now (vs .entry))) (chunks .size) (betas * length (now (us .entry)))
-        (now (squares .exit)) (now (fourths .exit)))) ⌝ }
+        → RunSummed J (now (us .entry)) (now (vs .entry)) betas (chunks .size) r (now (squares .exit)) (now (fourths .exit))) ⌝ }
 {
     let size = chunks.size;
     if chunks.drawn {
@@ -152,9 +148,7 @@ fn add_chunks(
         × Lists (betas * length (now us)) (length (now subsquares)) (length (now subfourths)) (length (now squares)) (length (now fourths)) ⌝ }
     ensures { λ r. ⌜ ((J : ℕ → ℕ → ℕ → Job Float)
         → PlanOfChunks J (now (plan .entry)) (now (factors .entry)) (now (tree .entry)) chunks betas shape
-        → (r ≡ not (unsoundChunks J (now (us .entry)) (now (vs .entry)) betas chunks))
-        × (r ≡ true → Totals chunks (λ i j. correlationAt (J i j) (now (us .entry)) (now (vs .entry))) (betas * length (now (us .entry)))
-        (now (squares .exit)) (now (fourths .exit)))) ⌝ }
+        → ChunksSummed J (now (us .entry)) (now (vs .entry)) betas chunks r (now (squares .exit)) (now (fourths .exit))) ⌝ }
 {
     let sums = squares.len();
     fill(squares, 0, sums, 0.0);
@@ -212,9 +206,7 @@ pub fn chunked_totals(
         × Lists (betas * length (now us)) (length (now subsquares)) (length (now subfourths)) (length (now squares)) (length (now fourths)) ⌝ }
     ensures { λ r. ⌜ ((J : ℕ → ℕ → ℕ → Job Float)
         → PlanOfChunks J (now (plan .entry)) (now (factors .entry)) (now (tree .entry)) chunks betas shape
-        → (r ≡ not (unsoundChunks J (now (us .entry)) (now (vs .entry)) betas chunks))
-        × (r ≡ true → Totals chunks (λ i j. correlationAt (J i j) (now (us .entry)) (now (vs .entry))) (betas * length (now (us .entry)))
-        (now (squares .exit)) (now (fourths .exit)))) ⌝ }
+        → ChunksSummed J (now (us .entry)) (now (vs .entry)) betas chunks r (now (squares .exit)) (now (fourths .exit))) ⌝ }
 {
     if nothing(chunks.first, chunks.end, chunks.size, squares.len()) {
         let sums = squares.len();

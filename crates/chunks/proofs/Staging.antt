@@ -1,4 +1,4 @@
--- One configuration at one beta: what the sweeps left and the pairs were told, of the job whose factors were laid.
+-- One configuration at one beta: what the sweeps left and the pairs were answered, of the job whose factors were laid.
 use mathlib.Core.Path.{_≡_, refl, sym, ap, _∙_, subst}
 use mathlib.Core.Bool.{Bool}
 use mathlib.Core.List.{List}
@@ -37,7 +37,7 @@ module _ (plan us vs : List ℕ) (x r r₁ r₂ r₃ results : List Float) (n w 
     (laid : r₁ ≡ put r (scales + n) x) (ends : scales + n + length x ≡ length r) (same : SameFrom r₁ r₂ (scales + n))
     (swept : (J : Job Float) → PlanOf J plan (drop (scales + n) r₁) n w elementwise → Stands J plan r₁ n w c → Swept J plan r₂ n w scales)
     (still : Still r₂ r₃ w scales)
-    (told : (J : Job Float) (elementwise : Bool) → PlanOf J plan (drop (scales + n) r₂) n w elementwise → Swept J plan r₂ n w scales → Outcome J us vs results sound) where
+    (answered : (J : Job Float) (elementwise : Bool) → PlanOf J plan (drop (scales + n) r₂) n w elementwise → Swept J plan r₂ n w scales → Outcome J us vs results sound) where
   fits : scales + n + length x ≤ length r
   fits = omega arith
 
@@ -54,13 +54,13 @@ module _ (plan us vs : List ℕ) (x r r₁ r₂ r₃ results : List Float) (n w 
             symmetric-ext (given early .vectors u a b p) (half-held r r₁ w (backwardPlace plan u) (laid-held _ (g .backward .fits u b p)));
       }
 
-  pub told-of : (J : Job Float) → PlanOf J plan x n w elementwise → Stands J plan r n w c → Outcome J us vs results sound × Backward J plan r₃ n w 0
-  told-of J of given =
+  pub outcome-of : (J : Job Float) → PlanOf J plan x n w elementwise → Stands J plan r n w c → Outcome J us vs results sound × Backward J plan r₃ n w 0
+  outcome-of J of given =
       let e : drop (scales + n) r₁ ≡ x = ap (drop (scales + n)) laid ∙ laid-last r x (scales + n) ends in
       let of₁ : PlanOf J plan (drop (scales + n) r₁) n w elementwise = rw e of in
       let s = swept J of₁ (laid-stands J given) in
       let l : length r₂ ≡ length r = same .same ∙ ap length laid ∙ put-length r (scales + n) x fits in
-      (told J elementwise (rw (same .tail) of₁) s, still-swept J plan r₂ r₃ n w scales (rw l g) still s .backward)
+      (answered J elementwise (rw (same .tail) of₁) s, still-swept J plan r₂ r₃ n w scales (rw l g) still s .backward)
 
 -- lists that kept their lengths
 pub stage-keep : {plan us vs order : List ℕ} {m end results end′ results′ : ℕ} {s : Shape} → Stage plan us vs order m s end results

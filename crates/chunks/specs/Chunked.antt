@@ -47,14 +47,14 @@ module _ (U : ℕ → ℕ → Bool) (c : ℕ → ℕ → ℕ → Float) (size n 
       (λ k b. ap (λ (x : Float). add binary64 (getD total k nan) x)
       (ap (λ (y : List Float). getD y k nan) p ∙ tabulate-at (λ k. sum ieee size (λ j. power (c i j k))) n k nan b))
 
-  module _ (i : ℕ) (squares fourths : List Float) (g : Chunked U c size i n squares fourths) (r : Bool) (told : r ≡ not (some (U i) size)) where
+  module _ (i : ℕ) (squares fourths : List Float) (g : Chunked U c size i n squares fourths) (r : Bool) (verdict : r ≡ not (some (U i) size)) where
     pub chunked-more : (p q squares′ fourths′ : List Float) → r ≡ true → Sums (c i) size n p q
         → squares′ ≡ addedTo squares n (λ k. getD p k nan) → fourths′ ≡ addedTo fourths n (λ k. getD q k nan) → Chunked U c size (i + 1) n squares′ fourths′
     chunked-more p q squares′ fourths′ e s a b = record {
-      none = one-passed (λ k. some (U k) size) i r told (g .none) e;
+      none = one-passed (λ k. some (U k) size) i r verdict (g .none) e;
       squared = a ∙ adds (square ieee) i p squares (s .squared) ∙ sums-add (chunkSum (square ieee) c size) i n squares (g .squared);
       fourthed = b ∙ adds (fourth ieee) i q fourths (s .fourthed) ∙ sums-add (chunkSum (fourth ieee) c size) i n fourths (g .fourthed);
     }
 
     pub not-chunked : (chunks : ℕ) → i < chunks → r ≡ false → false ≡ not (some (λ k. some (U k) size) chunks)
-    not-chunked chunks l e = one-failed (λ k. some (U k) size) i r told chunks l e
+    not-chunked chunks l e = one-failed (λ k. some (U k) size) i r verdict chunks l e

@@ -6,7 +6,7 @@ use Rattle.vector.specs.Search as Search
 use Rattle.vector.specs.Search.{some, some-at}
 
 -- r says whether j passed
-module _ (U : ℕ → Bool) (j : ℕ) (r : Bool) (told : r ≡ not (U j)) where
+module _ (U : ℕ → Bool) (j : ℕ) (r : Bool) (verdict : r ≡ not (U j)) where
   turned : (s u : Bool) → s ≡ not u → not s ≡ u
   turned true true p = sym p
   turned true false p = refl
@@ -14,7 +14,7 @@ module _ (U : ℕ → Bool) (j : ℕ) (r : Bool) (told : r ≡ not (U j)) where
   turned false false p = sym p
 
   pub one-passed : some U j ≡ false → r ≡ true → some U (j + 1) ≡ false
-  one-passed g e = Search.miss U j g (not r) (turned r (U j) told) (ap not e)
+  one-passed g e = Search.miss U j g (not r) (turned r (U j) verdict) (ap not e)
 
   pub one-failed : (n : ℕ) → j < n → r ≡ false → false ≡ not (some U n)
-  one-failed n l e = sym (ap not (some-at U n j l (sym (turned r (U j) told) ∙ ap not e)))
+  one-failed n l e = sym (ap not (some-at U n j l (sym (turned r (U j) verdict) ∙ ap not e)))

@@ -2,7 +2,7 @@
 use mathlib.Core.Path.{_≡_, refl, sym, ap, _∙_}
 use mathlib.Core.Bool.{Bool, true, false, not}
 use mathlib.Core.List.{List}
-use Prim.Native.Nat.{ℕ, zero, suc, _+_, _<_}
+use Prim.Native.Nat.{ℕ, zero, suc, _+_, _*_, _<_}
 use native.Mathlib.Numerals.{add-one}
 use lib.Ieee.{Float, nan, binary64, add}
 use lib.ListN.{length, getD}
@@ -10,11 +10,12 @@ use Rattle.vector.specs.Search as Search
 use Rattle.vector.specs.Search.{some}
 use Rattle.vector.specs.Tabulate.{tabulate, tabulate-length, tabulate-at, tabulate-ext}
 use Rattle.transfer.specs.Arithmetic.{sum}
+use Rattle.transfer.specs.Job.{Job}
 use Rattle.transfer.specs.Rounded.{ieee}
 use Rattle.transfer.specs.Totals.{square, fourth}
 use Rattle.powers.specs.Added.{addedTo}
 use Rattle.chunks.specs.Passing.{one-passed, one-failed}
-use Rattle.chunks.specs.Powers.{AddedPowers}
+use Rattle.chunks.specs.Powers.{correlationAt, unsoundBetas, AddedPowers}
 
 -- n sums of the first j terms that a rule gives, from zero.
 abbrev pub sumsOf : (ℕ → ℕ → Float) → (j n : ℕ) → List Float
@@ -24,6 +25,12 @@ sumsOf term j n = tabulate (λ k. sum ieee j (λ i. term i k)) n
 pub record Sums (c : ℕ → ℕ → Float) (j n : ℕ) (squares fourths : List Float) : Type 0 where
   pub squared : squares ≡ sumsOf (λ i k. square ieee (c i k)) j n
   pub fourthed : fourths ≡ sumsOf (λ i k. fourth ieee (c i k)) j n
+
+-- Whether every Z of a run of configurations was finite and above zero; then the lists hold the sums at each beta and pair.
+abbrev pub RunSummed : (ℕ → ℕ → Job Float) → (us vs : List ℕ) → (betas size : ℕ) → Bool → (squares fourths : List Float) → Type 0
+RunSummed J us vs betas size sound squares fourths =
+    (sound ≡ not (some (λ j. unsoundBetas (J j) us vs betas) size))
+    × (sound ≡ true → Sums (λ j. correlationAt (J j) us vs) size (betas * length us) squares fourths)
 
 -- one term more
 pub sums-add : (term : ℕ → ℕ → Float) (j n : ℕ) (l : List Float) → l ≡ sumsOf term j n → addedTo l n (term j) ≡ sumsOf term (j + 1) n
@@ -58,9 +65,9 @@ module _ (U : ℕ → Bool) (c : ℕ → ℕ → Float) (n : ℕ) where
   passed-none z squares fourths e p q =
       record { none = Search.start U; sums = record { squared = sums-none _ n z squares e p; fourthed = sums-none _ n z fourths e q } }
 
-  module _ (j : ℕ) (squares fourths : List Float) (g : Passed U c j n squares fourths) (r : Bool) (told : r ≡ not (U j)) where
+  module _ (j : ℕ) (squares fourths : List Float) (g : Passed U c j n squares fourths) (r : Bool) (verdict : r ≡ not (U j)) where
     pub passed-more : (squares′ fourths′ : List Float) → r ≡ true → AddedPowers (c j) n squares squares′ fourths fourths′ → Passed U c (j + 1) n squares′ fourths′
-    passed-more squares′ fourths′ e a = record { none = one-passed U j r told (g .none) e; sums = sums-more c j n squares squares′ fourths fourths′ (g .sums) a }
+    passed-more squares′ fourths′ e a = record { none = one-passed U j r verdict (g .none) e; sums = sums-more c j n squares squares′ fourths fourths′ (g .sums) a }
 
     pub not-passed : (size : ℕ) → j < size → r ≡ false → false ≡ not (some U size)
-    not-passed size l e = one-failed U j r told size l e
+    not-passed size l e = one-failed U j r verdict size l e

@@ -19,7 +19,8 @@ use Rattle.chunks.specs.Powers.{correlationAt, pair-numbered}
 use Rattle.glass.specs.Correlations.{mannerOf, jobGiven}
 use Rattle.glass.specs.declared.Manner.{Manner}
 use Rattle.demands.specs.Configurations.{early, signedJob}
-use Rattle.demands.specs.Calls.{CorrelationsCall, Given, ExhaustiveCall, StoringCall, SampleCall, Place, number, number-inside}
+use Rattle.totals.specs.Given.{Given}
+use Rattle.demands.specs.Calls.{CorrelationsCall, ExhaustiveCall, StoringCall, SampleCall, Place, number, number-inside}
 use Rattle.demands.specs.Calls.{jobOf, freeOf, configurationOf, drawnOf}
 use Rattle.demands.specs.Correlations.{result-is}
 use Rattle.demands.specs.Exhaustive.{squares-are, fourths-are}

@@ -82,20 +82,20 @@ module _ (J : ℕ → ℕ → Job Float) (us vs : List ℕ) (size b : ℕ) where
 
   module _ (squares fourths : List Float) (r : Bool)
       (g : Summed (λ j i. unsound (J j i) us vs) (λ j. correlationAt (J j) us vs) size b (b * length us) squares fourths)
-      (told : r ≡ not (some (λ j. unsound (J j b) us vs) size)) where
+      (verdict : r ≡ not (some (λ j. unsound (J j b) us vs) size)) where
     pub summed-more : (squares′ fourths′ p q : List Float) → r ≡ true → Sums (λ j. pairAt (J j b) us vs) size (length us) p q
         → length p ≡ length us → length q ≡ length us → b * length us + length us ≤ length squares → b * length us + length us ≤ length fourths
         → squares′ ≡ put squares (b * length us) p → fourths′ ≡ put fourths (b * length us) q
         → Summed (λ j i. unsound (J j i) us vs) (λ j. correlationAt (J j) us vs) size (b + 1) ((b + 1) * length us) squares′ fourths′
     summed-more squares′ fourths′ p q e s full full′ fits fits′ laid laid′ = record {
-      none = one-passed (λ i. some (λ j. unsound (J j i) us vs) size) b r told (g .none) e;
+      none = one-passed (λ i. some (λ j. unsound (J j i) us vs) size) b r verdict (g .none) e;
       squared = part-more (square ieee) squares squares′ p laid fits (s .squared) full (g .squared);
       fourthed = part-more (fourth ieee) fourths fourths′ q laid′ fits′ (s .fourthed) full′ (g .fourthed);
     }
 
     pub not-summed : (betas : ℕ) → b < betas → r ≡ false → false ≡ not (some (λ j. some (λ i. unsound (J j i) us vs) betas) size)
     not-summed betas l e =
-        one-failed (λ i. some (λ j. unsound (J j i) us vs) size) b r told betas l e
+        one-failed (λ i. some (λ j. unsound (J j i) us vs) size) b r verdict betas l e
         ∙ ap not (sym (swapped (λ j i. unsound (J j i) us vs) size betas))
 
 pub summed-none : (U : ℕ → ℕ → Bool) (c : ℕ → ℕ → Float) (size n : ℕ) (squares fourths : List Float) → n ≡ 0 → Summed U c size 0 n squares fourths

@@ -7,9 +7,9 @@ ghost use lib.ListN.{length};
 ghost use Rattle.vector.specs.Search.{some};
 ghost use Rattle.transfer.specs.Job.{Job};
 ghost use Rattle.pair_correlations.specs.Sound.{unsound};
-ghost use Rattle.chunks.specs.Powers.{pairAt, correlationAt, unsoundBetas};
+ghost use Rattle.chunks.specs.Powers.{pairAt};
 ghost use Rattle.chunks.specs.Stage.{Stage, EnoughFactors};
-ghost use Rattle.chunks.specs.Sums.{Sums};
+ghost use Rattle.chunks.specs.Sums.{Sums, RunSummed};
 ghost use Rattle.enumerate.specs.Configurations.{Enumerates, PlanOfBeta, PlanFrom};
 use chunks::Shape;
 use chunks::add_beta;
@@ -96,9 +96,7 @@ pub fn enumerated_chunk(
         × EnoughFactors (length (now factors)) (length (now tree)) betas × Enumerates (now tree) (length (now signs)) first size
         × (length (now squares) ≡ betas * length (now us)) × (length (now fourths) ≡ betas * length (now us)) ⌝ }
     ensures { λ r. ⌜ ((J : ℕ → ℕ → Job Float) → PlanFrom J (now (plan .entry)) (now (factors .entry)) (now (tree .entry)) first betas shape
-        → (r ≡ not (some (λ j. unsoundBetas (J j) (now (us .entry)) (now (vs .entry)) betas) size))
-        × (r ≡ true → Sums (λ j. correlationAt (J j) (now (us .entry)) (now (vs .entry))) size (betas * length (now (us .entry)))
-        (now (squares .exit)) (now (fourths .exit)))) ⌝ }
+        → RunSummed J (now (us .entry)) (now (vs .entry)) betas size r (now (squares .exit)) (now (fourths .exit))) ⌝ }
 {
     let pairs = us.len();
     let mut b = 0usize;

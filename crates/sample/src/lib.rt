@@ -1,14 +1,11 @@
 // One chunk of samples.
 ghost use mathlib.Core.Path.{_≡_};
-ghost use mathlib.Core.Bool.{true, not};
 ghost use Prim.Native.Nat.{ℕ, _*_};
 ghost use lib.Ieee.{Float};
 ghost use lib.ListN.{length};
-ghost use Rattle.vector.specs.Search.{some};
 ghost use Rattle.transfer.specs.Job.{Job};
-ghost use Rattle.chunks.specs.Powers.{correlationAt, unsoundBetas};
 ghost use Rattle.chunks.specs.Stage.{Stage, EnoughFactors};
-ghost use Rattle.chunks.specs.Sums.{Sums};
+ghost use Rattle.chunks.specs.Sums.{RunSummed};
 ghost use Rattle.sample.specs.Samples.{PlanOfSamples};
 use chunks::Shape;
 use chunks::add_configuration;
@@ -40,9 +37,7 @@ pub fn sampled_chunk(
         × (length (now squares) ≡ betas * length (now us)) × (length (now fourths) ≡ betas * length (now us)) ⌝ }
     ensures { λ r. ⌜ ((J : ℕ → ℕ → Job Float)
         → PlanOfSamples J (now (plan .entry)) (now (factors .entry)) (length (now (signs .entry))) seed chunk betas shape
-        → (r ≡ not (some (λ j. unsoundBetas (J j) (now (us .entry)) (now (vs .entry)) betas) samples))
-        × (r ≡ true → Sums (λ j. correlationAt (J j) (now (us .entry)) (now (vs .entry))) samples (betas * length (now (us .entry)))
-        (now (squares .exit)) (now (fourths .exit)))) ⌝ }
+        → RunSummed J (now (us .entry)) (now (vs .entry)) betas samples r (now (squares .exit)) (now (fourths .exit))) ⌝ }
 {
     let sums = squares.len();
     fill(squares, 0, sums, 0.0);

@@ -1,4 +1,4 @@
--- A buffer that a loop fills from its front, one mark a turn; and which of its marks changed.
+-- A buffer that a loop fills from its front, one mark an iteration; and which of its marks changed.
 use mathlib.Core.Path.{_≡_, refl, sym, ap, _∙_}
 use mathlib.Core.Bool.{Bool, true, false, cond, not}
 use mathlib.Core.List.{List, [], _∷_, _++_, append-nil}

@@ -21,7 +21,7 @@ fn word_at(at: Drawn, e: usize) -> Drawn
     at
 }
 
-// The signs of the next sample: lowest bit first, 0 for plus. Answers the generator after it.
+// The signs of the next sample: lowest bit first, 0 for plus. Returns the generator after it.
 pub fn sampled_signs(signs: &mut [bool], rng: Rng) -> Rng
     ensures { λ r. ⌜ (now (signs .exit) ≡ tabulate (λ e. bit (e % 64) (result (drawn (rng .s) (e / 64)))) (length (now (signs .entry))))
         × (r .s ≡ drawn (rng .s) (wordsPerSample (length (now (signs .entry))))) ⌝ }

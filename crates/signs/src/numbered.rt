@@ -39,7 +39,7 @@ fn last_changed(before: bool, minus: bool, e: usize, last: usize) -> usize
     if minus { e } else { last }
 }
 
-// The signs of configuration x, by the marks of the tree edges. Answers the last edge whose sign changed, 0 where none did.
+// The signs of configuration x, by the marks of the tree edges. Returns the last edge whose sign changed, 0 where none did.
 pub fn enumerated_signs(signs: &mut [bool], tree: &[bool], x: usize) -> usize
     requires { ⌜ (length (now signs) ≡ length (now tree)) × (freeBefore (λ e. getD (now tree) e false) (length (now tree)) ≤ 63) ⌝ }
     ensures { λ _. ⌜ now (signs .exit)

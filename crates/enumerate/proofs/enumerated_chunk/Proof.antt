@@ -1,4 +1,4 @@
--- Each turn sums a beta in its own part of the lists.
+-- Each iteration sums a beta in its own part of the lists.
 use mathlib.Core.Path.{_≡_, refl, sym, _∙_}
 use mathlib.Core.Bool.{true, false}
 use Prim.Native.Nat.{ℕ, _+_, _-_, _*_, _≤_, _<_}

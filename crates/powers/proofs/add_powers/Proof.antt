@@ -23,83 +23,63 @@ Inv-loop squares₀ fourths₀ at c p₀ squares fourths p =
 abbrev μ-loop : tie.MeasureT-loop
 μ-loop squares₀ fourths₀ at c p₀ squares fourths p = length c - p
 
--- src/powers.rt:17:5
 loop-holds : tie.Need-loop-holds Inv-loop μ-loop
 loop-holds c = (omega arith, refl, refl, fill-none _ _ _, fill-none _ _ _)
 
--- src/powers.rt:18:17
 mul-x : tie.Need-mul-x Inv-loop μ-loop
 mul-x c = search needs
 
--- src/powers.rt:18:17
 shared-slice-read-x : tie.Need-shared-slice-read-x Inv-loop μ-loop
 shared-slice-read-x c = search needs
 
--- src/powers.rt:18:24
 mul-x-2 : tie.Need-mul-x-2 Inv-loop μ-loop
 mul-x-2 c = search needs
 
--- src/powers.rt:18:24
 shared-slice-read-x-2 : tie.Need-shared-slice-read-x-2 Inv-loop μ-loop
 shared-slice-read-x-2 c = search needs
 
--- src/powers.rt:19:35
 add-squares : tie.Need-add-squares Inv-loop μ-loop
 add-squares c = search needs
 
--- src/powers.rt:19:27
 mul-squares : tie.Need-mul-squares Inv-loop μ-loop
 mul-squares c = search needs
 
--- src/powers.rt:19:27
 slice-read-squares : tie.Need-slice-read-squares Inv-loop μ-loop
 slice-read-squares c = search needs
 
--- src/powers.rt:19:17
 add-squares-2 : tie.Need-add-squares-2 Inv-loop μ-loop
 add-squares-2 c = search needs
 
--- src/powers.rt:19:9
 mul-squares-2 : tie.Need-mul-squares-2 Inv-loop μ-loop
 mul-squares-2 c = search needs
 
--- src/powers.rt:19:9
 slice-write-squares : tie.Need-slice-write-squares Inv-loop μ-loop
 slice-write-squares c = search needs
 
--- src/powers.rt:20:35
 add-fourths : tie.Need-add-fourths Inv-loop μ-loop
 add-fourths c = search needs
 
--- src/powers.rt:20:27
 mul-fourths : tie.Need-mul-fourths Inv-loop μ-loop
 mul-fourths c = search needs
 
--- src/powers.rt:20:27
 slice-read-fourths : tie.Need-slice-read-fourths Inv-loop μ-loop
 slice-read-fourths c = search needs
 
--- src/powers.rt:20:17
 add-fourths-2 : tie.Need-add-fourths-2 Inv-loop μ-loop
 add-fourths-2 c = search needs
 
--- src/powers.rt:20:9
 mul-fourths-2 : tie.Need-mul-fourths-2 Inv-loop μ-loop
 mul-fourths-2 c = search needs
 
--- src/powers.rt:20:9
 slice-write-fourths : tie.Need-slice-write-fourths Inv-loop μ-loop
 slice-write-fourths c = search needs
 
--- src/powers.rt:21:9
 add-p : tie.Need-add-p Inv-loop μ-loop
 add-p c = search needs
 
--- src/powers.rt:17:5
 loop-less : tie.Need-loop-less Inv-loop μ-loop
 loop-less c = search needs
 
--- src/powers.rt:17:5
 loop-again : tie.Need-loop-again Inv-loop μ-loop
 loop-again c =
     let l = c .before .before .before .before .before .loop in
@@ -111,15 +91,12 @@ loop-again c =
       added-more (a .fourths .now) (λ i. fourth ieee (getD (a .c .now) i nan)) (a .at) (l .fourths) _ _ (l .inv .4) (omega arith) refl,
     )
 
--- src/powers.rt:11:1
 same-length : tie.Need-same-length Inv-loop μ-loop
 same-length c = c .before .loop .inv .1
 
--- src/powers.rt:11:1
 same-length-2 : tie.Need-same-length-2 Inv-loop μ-loop
 same-length-2 c = c .before .loop .inv .2
 
--- src/powers.rt:11:1
 returns : tie.Need-returns Inv-loop μ-loop
 returns c =
     let l = c .before .loop in

@@ -18,54 +18,42 @@ Inv-loop totals₀ sums k₀ totals k = (k ≤ length sums) × (length totals �
 abbrev μ-loop : tie.MeasureT-loop
 μ-loop totals₀ sums k₀ totals k = length sums - k
 
--- src/powers.rt:31:5
 loop-holds : tie.Need-loop-holds Inv-loop μ-loop
 loop-holds c = (omega arith, refl, summed-none _ _)
 
--- src/powers.rt:32:21
 mul-totals : tie.Need-mul-totals Inv-loop μ-loop
 mul-totals c = search needs
 
--- src/powers.rt:32:21
 slice-read-totals : tie.Need-slice-read-totals Inv-loop μ-loop
 slice-read-totals c = omega arith
 
--- src/powers.rt:32:33
 mul-totals-2 : tie.Need-mul-totals-2 Inv-loop μ-loop
 mul-totals-2 c = search needs
 
--- src/powers.rt:32:33
 shared-slice-read-totals : tie.Need-shared-slice-read-totals Inv-loop μ-loop
 shared-slice-read-totals c = search needs
 
--- src/powers.rt:32:9
 mul-totals-3 : tie.Need-mul-totals-3 Inv-loop μ-loop
 mul-totals-3 c = search needs
 
--- src/powers.rt:32:9
 slice-write-totals : tie.Need-slice-write-totals Inv-loop μ-loop
 slice-write-totals c = omega arith
 
--- src/powers.rt:33:9
 add-k : tie.Need-add-k Inv-loop μ-loop
 add-k c = search needs
 
--- src/powers.rt:31:5
 loop-less : tie.Need-loop-less Inv-loop μ-loop
 loop-less c = search needs
 
--- src/powers.rt:31:5
 loop-again : tie.Need-loop-again Inv-loop μ-loop
 loop-again c =
     let l = c .before .before .before .loop in
     let a = c .before .before .before .before .args in
     (omega arith, simp length-set (l .inv .1), summed-more (a .totals .now) (λ j. getD (a .sums .now) j nan) (l .totals) _ _ (l .inv .2) (omega arith) refl)
 
--- src/powers.rt:26:1
 same-length : tie.Need-same-length Inv-loop μ-loop
 same-length c = c .before .loop .inv .1
 
--- src/powers.rt:26:1
 returns : tie.Need-returns Inv-loop μ-loop
 returns c = let a = c .before .before .args in c .before .loop .inv .2 ∙ summed-all (a .totals .now) (λ j. getD (a .sums .now) j nan) _ (omega arith)
 

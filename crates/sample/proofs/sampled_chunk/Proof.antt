@@ -87,8 +87,8 @@ returns c =
     let t : l .j < s .args .samples = omega (arith, c .before .before .before .before .before .before .before .before .before .before .before .before .before .before .before .before .before .before .before .loop-test .taken) in
     let no : true ≡ false → ⊥ = λ z. (let z′ : _≡_ {A = ℕ} 0 1 = cc in omega arith) in
     λ J of.
-    let told = a .ensures (J (l .j)) (signed-of (J (l .j)) (s .args .plan .now) (s .args .factors .now) _ _ (length (s .args .signs .now)) (s .args .betas) (s .args .shape) q (of (l .j))) in
-    (not-passed _ _ _ (l .j) _ _ (l .inv .passed J of) _ (told .0) _ t (not-true _ (c .if1 .taken)), λ z. absurd (no (sym z)))
+    let said = a .ensures (J (l .j)) (signed-of (J (l .j)) (s .args .plan .now) (s .args .factors .now) _ _ (length (s .args .signs .now)) (s .args .betas) (s .args .shape) q (of (l .j))) in
+    (not-passed _ _ _ (l .j) _ _ (l .inv .passed J of) _ (said .0) _ t (not-true _ (c .if1 .taken)), λ z. absurd (no (sym z)))
 
 add-j : tie.Need-add-j Inv-loop μ-loop
 add-j c = omega (arith, c .before .before .before .before .before .before .before .before .before .before .before .before .before .before .before .before .before .before .before .loop-test .taken, c .before .before .before .before .before .before .before .before .before .before .before .before .before .before .before .before .before .before .before .before .before .before .before .before .before .before .before .before .before .before .before .before .before .before .before .before .before .before .before .before .good)
@@ -115,8 +115,8 @@ loop-again c =
       squareds = a .kept .1 .1 .1 .1 .1 .1 .1 .1 .1 .1 .0 ∙ i .squareds;
       fourthds = a .kept .1 .1 .1 .1 .1 .1 .1 .1 .1 .1 .1 .0 ∙ i .fourthds;
       passed = λ J of.
-          let told = a .ensures (J (l .j)) (signed-of (J (l .j)) (s .args .plan .now) (s .args .factors .now) _ _ (length (s .args .signs .now)) (s .args .betas) (s .args .shape) q (of (l .j))) in
-          passed-more _ _ _ (l .j) _ _ (i .passed J of) _ (told .0) _ _ yes (told .1 yes);
+          let said = a .ensures (J (l .j)) (signed-of (J (l .j)) (s .args .plan .now) (s .args .factors .now) _ _ (length (s .args .signs .now)) (s .args .betas) (s .args .shape) q (of (l .j))) in
+          passed-more _ _ _ (l .j) _ _ (i .passed J of) _ (said .0) _ _ yes (said .1 yes);
     }
 
 same-length-6 : tie.Need-same-length-6 Inv-loop μ-loop

@@ -84,8 +84,8 @@ returns-2 c =
     let t : l .x < 2 ^ s .args .free = omega (arith, c .before .before .before .before .before .before .before .before .before .before .before .before .before .before .before .before .loop-test .taken, i .0) in
     let no : true ≡ false → ⊥ = λ z. (let z′ : _≡_ {A = ℕ} 0 1 = cc in omega arith) in
     λ J of.
-    let told = a .ensures (J (l .x)) (signed-of (J (l .x)) (s .args .plan .now) (s .args .factors .now) _ _ _ (s .args .betas) (s .args .shape) q (of (l .x))) in
-    (one-failed _ (l .x) _ (told .0) _ t (not-true _ (c .if2 .taken)), λ z. absurd (no (sym z)))
+    let said = a .ensures (J (l .x)) (signed-of (J (l .x)) (s .args .plan .now) (s .args .factors .now) _ _ _ (s .args .betas) (s .args .shape) q (of (l .x))) in
+    (one-failed _ (l .x) _ (said .0) _ t (not-true _ (c .if2 .taken)), λ z. absurd (no (sym z)))
 
 add-x : tie.Need-add-x Inv-loop μ-loop
 add-x c =
@@ -115,9 +115,9 @@ loop-again c =
         results = a .kept .1 .1 .1 .1 .1 .1 .1 .1 .1 .1 .1 .0 ∙ i .1 .results;
         storeds = a .kept .1 .1 .1 .1 .1 .1 .1 .1 .1 .1 .1 .1 .0 ∙ i .1 .storeds;
         so-far = λ J of.
-            let told = a .ensures (J (l .x)) (signed-of (J (l .x)) (s .args .plan .now) (s .args .factors .now) _ _ _ (s .args .betas) (s .args .shape) q (of (l .x))) in
+            let said = a .ensures (J (l .x)) (signed-of (J (l .x)) (s .args .plan .now) (s .args .factors .now) _ _ _ (s .args .betas) (s .args .shape) q (of (l .x))) in
             let g = i .1 .so-far J of in
-            (one-passed _ (l .x) _ (told .0) (g .0) yes, stored-next _ _ _ (l .x) _ (told .1 yes _ (λ k b. refl) (g .1)));
+            (one-passed _ (l .x) _ (said .0) (g .0) yes, stored-next _ _ _ (l .x) _ (said .1 yes _ (λ k b. refl) (g .1)));
       },
     )
 

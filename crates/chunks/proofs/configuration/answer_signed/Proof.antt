@@ -7,7 +7,7 @@ use lib.ListN.{length}
 use Rattle.vector.specs.Tabulate.{tabulate-length}
 use Rattle.vertex.specs.Ready.{Ready}
 use Rattle.signed.specs.Signed.{signedFactors}
-use Rattle.chunks.proofs.Staging.{told-of}
+use Rattle.chunks.proofs.Staging.{outcome-of}
 use borrow.Author.Needs.{needs}
 use Rattle.chunks.proofs.configuration.answer_signed.Statement.{statement}
 use Rattle.chunks.proofs.configuration.answer_signed.Tie as tie
@@ -53,7 +53,7 @@ returns c =
     let a = s .args in
     let x = signedFactors (a .factors .now) (length (a .signs .now)) (a .b) (a .signs .now) in
     let t = tabulate-length _ (length (a .signs .now)) in
-    told-of (a .plan .now) (a .us .now) (a .vs .now) x (a .room .now) _ _ _ _ _ _ _ _ _ _ (s .pre .0 .ready) (c .before .before .before .before .before .before .before .before .before .before .before .before .before .lay-signed .ensures) (ap (λ (k : ℕ). a .shape .scales + a .shape .n + k) t ∙ s .pre .0 .ends) (c .before .before .before .before .before .before .before .before .before .sweep .ensures .0) (c .before .before .before .before .before .before .before .before .before .sweep .ensures .1) (c .before .before .before .before .answer-pairs .ensures .0) (c .before .before .before .before .answer-pairs .ensures .1)
+    outcome-of (a .plan .now) (a .us .now) (a .vs .now) x (a .room .now) _ _ _ _ _ _ _ _ _ _ (s .pre .0 .ready) (c .before .before .before .before .before .before .before .before .before .before .before .before .before .lay-signed .ensures) (ap (λ (k : ℕ). a .shape .scales + a .shape .n + k) t ∙ s .pre .0 .ends) (c .before .before .before .before .before .before .before .before .before .sweep .ensures .0) (c .before .before .before .before .before .before .before .before .before .sweep .ensures .1) (c .before .before .before .before .answer-pairs .ensures .0) (c .before .before .before .before .answer-pairs .ensures .1)
 
 pub answer-signed-spec : {M : Type 1} → statement M
 answer-signed-spec =

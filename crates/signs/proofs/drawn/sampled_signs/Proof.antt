@@ -23,31 +23,24 @@ Inv-loop signs₀ at₀ e₀ signs at e = (e ≤ length signs₀) × Word (at₀
 abbrev μ-loop : tie.MeasureT-loop
 μ-loop signs₀ at₀ e₀ signs at e = length signs₀ - e
 
--- src/drawn.rt:31:5
 loop-holds : tie.Need-loop-holds Inv-loop μ-loop
 loop-holds c = (omega arith, word-none _ _ refl, refl, filled-none _ _)
 
--- src/drawn.rt:32:9
 word-at-requires : tie.Need-word-at-requires Inv-loop μ-loop
 word-at-requires c κs = search needs
 
--- src/drawn.rt:33:21
 shr-signs : tie.Need-shr-signs Inv-loop μ-loop
 shr-signs c = search needs
 
--- src/drawn.rt:33:9
 slice-write-signs : tie.Need-slice-write-signs Inv-loop μ-loop
 slice-write-signs c = omega arith
 
--- src/drawn.rt:34:9
 add-e : tie.Need-add-e Inv-loop μ-loop
 add-e c = search needs
 
--- src/drawn.rt:31:5
 loop-less : tie.Need-loop-less Inv-loop μ-loop
 loop-less c = omega arith
 
--- src/drawn.rt:31:5
 loop-again : tie.Need-loop-again Inv-loop μ-loop
 loop-again c =
     let l = c .before .before .before .loop in
@@ -59,11 +52,9 @@ loop-again c =
       filled-more _ (s .args .signs .now) _ _ _ (l .inv .3) (omega arith) (word-bit _ _ _ g),
     )
 
--- src/drawn.rt:25:1
 same-length : tie.Need-same-length Inv-loop μ-loop
 same-length c = c .before .before .loop .inv .2
 
--- src/drawn.rt:25:1
 returns : tie.Need-returns Inv-loop μ-loop
 returns c =
     let l = c .before .before .loop in

@@ -8,15 +8,12 @@ use Rattle.signs.proofs.drawn.word_at.Reads as reads
 use Rattle.signs.proofs.drawn.word_at.Lts as lts
 use Rattle.rng.proofs.Rng.next_u64.Reads as next-u64-reads
 
--- src/drawn.rt:19:9
 next-u64-requires : tie.Need-next-u64-requires
 next-u64-requires c κs = search needs
 
--- src/drawn.rt:19:9
 returns : tie.Need-returns
 returns c = λ s g. word-new s _ _ _ g (omega arith) (c .next-u64 .ensures .0) (c .next-u64 .ensures .1)
 
--- src/drawn.rt:15:1
 returns-2 : tie.Need-returns-2
 returns-2 c = λ s g. word-same s _ _ _ g (λ z. omega arith) refl refl
 

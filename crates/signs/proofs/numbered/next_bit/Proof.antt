@@ -5,15 +5,12 @@ use Rattle.signs.proofs.numbered.next_bit.Tie as tie
 use Rattle.signs.proofs.numbered.next_bit.Reads as reads
 use Rattle.signs.proofs.numbered.next_bit.Lts as lts
 
--- src/numbered.rt:25:26
 add-result : tie.Need-add-result
 add-result c = search needs
 
--- src/numbered.rt:21:1
 returns : tie.Need-returns
 returns c = rw (c .if1 .taken) (omega arith)
 
--- src/numbered.rt:21:1
 returns-2 : tie.Need-returns-2
 returns-2 c = rw (c .if1 .left)
 
