@@ -7,12 +7,11 @@ use native.Mathlib.Nat.{add-zero, zero-add, add-suc, suc-mul, zero-mul, sub-zero
 use lib.Pow.{pow-mono}
 use native.Mathlib.Omega.{arith}
 use lib.Ieee.{Float}
-use lib.ListN.{length}
 use Rattle.vector.specs.Search.{some}
 use Rattle.vector.specs.Tabulate.{tabulate}
 use Rattle.transfer.specs.Job.{Job}
 use Rattle.transfer.specs.Rounded.{ieee}
-use Rattle.transfer.specs.Totals.{chunkSize, chunkCount, chunked, enumerated, sampled}
+use Rattle.transfer.specs.Totals.{chunkSize, chunkCount, enumerated, sampled}
 use Rattle.bounds.specs.Chunks.{chunks-cover}
 use Rattle.chunks.specs.Powers.{unsoundBetas}
 use Rattle.chunked_totals.specs.Totals.{allChunks, unsoundChunks, totalsOver}

@@ -1,14 +1,14 @@
 -- The betas of one configuration, one after another.
-use mathlib.Core.Path.{_≡_, refl, sym, ap, _∙_}
+use mathlib.Core.Path.{_≡_, sym, ap, _∙_}
 use mathlib.Core.Bool.{Bool, true, false, not}
-use mathlib.Core.List.{List, [], _++_, append-nil}
+use mathlib.Core.List.{List, _++_, append-nil}
 use mathlib.Core.Logic.{inr}
 use Prim.Native.Nat.{ℕ, _+_, _*_, _≤_, _<_}
 use native.Mathlib.Nat.{zero-add, zero-mul, mul-le-mul-right}
 use native.Mathlib.Omega.{arith}
 use lib.Ieee.{Float, nan, binary64, add}
-use lib.ListN.{length, getD, take, drop, drop-of-length-le}
-use Rattle.vector.specs.Part.{put, put-out, fill-none, fill-run, fill-length}
+use lib.ListN.{length, getD, drop-of-length-le}
+use Rattle.vector.specs.Part.{put, put-out, fill-none, fill-run}
 use Rattle.vector.specs.Search.{some}
 use Rattle.vector.specs.Search as Search
 use Rattle.vector.specs.Tabulate.{tabulate, tabulate-length, tabulate-at, tabulate-ext}

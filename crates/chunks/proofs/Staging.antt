@@ -1,5 +1,5 @@
 -- One configuration at one beta: what the sweeps left and the pairs were answered, of the job whose factors were laid.
-use mathlib.Core.Path.{_≡_, refl, sym, ap, _∙_, subst}
+use mathlib.Core.Path.{_≡_, sym, ap, _∙_}
 use mathlib.Core.Bool.{Bool}
 use mathlib.Core.List.{List}
 use mathlib.Core.Logic.{inl}
@@ -9,7 +9,7 @@ use native.Mathlib.Omega.{arith}
 use lib.Ieee.{Float, nan}
 use lib.ListN.{length, getD, drop, length-drop}
 use lib.Seq.{ext-getD, getD-drop}
-use Rattle.vector.specs.Part.{put, part, part-at, part-put, part-put-out, put-length}
+use Rattle.vector.specs.Part.{put, part-at, part-put, part-put-out, put-length}
 use Rattle.transfer.specs.Job.{Job}
 use Rattle.plan.specs.Layout.{backwardPlace}
 use Rattle.sweep.specs.Place.{held}

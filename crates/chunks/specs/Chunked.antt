@@ -1,11 +1,11 @@
 -- Sums over chunks: the sums of each chunk, from zero, added chunk by chunk. U i j says of configuration j of chunk i whether one of its Z
 -- is not finite and above zero, c i j k is its correlation at k.
-use mathlib.Core.Path.{_≡_, refl, sym, ap, _∙_}
+use mathlib.Core.Path.{_≡_, ap, _∙_}
 use mathlib.Core.Bool.{Bool, true, false, not}
 use mathlib.Core.List.{List}
 use Prim.Native.Nat.{ℕ, _+_, _<_}
 use lib.Ieee.{Float, nan, binary64, add}
-use lib.ListN.{length, getD}
+use lib.ListN.{getD}
 use Rattle.vector.specs.Search as Search
 use Rattle.vector.specs.Search.{some}
 use Rattle.vector.specs.Tabulate.{tabulate, tabulate-at, tabulate-ext}

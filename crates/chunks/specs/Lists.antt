@@ -1,12 +1,12 @@
 -- What a loop over configurations needs of its lists: sums that begin at zero, lists that kept their lengths, and signs that were made.
-use mathlib.Core.Path.{_≡_, refl, sym, ap, _∙_, subst}
+use mathlib.Core.Path.{_≡_, ap, _∙_}
 use mathlib.Core.Bool.{Bool}
 use mathlib.Core.List.{List, _++_, append-nil}
 use Prim.Native.Nat.{ℕ, _+_, _*_, _≤_, _<_}
 use native.Mathlib.Nat.{mul-le-mul-right}
 use native.Mathlib.Omega.{arith}
 use lib.Ieee.{Float}
-use lib.ListN.{length, drop, drop-of-length-le}
+use lib.ListN.{length, drop-of-length-le}
 use Rattle.vector.specs.Part.{put}
 use Rattle.vector.specs.Tabulate.{tabulate, tabulate-length}
 use Rattle.transfer.specs.Job.{Job}

@@ -1,14 +1,14 @@
 -- The sums of squares and fourth powers over some configurations, for every beta and pair.
-use mathlib.Core.Path.{_≡_, refl, sym, ap, _∙_}
+use mathlib.Core.Path.{_≡_, ap, _∙_}
 use mathlib.Core.Bool.{Bool, true, false, not}
 use mathlib.Core.List.{List}
-use Prim.Native.Nat.{ℕ, zero, suc, _+_, _*_, _<_}
+use Prim.Native.Nat.{ℕ, _+_, _*_, _<_}
 use native.Mathlib.Numerals.{add-one}
 use lib.Ieee.{Float, nan, binary64, add}
 use lib.ListN.{length, getD}
 use Rattle.vector.specs.Search as Search
 use Rattle.vector.specs.Search.{some}
-use Rattle.vector.specs.Tabulate.{tabulate, tabulate-length, tabulate-at, tabulate-ext}
+use Rattle.vector.specs.Tabulate.{tabulate, tabulate-at, tabulate-ext}
 use Rattle.transfer.specs.Arithmetic.{sum}
 use Rattle.transfer.specs.Job.{Job}
 use Rattle.transfer.specs.Rounded.{ieee}

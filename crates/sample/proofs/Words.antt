@@ -1,12 +1,11 @@
 -- The words of a chunk, sample by sample.
-use mathlib.Core.Path.{_≡_, refl, sym, ap, _∙_}
+use mathlib.Core.Path.{_≡_, ap, _∙_}
 use mathlib.Core.Bool.{Bool}
 use mathlib.Core.List.{List}
 use Prim.Native.Nat.{ℕ, zero, suc, _+_, _*_, _/_, _%_}
-use native.Mathlib.Nat.{add-zero, add-suc, zero-mul, suc-mul}
-use native.Mathlib.Numerals.{add-one}
+use native.Mathlib.Nat.{add-zero, add-suc, zero-mul}
 use native.Mathlib.Omega.{arith}
-use Rattle.rng.specs.Xoshiro.{result, next, streamed}
+use Rattle.rng.specs.Xoshiro.{result, streamed}
 use Rattle.vector.specs.Bits.{bit}
 use Rattle.vector.specs.Tabulate.{tabulate, tabulate-ext}
 use Rattle.transfer.specs.Configuration.{drawn, wordsPerSample, sampledMinus}

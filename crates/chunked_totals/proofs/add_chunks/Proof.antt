@@ -15,7 +15,6 @@ use Rattle.chunks.specs.Powers.{correlationAt, unsoundBetas}
 use Rattle.chunks.specs.Sums.{Sums}
 use Rattle.chunked_totals.specs.Totals.{PlanOfChunks, Chunking}
 use Rattle.chunked_totals.proofs.Adding.{no, first-chunk, chunk-more, all-summed}
-use borrow.Author.Needs.{needs}
 use Rattle.chunked_totals.proofs.add_chunks.Statement.{statement}
 use Rattle.chunked_totals.proofs.add_chunks.Tie as tie
 

@@ -2,7 +2,6 @@ use Rattle.chunked_totals.proofs.Adding.{size-some}
 use borrow.Author.Needs.{needs}
 use Rattle.chunked_totals.proofs.all_chunks.Statement.{statement}
 use Rattle.chunked_totals.proofs.all_chunks.Tie as tie
-use Rattle.chunked_totals.proofs.all_chunks.Reads as reads
 
 pow2-requires : tie.Need-pow2-requires
 pow2-requires c κs = search needs

@@ -1,17 +1,11 @@
-use mathlib.Core.Path.{_≡_, refl, sym, _∙_}
+use mathlib.Core.Path.{refl, sym, _∙_}
 use native.Mathlib.Omega.{arith}
-use lib.ListN.{length}
 use Rattle.sweep.specs.Constants.{zero-is}
 use Rattle.chunks.specs.Lists.{filled}
 use Rattle.chunked_totals.proofs.Idling.{none-sound, zero-totals}
 use borrow.Author.Needs.{needs}
 use Rattle.chunked_totals.proofs.chunked_totals.Statement.{statement}
 use Rattle.chunked_totals.proofs.chunked_totals.Tie as tie
-use Rattle.chunked_totals.proofs.chunked_totals.Reads as reads
-use Rattle.chunked_totals.proofs.chunked_totals.Lts as lts
-use Rattle.chunked_totals.proofs.add_chunks.Reads as add-chunks-reads
-use Rattle.chunked_totals.proofs.nothing.Reads as nothing-reads
-use Rattle.sweep.proofs.fill.Reads as fill-reads
 
 nothing-requires : tie.Need-nothing-requires
 nothing-requires c κs = search needs

@@ -4,11 +4,8 @@ use mathlib.Core.Logic.{inl, inr}
 use Prim.Native.Nat.{ℕ}
 use native.Mathlib.Omega.{arith}
 use borrow.Author.Tests.{eqb-true}
-use borrow.Author.Needs.{needs}
 use Rattle.chunked_totals.proofs.nothing.Statement.{statement}
 use Rattle.chunked_totals.proofs.nothing.Tie as tie
-use Rattle.chunked_totals.proofs.nothing.Reads as reads
-use Rattle.chunked_totals.proofs.nothing.Lts as lts
 
 no : true ≡ false → ⊥
 no z = let z′ : _≡_ {A = ℕ} 0 1 = cc in omega arith

@@ -1,12 +1,11 @@
 -- A chunk's samples, or the configurations with its numbers.
-use mathlib.Core.Path.{refl, sym}
+use mathlib.Core.Path.{refl}
 use native.Mathlib.Omega.{arith}
 use Rattle.chunks.specs.Lists.{stage-with, factors-with}
 use Rattle.chunked_totals.proofs.Adding.{drawn-plan, numbered-plan, numbers-fit}
 use borrow.Author.Needs.{needs}
 use Rattle.chunked_totals.proofs.sum_chunk.Statement.{statement}
 use Rattle.chunked_totals.proofs.sum_chunk.Tie as tie
-use Rattle.chunked_totals.proofs.sum_chunk.Reads as reads
 
 sampled-chunk-requires : tie.Need-sampled-chunk-requires
 sampled-chunk-requires c κs =
@@ -47,7 +46,7 @@ enumerated-chunk-requires c κs =
     let d = c .before .before .before .before .before .if1 .left in (
       p .0,
       p .1,
-      record { matched = p .2 .matched; free = p .2 .few d; fits = numbers-fit (c .before .before .before .before .before .before .before .before .before .before .before .before .before .before .before .before .before .args .i) (p .2) d (p .3) },
+      record { matched = p .2 .matched; free = p .2 .few d; fits = omega (arith, numbers-fit (c .before .before .before .before .before .before .before .before .before .before .before .before .before .before .before .before .before .args .i) (p .2) d (p .3)) },
       p .4,
       p .5,
     )

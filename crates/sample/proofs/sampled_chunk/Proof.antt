@@ -1,6 +1,6 @@
-use mathlib.Core.Path.{_≡_, refl, sym, ap, _∙_, subst}
+use mathlib.Core.Path.{_≡_, refl, sym, ap, _∙_}
 use mathlib.Core.Bool.{true, false, not}
-use Prim.Native.Nat.{ℕ, _+_, _-_, _*_, _≤_, _<_}
+use Prim.Native.Nat.{ℕ, _-_, _<_}
 use native.Mathlib.Omega.{arith}
 use lib.ListN.{length}
 use borrow.Author.Tests.{not-true, not-false}
@@ -14,12 +14,6 @@ use Rattle.sample.proofs.Words.{words-none, words-more, signs-are}
 use borrow.Author.Needs.{needs}
 use Rattle.sample.proofs.sampled_chunk.Statement.{statement}
 use Rattle.sample.proofs.sampled_chunk.Tie as tie
-use Rattle.sample.proofs.sampled_chunk.Reads as reads
-use Rattle.sample.proofs.sampled_chunk.Lts as lts
-use Rattle.chunks.proofs.add_configuration.Reads as add-configuration-reads
-use Rattle.rng.proofs.Rng.stream.Reads as stream-reads
-use Rattle.signs.proofs.sampled_signs.Reads as sampled-signs-reads
-use Rattle.sweep.proofs.fill.Reads as fill-reads
 
 abbrev Inv-loop : tie.InvT-loop
 Inv-loop room₀ plan shape us vs order factors betas seed chunk samples signs₀ c₀ squares₀ fourths₀ sums rng₀ j₀ room signs c squares fourths rng j = Sampling plan us vs factors seed chunk betas shape (rng .s) j samples room₀ room signs₀ signs c₀ c squares₀ squares fourths₀ fourths

@@ -2,8 +2,6 @@ use native.Mathlib.Omega.{arith}
 use borrow.Author.Needs.{needs}
 use Rattle.signed.proofs.factor_at.Statement.{statement}
 use Rattle.signed.proofs.factor_at.Tie as tie
-use Rattle.signed.proofs.factor_at.Reads as reads
-use Rattle.signed.proofs.factor_at.Lts as lts
 
 mul-result : tie.Need-mul-result
 mul-result c = search needs

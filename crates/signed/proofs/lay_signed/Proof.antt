@@ -1,6 +1,6 @@
-use mathlib.Core.Path.{_≡_, refl, sym, ap, _∙_}
+use mathlib.Core.Path.{_≡_, refl, ap}
 use mathlib.Core.Bool.{false}
-use Prim.Native.Nat.{ℕ, _+_, _-_, _*_, _≤_, _<_}
+use Prim.Native.Nat.{ℕ, _+_, _-_, _≤_, _<_}
 use native.Mathlib.Omega.{arith}
 use lib.Ieee.{nan}
 use lib.ListN.{length, getD, length-set}
@@ -11,9 +11,6 @@ use Rattle.signed.proofs.Signs.{sign-small}
 use borrow.Author.Needs.{needs}
 use Rattle.signed.proofs.lay_signed.Statement.{statement}
 use Rattle.signed.proofs.lay_signed.Tie as tie
-use Rattle.signed.proofs.lay_signed.Reads as reads
-use Rattle.signed.proofs.lay_signed.Lts as lts
-use Rattle.signed.proofs.factor_at.Reads as factor-at-reads
 
 abbrev Inv-loop : tie.InvT-loop
 Inv-loop room₀ at factors b signs first e₀ room e = (e ≤ length signs) × (length room ≡ length room₀) × (room ≡ put room₀ at (tabulate (λ j. getD factors (lentAt (length signs) b j (getD signs j false)) nan) e))

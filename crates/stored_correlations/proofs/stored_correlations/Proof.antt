@@ -1,7 +1,6 @@
-use mathlib.Core.Path.{_≡_, refl, sym, ap, _∙_, subst}
+use mathlib.Core.Path.{_≡_, refl, sym, ap, _∙_}
 use mathlib.Core.Bool.{true, false, not}
-use Prim.Native.Nat.{ℕ, _+_, _-_, _*_, _^_, _≤_, _<_}
-use native.Mathlib.Nat.{zero-mul}
+use Prim.Native.Nat.{ℕ, _-_, _*_, _^_, _≤_, _<_}
 use native.Mathlib.Omega.{arith}
 use lib.ListN.{length}
 use lib.Pow.{pow-mono, pow-pos}
@@ -10,16 +9,10 @@ use Rattle.vector.specs.Search as Search
 use Rattle.chunks.specs.Lists.{stage-with, factors-with, signed-of}
 use Rattle.chunks.specs.Nothing.{never, none-unsound, no-product, empty-list}
 use Rattle.chunks.specs.Passing.{one-passed, one-failed}
-use Rattle.stored_correlations.specs.Stored.{Stored, stored-none, stored-next, stored-all}
+use Rattle.stored_correlations.specs.Stored.{stored-none, stored-next, stored-all}
 use Rattle.stored_correlations.specs.Keeping.{Keeping}
-use borrow.Author.Needs.{needs}
 use Rattle.stored_correlations.proofs.stored_correlations.Statement.{statement}
 use Rattle.stored_correlations.proofs.stored_correlations.Tie as tie
-use Rattle.stored_correlations.proofs.stored_correlations.Reads as reads
-use Rattle.stored_correlations.proofs.stored_correlations.Lts as lts
-use Rattle.stored_correlations.proofs.configuration.store_configuration.Reads as store-configuration-reads
-use Rattle.signs.proofs.enumerated_signs.Reads as enumerated-signs-reads
-use Rattle.sweep.proofs.pow2.Reads as pow2-reads
 
 abbrev Inv-loop : tie.InvT-loop
 Inv-loop room₀ plan shape us vs order factors betas tree signs₀ free c₀ stored₀ all x₀ room signs c stored x = (all ≡ 2 ^ free) × Keeping plan us vs factors tree betas shape x all room₀ room signs₀ signs c₀ c stored₀ stored

@@ -5,7 +5,6 @@ use Rattle.totals.specs.Staging.{few-sums}
 use borrow.Author.Needs.{needs}
 use Rattle.totals_job.proofs.total_job.Statement.{statement}
 use Rattle.totals_job.proofs.total_job.Tie as tie
-use Rattle.totals_job.proofs.total_job.Reads as reads
 
 slice-aggregate-plan-and-total : tie.Need-slice-aggregate-plan-and-total
 slice-aggregate-plan-and-total c = search needs

@@ -1,11 +1,9 @@
-use mathlib.Core.Path.{_≡_, refl, sym, ap, _∙_, subst}
+use mathlib.Core.Path.{_≡_, refl, sym, _∙_}
 use mathlib.Core.Bool.{true, false}
-use Prim.Native.Nat.{ℕ, _+_, _-_, _*_, _≤_, _<_}
+use Prim.Native.Nat.{ℕ, _-_, _<_}
 use native.Mathlib.Omega.{arith}
-use native.Mathlib.Nat.{mul-le-mul-right}
 use lib.ListN.{length}
 use borrow.Author.Tests.{not-true, not-false}
-use Rattle.chunks.specs.Stage.{Stage, EnoughFactors}
 use Rattle.chunks.specs.SoFar.{Betas}
 use Rattle.chunks.specs.Lists.{factors-first, part-of}
 use Rattle.chunks.proofs.Staging.{stage-keep}
@@ -13,10 +11,6 @@ use Rattle.chunks.proofs.Betas.{none-yet, some-unsound, beta-more, all-
 use borrow.Author.Needs.{needs}
 use Rattle.chunks.proofs.configuration.add_configuration.Statement.{statement}
 use Rattle.chunks.proofs.configuration.add_configuration.Tie as tie
-use Rattle.chunks.proofs.configuration.add_configuration.Reads as reads
-use Rattle.chunks.proofs.configuration.add_configuration.Lts as lts
-use Rattle.chunks.proofs.configuration.answer_signed.Reads as answer-signed-reads
-use Rattle.powers.proofs.add_powers.Reads as add-powers-reads
 
 abbrev Inv-loop : tie.InvT-loop
 Inv-loop room₀ plan shape us vs order factors betas signs c₀ squares₀ fourths₀ b₀ room c squares fourths b = Betas plan us vs factors signs betas shape b room₀ room c₀ c squares₀ squares fourths₀ fourths

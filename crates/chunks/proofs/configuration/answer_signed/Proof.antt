@@ -1,8 +1,6 @@
-use mathlib.Core.Path.{_≡_, refl, sym, ap, _∙_, subst}
-use Prim.Native.Nat.{ℕ, _+_, _*_}
+use mathlib.Core.Path.{sym, ap, _∙_, subst}
+use Prim.Native.Nat.{ℕ, _+_}
 use native.Mathlib.Omega.{arith}
-use native.Mathlib.Nat.{suc-mul}
-use native.Mathlib.Numerals.{add-one}
 use lib.ListN.{length}
 use Rattle.vector.specs.Tabulate.{tabulate-length}
 use Rattle.vertex.specs.Ready.{Ready}
@@ -11,11 +9,6 @@ use Rattle.chunks.proofs.Staging.{outcome-of}
 use borrow.Author.Needs.{needs}
 use Rattle.chunks.proofs.configuration.answer_signed.Statement.{statement}
 use Rattle.chunks.proofs.configuration.answer_signed.Tie as tie
-use Rattle.chunks.proofs.configuration.answer_signed.Reads as reads
-use Rattle.chunks.proofs.configuration.answer_signed.Lts as lts
-use Rattle.pair_correlations.proofs.answer_pairs.Reads as answer-pairs-reads
-use Rattle.signed.proofs.lay_signed.Reads as lay-signed-reads
-use Rattle.sweeps.proofs.sweep.Reads as sweep-reads
 
 add-lay-signed : tie.Need-add-lay-signed
 add-lay-signed c = omega (arith, c .before .before .before .before .before .before .before .before .before .before .pre .0 .ready .ends)

@@ -9,7 +9,6 @@ use Rattle.transfer.specs.Totals.{square, fourth}
 use Rattle.checks.specs.AcceptedTotals.{misfits}
 use Rattle.checks.specs.Request.{mostCounted}
 use Rattle.kept.specs.Fronts.{early-part, late-part, early-fits, late-fits}
-use Rattle.lattice.specs.Graphs.{freeCount}
 use Rattle.glass.specs.Correlations.{mannerOf}
 use Rattle.totals.specs.Given.{Given, early, late, free, window, end, sums}
 use Rattle.totals.specs.Calls.{unsoundAll, totalsOfAll}

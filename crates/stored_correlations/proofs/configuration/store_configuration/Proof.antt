@@ -1,22 +1,18 @@
-use mathlib.Core.Path.{_≡_, refl, sym, ap, _∙_, subst}
+use mathlib.Core.Path.{_≡_, refl, sym, ap, _∙_}
 use mathlib.Core.Bool.{true, false, not}
-use Prim.Native.Nat.{ℕ, _+_, _-_, _*_, _≤_, _<_}
+use Prim.Native.Nat.{ℕ, _+_, _-_, _*_, _<_}
 use native.Mathlib.Nat.{zero-mul}
 use native.Mathlib.Omega.{arith}
 use lib.ListN.{length}
 use borrow.Author.Tests.{not-true, not-false}
 use Rattle.vector.specs.Search as Search
-use Rattle.stored_correlations.specs.Stored.{Stored, Storing, number-small}
+use Rattle.stored_correlations.specs.Stored.{Storing, number-small}
 use Rattle.chunks.specs.Lists.{factors-first, part-of}
 use Rattle.chunks.proofs.Staging.{stage-keep, part-stored}
 use Rattle.chunks.proofs.Betas.{some-unsound, sound-more, results-value}
 use borrow.Author.Needs.{needs}
 use Rattle.stored_correlations.proofs.configuration.store_configuration.Statement.{statement}
 use Rattle.stored_correlations.proofs.configuration.store_configuration.Tie as tie
-use Rattle.stored_correlations.proofs.configuration.store_configuration.Reads as reads
-use Rattle.stored_correlations.proofs.configuration.store_configuration.Lts as lts
-use Rattle.chunks.proofs.answer_signed.Reads as answer-signed-reads
-use Rattle.stored_correlations.proofs.configuration.store_results.Reads as store-results-reads
 
 abbrev Inv-loop : tie.InvT-loop
 Inv-loop room₀ plan shape us vs order factors betas signs x all c₀ stored₀ b₀ room c stored b = Storing plan us vs factors signs betas shape all x b room₀ room c₀ c stored₀ stored

@@ -1,14 +1,12 @@
-use mathlib.Core.Path.{_≡_, refl, sym, ap, _∙_}
-use Prim.Native.Nat.{ℕ, _+_, _-_, _*_, _≤_, _<_}
+use mathlib.Core.Path.{_≡_, refl, _∙_}
+use Prim.Native.Nat.{_+_, _-_, _*_, _<_}
 use native.Mathlib.Omega.{arith}
 use lib.ListN.{length, length-set}
 use native.Mathlib.Nat.{add-zero, add-assoc}
-use Rattle.stored_correlations.specs.Stored.{Stored, Placing, place-inside, number-small, stored-more}
+use Rattle.stored_correlations.specs.Stored.{Placing, place-inside, number-small, stored-more}
 use borrow.Author.Needs.{needs}
 use Rattle.stored_correlations.proofs.configuration.store_results.Statement.{statement}
 use Rattle.stored_correlations.proofs.configuration.store_results.Tie as tie
-use Rattle.stored_correlations.proofs.configuration.store_results.Reads as reads
-use Rattle.stored_correlations.proofs.configuration.store_results.Lts as lts
 
 abbrev Inv-loop : tie.InvT-loop
 Inv-loop stored₀ all x first c p₀ stored p = Placing all x first c p stored₀ stored

@@ -6,9 +6,6 @@ use lib.Pow.{pow-mono}
 use borrow.Author.Needs.{needs}
 use Rattle.storing.proofs.entry.stored_count.Statement.{statement}
 use Rattle.storing.proofs.entry.stored_count.Tie as tie
-use Rattle.storing.proofs.entry.stored_count.Reads as reads
-use Rattle.storing.proofs.entry.stored_count.Lts as lts
-use Rattle.sweep.proofs.pow2.Reads as pow2-reads
 
 returns : tie.Need-returns
 returns c = search needs

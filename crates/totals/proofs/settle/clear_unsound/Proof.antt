@@ -3,9 +3,6 @@ use borrow.Author.Tests.{not-true, not-false}
 use borrow.Author.Needs.{needs}
 use Rattle.totals.proofs.settle.clear_unsound.Statement.{statement}
 use Rattle.totals.proofs.settle.clear_unsound.Tie as tie
-use Rattle.totals.proofs.settle.clear_unsound.Reads as reads
-use Rattle.totals.proofs.settle.clear_unsound.Lts as lts
-use Rattle.planned.proofs.clear.Reads as clear-reads
 
 clear-requires : tie.Need-clear-requires
 clear-requires c κs = search needs
