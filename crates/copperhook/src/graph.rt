@@ -1,13 +1,13 @@
 // A graph's kept edges, as they are or turned, and its window and their number through references.
 ghost use mathlib.Core.Path.{_≡_};
 ghost use lib.ListN.{length};
-ghost use Rattle.checks.specs.Edges.{kept};
-ghost use Rattle.checks.specs.Request.{graphRequest};
-ghost use Rattle.checks.specs.Refusal.{refusal, ofGraphWithBuffers};
-ghost use Rattle.lattice.specs.Graphs.{tooShort, rotate};
+ghost use Rattle.refusals.specs.Edges.{kept};
+ghost use Rattle.refusals.specs.Request.{graphRequest};
+ghost use Rattle.refusals.specs.Refusal.{refusal, ofGraphWithBuffers};
+ghost use Rattle.graph.specs.Graphs.{tooShort, rotate};
 ghost use Rattle.copperhook.specs.Graphs.{Listed};
-use lattice::Graph;
-use told::tell_graph;
+use c_values::tell_graph;
+use graph::Graph;
 
 // As `Graph::new`; where the call is refused, `window` and `edges` keep what they held.
 #[no_mangle]

@@ -10,15 +10,15 @@ use lib.Ieee.{Float}
 use lib.ListN.{length, take}
 use borrow.Author.Tests.{eq-eqb, ne-eqb}
 use Rattle.limits.specs.Limits.{mostBetas, mostEdges}
-use Rattle.checks.specs.Edges.{kept}
-use Rattle.checks.specs.Request.{couplingRequest, jobRequest}
-use Rattle.checks.specs.Refusal.{refusal, ofGraph, ofCouplings}
-use Rattle.checks.specs.Answers.{left-alone}
-use Rattle.checks.specs.Later.{Then, refused-before, refused-here, refused-not}
-use Rattle.checks.specs.Accepted.{accepted-graph}
-use Rattle.checks.specs.AcceptedTotals.{couplings-in-parts}
-use Rattle.kept.specs.Fronts.{front-mag, few}
-use Rattle.kept.specs.Keep.{CheckedGraph}
+use Rattle.refusals.specs.Edges.{kept}
+use Rattle.refusals.specs.Request.{couplingRequest, jobRequest}
+use Rattle.refusals.specs.Refusal.{refusal, ofGraph, ofCouplings}
+use Rattle.refusals.specs.Laws.Answers.{left-alone}
+use Rattle.refusals.specs.Laws.Later.{Then, refused-before, refused-here, refused-not}
+use Rattle.refusals.specs.Laws.Accepted.{accepted-graph}
+use Rattle.refusals.specs.Laws.AcceptedTotals.{couplings-in-parts}
+use Rattle.kept_edges.specs.Laws.Fronts.{front-mag, few}
+use Rattle.kept_edges.specs.Keep.{CheckedGraph}
 use Rattle.couplings.specs.Couplings.{allCouplings, Coupled}
 
 -- the graph was checked with its betas, and r was answered

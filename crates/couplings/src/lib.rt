@@ -4,10 +4,10 @@ ghost use Prim.Native.Nat.{_+_, _*_, _≤_};
 ghost use lib.Ieee.{nan, binary64, mul};
 ghost use lib.ListN.{length, getD};
 ghost use Rattle.limits.specs.Limits.{mostBetas, mostEdges};
-ghost use Rattle.vector.specs.Part.{put};
-ghost use Rattle.vector.specs.Tabulate.{tabulate};
+ghost use Rattle.list_laws.specs.Part.{put};
+ghost use Rattle.list_laws.specs.Tabulate.{tabulate};
 ghost use Rattle.couplings.specs.Couplings.{allCouplings, Coupled};
-use kept::build::check_graph;
+use kept_edges::build::check_graph;
 use limits::EDGES;
 
 // The couplings of one beta to the results, from `at` on.

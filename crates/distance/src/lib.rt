@@ -11,7 +11,7 @@ pub enum Reach {
     NotJoined,
 }
 
-// Relaxes the step from a to b: one more than a's length becomes b's where that is less. Says whether it did.
+// Relaxes the step from a to b: one more than a's length becomes b's where that is less. Returns whether it did.
 fn relax(d: &mut [usize], a: usize, b: usize) -> bool
     requires { ⌜ (a < length (now d)) × (b < length (now d)) × (getD (now d) a 0 ≤ 1024) ⌝ }
     ensures { λ r. ⌜ Relaxed (now (d .entry)) a b r (now (d .exit)) ⌝ }

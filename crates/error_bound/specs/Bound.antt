@@ -5,14 +5,14 @@ use Prim.Native.Nat.{ℕ, zero, suc, _+_, _*_, _-_, _/_, _^_, min}
 use lib.IntN.{pos}
 use lib.Ieee.{Float, nan, binary64, div, ofInt, ofBits, le}
 use lib.ListN.{length, getD}
-use Rattle.vector.specs.Search.{some}
-use Rattle.vector.specs.Most.{most}
-use Rattle.transfer.specs.Configuration.{numbered}
-use Rattle.transfer.specs.Job.{Edge, backEdges}
-use Rattle.checks.specs.Edges.{kept, earlyEnds, lateEnds, windowFrom}
-use Rattle.checks.specs.Request.{Request, sweepRequest, single, signedFactors}
-use Rattle.checks.specs.Key.{Key}
-use Rattle.checks.specs.Refusal.{refusal, ofGraph}
+use Rattle.list_laws.specs.Search.{some}
+use Rattle.list_laws.specs.Most.{most}
+use Rattle.transfer_matrix.specs.Configuration.{numbered}
+use Rattle.transfer_matrix.specs.Job.{Edge, backEdges}
+use Rattle.refusals.specs.Edges.{kept, windowFrom, keptEarly, keptLate}
+use Rattle.refusals.specs.Request.{Request, sweepRequest, single, signedFactors}
+use Rattle.refusals.specs.Key.{Key}
+use Rattle.refusals.specs.Refusal.{refusal, ofGraph}
 use Rattle.accuracy.specs.Stated as Accuracy
 use Rattle.error_bound.specs.declared.answer.ErrorBound.{ErrorBound}
 use Rattle.error_bound.specs.declared.answer.ErrorBound.the-variants.{Within, Unknown, Refused}
@@ -63,4 +63,4 @@ abbrev pub errorBoundOf : (n floor : ℕ) → (a b : List ℕ) → (m betas fact
 errorBoundOf n floor a b m betas factors signed =
     let w = windowFrom floor a b m in
     boundOf (refusal ofErrorBound (errorBoundRequest n floor a b m betas factors (factorCount signed (length betas) (length (kept a b m))))) n w
-    (mostNear n w (numbered (earlyEnds (kept a b m)) (lateEnds (kept a b m)))) factors
+    (mostNear n w (numbered (keptEarly a b m) (keptLate a b m))) factors

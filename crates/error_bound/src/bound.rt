@@ -2,7 +2,7 @@
 ghost use mathlib.Core.Path.{_≡_};
 ghost use Prim.Native.Nat.{_<_, _≤_};
 ghost use Rattle.error_bound.specs.Bound.{errorBound, mostBits, insidePowers, nearOne};
-use sweep::pow2;
+use step_tables::pow2;
 
 // Of n vertices in the window w, with at most `near` short back edges each.
 pub fn bound_of(n: usize, w: usize, near: usize) -> f64

@@ -3,18 +3,18 @@ ghost use mathlib.Core.Path.{_≡_};
 ghost use mathlib.Core.Bool.{true, false, cond};
 ghost use mathlib.Core.List.{[]};
 ghost use Prim.Native.Nat.{_≤_};
-ghost use Rattle.transfer.specs.Job.{tooManyNear};
-ghost use Rattle.transfer.specs.Configuration.{numbered};
-ghost use Rattle.checks.specs.Request.{badFactorList};
-ghost use Rattle.plan.specs.Edges.{Edges};
+ghost use Rattle.transfer_matrix.specs.Job.{tooManyNear};
+ghost use Rattle.transfer_matrix.specs.Configuration.{numbered};
+ghost use Rattle.refusals.specs.Request.{badFactorList};
+ghost use Rattle.plan_steps.specs.Edges.{Edges};
 ghost use Rattle.error_bound.specs.Bound.{boundOf, mostNear, factorCount, errorBoundOf};
 use crate::answer::ErrorBound;
 use crate::bound::bound_of;
 use crate::bound::most_bits;
 use crate::bound::near_one;
 use crate::near::most_near;
-use lent::bad_factors;
-use refuse::check_with_betas;
+use buffer_checks::bad_factors;
+use job_checks::check_with_betas;
 
 // Check 10, and the bound of a graph that 1 to 7 pass.
 fn bound_kept(

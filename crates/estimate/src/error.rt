@@ -2,7 +2,7 @@
 ghost use mathlib.Core.Path.{_≡_};
 ghost use Rattle.estimate.specs.Estimates.{atLeastZero, errorOf, meanErrorOf};
 use crate::MeanError;
-use root::sqrt;
+use sqrt::sqrt;
 
 // A variance below zero is one that rounding has made; -0.0 is none.
 fn at_least_zero(v: f64) -> f64

@@ -10,24 +10,28 @@ use lib.ListN.{length, getD, drop, set, length-set}
 use lib.Seq.{getD-set-same, getD-set-other}
 use lib.Ieee.{Float, nan, binary64, div}
 use borrow.Author.Tests.{le-ltb}
-use Rattle.vector.specs.Search.{some, some-at, none-of}
-use Rattle.vector.specs.Tabulate.{tabulate, tabulated}
-use Rattle.transfer.specs.Job.{Job}
-use Rattle.transfer.specs.Room.{earlier, later}
-use Rattle.transfer.specs.Rounded.{ieee}
-use Rattle.transfer.specs.Sweep as S
-use Rattle.places.specs.Order.{Ordered}
-use Rattle.places.specs.Places.{later-inside}
-use Rattle.half_sums.specs.declared.sums.Source.{Source}
-use Rattle.half_sums.specs.declared.sums.Sums.{Sums}
-use Rattle.half_sums.specs.Pair.{SumsOf}
-use Rattle.vertex.specs.Ready.{Ready, PlanOf, Swept, Still, still-none, still-then}
+use Rattle.list_laws.specs.Search.{some}
+use Rattle.list_laws.specs.Laws.Search.{some-at, none-of}
+use Rattle.list_laws.specs.Tabulate.{tabulate}
+use Rattle.list_laws.specs.Laws.Tabulate.{tabulated}
+use Rattle.transfer_matrix.specs.Job.{Job}
+use Rattle.transfer_matrix.specs.Room.{earlier, later}
+use Rattle.transfer_matrix.specs.Rounded.{ieee}
+use Rattle.transfer_matrix.specs.Sweep as S
+use Rattle.plan_layout.specs.Order.{Ordered}
+use Rattle.plan_layout.specs.Laws.Places.{later-inside}
+use Rattle.pair_sums.specs.declared.sums.Source.{Source}
+use Rattle.pair_sums.specs.declared.sums.Sums.{Sums}
+use Rattle.pair_sums.specs.Pair.{SumsOf}
+use Rattle.vertex_step.specs.Ready.{Ready, PlanOf, Swept, Still}
+use Rattle.vertex_step.specs.Laws.Ready.{still-none, still-then}
 use Rattle.propagation.specs.declared.current.CurrentVector.{CurrentVector}
 use Rattle.pair_correlations.specs.declared.pairs.Step.{Step}
 use Rattle.propagation.specs.declared.together.Pairing.{Pairing}
 use Rattle.pair_correlations.specs.Sound.{soundly, unsound, Outcome}
 use Rattle.pair_correlations.specs.Served.{Served}
-use Rattle.propagation.specs.Current.{Passed, still-passed, CurrentKnown}
+use Rattle.propagation.specs.Current.{Passed, CurrentKnown}
+use Rattle.propagation.specs.Laws.Current.{still-passed}
 use Rattle.pair_correlations.specs.Aim.{PairPlaces, SourceOf, Second}
 use Rattle.propagation.specs.Pairing.{Directs, Done, NextPairing}
 use Rattle.pair_correlations.specs.Two.{AnswerOf, Written, AnsweredTwo}
@@ -115,8 +119,8 @@ pub record Answering (plan us vs order : List ℕ) (r₀ r results : List Float)
   pub long : length results ≡ length us
   pub moving : current .place < 2
   pub still : Still r₀ r w scales
-  pub known : (J : Job Float) (per-element : Bool) → Passed J plan r₀ n w scales per-element → CurrentKnown J r n w current
-  pub done : (J : Job Float) (per-element : Bool) → Passed J plan r₀ n w scales per-element → (k : ℕ) → Done directs direct other k
+  pub known : (J : Job Float) (elementwise : Bool) → Passed J plan r₀ n w scales elementwise → CurrentKnown J r n w current
+  pub done : (J : Job Float) (elementwise : Bool) → Passed J plan r₀ n w scales elementwise → (k : ℕ) → Done directs direct other k
       → Answered J us vs results (getD order k 0)
 
 pub answering-none : (plan us vs order : List ℕ) (r results : List Float) (n w scales : ℕ) (current : CurrentVector) (directs : ℕ) → directs ≤ length order
@@ -129,8 +133,8 @@ answering-none plan us vs order r results n w scales current directs d l e low =
       long = l;
       moving = low;
       still = still-none r w scales;
-      known = λ J per-element passed. record { reached = λ b. absurd (omega arith) };
-      done = λ J per-element passed k b. absurd (nothing k b);
+      known = λ J elementwise passed. record { reached = λ b. absurd (omega arith) };
+      done = λ J elementwise passed k b. absurd (nothing k b);
     }
   where
     nothing : (k : ℕ) → Done directs 0 directs k → ⊥
@@ -140,16 +144,16 @@ answering-none plan us vs order r results n w scales current directs d l e low =
 module _ (plan us vs order : List ℕ) (r₀ r results : List Float) (n w scales : ℕ) (current : CurrentVector) (directs direct other : ℕ)
     (g : Answering plan us vs order r₀ r results n w scales current directs direct other) (ordered : Ordered order (length us)) where
   -- all pairs are answered
-  pub all-answered : directs + length us ≤ direct + other → (J : Job Float) (per-element : Bool) → PlanOf J plan (drop (scales + n) r₀) n w per-element
+  pub all-answered : directs + length us ≤ direct + other → (J : Job Float) (elementwise : Bool) → PlanOf J plan (drop (scales + n) r₀) n w elementwise
       → Swept J plan r₀ n w scales → Outcome J us vs results true
-  all-answered l J per-element of swept =
-      let passed : Passed J plan r₀ n w scales per-element = record { of = of; swept = swept } in
+  all-answered l J elementwise of swept =
+      let passed : Passed J plan r₀ n w scales elementwise = record { of = of; swept = swept } in
       let each-number : (k : ℕ) → k < length us → Done directs direct other k =
       λ k b. dite (decLt k directs) (λ c. inl (omega (arith, g .below, g .inside, ordered .long)))
       (λ c. inr (omega arith, omega (arith, g .below, g .inside, ordered .long))) in
       let each-pair : (i : ℕ) → i < length us → Answered J us vs results i =
       λ i b. let o = ordered .onto i b in
-      subst (λ (p : ℕ). Answered J us vs results p) (o .2) (g .done J per-element passed (o .0) (each-number (o .0) (o .1))) in
+      subst (λ (p : ℕ). Answered J us vs results p) (o .2) (g .done J elementwise passed (o .0) (each-number (o .0) (o .1))) in
       record {
         told = sym (ap not (unsound-is J us vs ∙ none-of _ (length us) (λ i b. ap not (each-pair i b .sound))));
         values = λ e. tabulated nan results _ (length us) (g .long) (λ i b. each-pair i b .value) ∙ sym (answers-is J us vs);
@@ -158,19 +162,19 @@ module _ (plan us vs order : List ℕ) (r₀ r results : List Float) (n w scales
   -- the next two
   module _ (t : Pairing) (s : Step) (r₂ results₂ : List Float) (pairing : NextPairing directs (length order) direct other t) (ready : Ready plan (length r₀) n w scales)
       (two : AnsweredTwo plan us vs r r₂ results results₂ n w scales (getD order (t .first) 0) (getD order (t .second) 0) current s) where
-    now : (J : Job Float) (per-element : Bool) → Passed J plan r₀ n w scales per-element → Passed J plan r n w scales per-element
-    now J per-element passed = still-passed J plan r₀ r n w scales per-element ready (g .still) passed
+    now : (J : Job Float) (elementwise : Bool) → Passed J plan r₀ n w scales elementwise → Passed J plan r n w scales elementwise
+    now J elementwise passed = still-passed J plan r₀ r n w scales elementwise ready (g .still) passed
 
     pub still-next : Still r₀ r₂ w scales
     still-next = still-then r₀ r r₂ w scales (g .still) (two .still)
 
     -- some Z is not sound
-    pub two-unsound : s .sound ≡ false → (J : Job Float) (per-element : Bool) → PlanOf J plan (drop (scales + n) r₀) n w per-element
+    pub two-unsound : s .sound ≡ false → (J : Job Float) (elementwise : Bool) → PlanOf J plan (drop (scales + n) r₀) n w elementwise
         → Swept J plan r₀ n w scales → Outcome J us vs results₂ false
-    two-unsound e J per-element of swept =
-        let passed : Passed J plan r₀ n w scales per-element = record { of = of; swept = swept } in
+    two-unsound e J elementwise of swept =
+        let passed : Passed J plan r₀ n w scales elementwise = record { of = of; swept = swept } in
         record {
-          told = sym (ap not (two .unanswered J per-element (now J per-element passed) (g .known J per-element passed) e));
+          told = sym (ap not (two .unanswered J elementwise (now J elementwise passed) (g .known J elementwise passed) e));
           values = λ f. absurd (true≢false (sym f));
         }
 
@@ -184,25 +188,25 @@ module _ (plan us vs order : List ℕ) (r₀ r results : List Float) (n w scales
           long = two .long ∙ g .long;
           moving = two .moving;
           still = still-next;
-          known = λ J per-element passed. two .answered J per-element (now J per-element passed) (g .known J per-element passed) e .0;
-          done = λ J per-element passed k b. more J per-element passed k (pairing .covered k b);
+          known = λ J elementwise passed. two .answered J elementwise (now J elementwise passed) (g .known J elementwise passed) e .0;
+          done = λ J elementwise passed k b. more J elementwise passed k (pairing .covered k b);
         }
       where
         within : (k : ℕ) → k < length order → getD order k 0 < length results
         within k b = rw (g .long) (ordered .inside k (rw (← ordered .long) b))
 
-        known : (J : Job Float) (per-element : Bool) → Passed J plan r₀ n w scales per-element → (k : ℕ)
+        known : (J : Job Float) (elementwise : Bool) → Passed J plan r₀ n w scales elementwise → (k : ℕ)
             → (Done directs direct other k ⊎ ((k ≡ t .first) ⊎ (k ≡ t .second)))
             → Answered J us vs results (getD order k 0) ⊎ ((getD order k 0 ≡ getD order (t .first) 0) ⊎ (getD order k 0 ≡ getD order (t .second) 0))
-        known J per-element passed k (inl b) = inl (g .done J per-element passed k b)
-        known J per-element passed k (inr (inl x)) = inr (inl (ap (λ (j : ℕ). getD order j 0) x))
-        known J per-element passed k (inr (inr x)) = inr (inr (ap (λ (j : ℕ). getD order j 0) x))
+        known J elementwise passed k (inl b) = inl (g .done J elementwise passed k b)
+        known J elementwise passed k (inr (inl x)) = inr (inl (ap (λ (j : ℕ). getD order j 0) x))
+        known J elementwise passed k (inr (inr x)) = inr (inr (ap (λ (j : ℕ). getD order j 0) x))
 
-        more : (J : Job Float) (per-element : Bool) → Passed J plan r₀ n w scales per-element → (k : ℕ)
+        more : (J : Job Float) (elementwise : Bool) → Passed J plan r₀ n w scales elementwise → (k : ℕ)
             → (Done directs direct other k ⊎ ((k ≡ t .first) ⊎ (k ≡ t .second))) → Answered J us vs results₂ (getD order k 0)
-        more J per-element passed k c =
+        more J elementwise passed k c =
             both-answered J us vs results results₂ _ _ (within (t .first) (pairing .first)) (within (t .second) (pairing .second))
-            (two .answered J per-element (now J per-element passed) (g .known J per-element passed) e .1) _ (known J per-element passed k c)
+            (two .answered J elementwise (now J elementwise passed) (g .known J elementwise passed) e .1) _ (known J elementwise passed k c)
 
 -- the second pair of a pairing is the first or a direct one
 pub second-of-pairing : (us vs order : List ℕ) (w directs : ℕ) → Directs us vs order w directs → (i j : ℕ) → ((j ≡ i) ⊎ (j < directs))

@@ -7,22 +7,24 @@ use native.Mathlib.Omega.{arith}
 use lib.ListN.{length}
 use lib.Ieee.{Float}
 use borrow.Author.Tests.{lt-ltb, le-ltb}
-use Rattle.transfer.specs.Arithmetic.{sum, signedSum}
-use Rattle.transfer.specs.Job.{Job}
-use Rattle.transfer.specs.Rounded.{ieee}
-use Rattle.transfer.specs.Sweep as S
-use Rattle.plan.specs.Layout.{forwardPlace, backwardPlace}
-use Rattle.sweep.specs.Place.{Place}
-use Rattle.halves.specs.Symmetric.{SymmetricHalf}
-use Rattle.halves.specs.Antisymmetric.{AntisymmetricHalf}
-use Rattle.half_sums.specs.Terms.{halfAt, terms, signs}
-use Rattle.half_sums.specs.declared.sums.Source.{Source}
-use Rattle.half_sums.specs.Pair.{Sourced, SumsOf}
-use Rattle.half_sums.specs.Vertex.{Z-is, direct-is, propagated-is}
-use Rattle.vertex.specs.Ready.{Ready, still-none, still-ready, moving-place}
+use Rattle.transfer_matrix.specs.Arithmetic.{sum, signedSum}
+use Rattle.transfer_matrix.specs.Job.{Job}
+use Rattle.transfer_matrix.specs.Rounded.{ieee}
+use Rattle.transfer_matrix.specs.Sweep as S
+use Rattle.plan_steps.specs.Layout.{forwardPlace, backwardPlace}
+use Rattle.step_tables.specs.Place.{Place}
+use Rattle.half_vectors.specs.Symmetric.{SymmetricHalf}
+use Rattle.half_vectors.specs.Antisymmetric.{AntisymmetricHalf}
+use Rattle.pair_sums.specs.Terms.{halfAt, terms, signs}
+use Rattle.pair_sums.specs.declared.sums.Source.{Source}
+use Rattle.pair_sums.specs.Pair.{Sourced, SumsOf}
+use Rattle.pair_sums.specs.Laws.Vertex.{Z-is, direct-is, propagated-is}
+use Rattle.vertex_step.specs.Ready.{Ready}
+use Rattle.vertex_step.specs.Laws.Ready.{still-none, still-ready, moving-place}
 use Rattle.propagation.specs.declared.current.CurrentVector.{CurrentVector}
 use Rattle.pair_correlations.specs.declared.pair.Aim.{Aim}
-use Rattle.propagation.specs.Current.{Passed, still-passed, Propagated}
+use Rattle.propagation.specs.Current.{Passed, Propagated}
+use Rattle.propagation.specs.Laws.Current.{still-passed}
 use Rattle.pair_correlations.specs.Aim.{PairPlaces, SourceOf, DirectSource, Aimed}
 
 -- of the halves at places f and b
@@ -80,8 +82,8 @@ module _ (plan : List ℕ) (len n w scales u v : ℕ) (ready : Ready plan len n 
       let fits = ready .backward .fits v (pair .inside) (pair .backward) in
       record { wide = ready .wide; narrow = ready .narrow; inside = omega (arith, ready .ends) }
 
-module _ (J : Job Float) (plan : List ℕ) (r : List Float) (n w scales u v : ℕ) (per-element : Bool) (pair : PairPlaces plan n w u v)
-    (passed : Passed J plan r n w scales per-element) where
+module _ (J : Job Float) (plan : List ℕ) (r : List Float) (n w scales u v : ℕ) (elementwise : Bool) (pair : PairPlaces plan n w u v)
+    (passed : Passed J plan r n w scales elementwise) where
   forward-half : SymmetricHalf w (halfAt r w (forwardPlace plan v)) (S.forward ieee J v)
   forward-half = passed .swept .forward .vectors v (pair .inside) (pair .forward)
 
@@ -104,12 +106,12 @@ module _ (plan : List ℕ) (r : List Float) (n w scales u v : ℕ) (s : Source) 
     small = rw (d .bit) (omega (arith, ready .narrow));
   }
 
-  pub direct-of : (J : Job Float) (per-element : Bool) → Passed J plan r n w scales per-element → SourceOf J r w u v s
-  direct-of J per-element passed = record {
-    z-of = λ t g. rw (d .forward, d .backward) at (g .z-is) ∙ z-at J plan r n w scales u v per-element pair passed (ready .wide);
+  pub direct-of : (J : Job Float) (elementwise : Bool) → Passed J plan r n w scales elementwise → SourceOf J r w u v s
+  direct-of J elementwise passed = record {
+    z-of = λ t g. rw (d .forward, d .backward) at (g .z-is) ∙ z-at J plan r n w scales u v elementwise pair passed (ready .wide);
     n-of = λ t g. rw (d .other, d .backward, d .bit) at (g .n-is)
-        ∙ direct-sum J w u v (passed .of .window) _ _ (ready .wide) (backward-half J plan r n w scales u v per-element pair passed) near
-        (forward-half J plan r n w scales u v per-element pair passed);
+        ∙ direct-sum J w u v (passed .of .window) _ _ (ready .wide) (backward-half J plan r n w scales u v elementwise pair passed) near
+        (forward-half J plan r n w scales u v elementwise pair passed);
   }
 
 -- ---- what the code returns
@@ -122,8 +124,8 @@ module _ (plan : List ℕ) (r₀ : List Float) (n w scales u v : ℕ) (current :
         moving = rw eh low;
         still = still-none r₀ w scales;
         sourced = rw es (direct-sourced plan r₀ n w scales u v s ready pair l d);
-        known = λ J per-element passed known. rw eh known;
-        source-of = λ J per-element passed known. rw es (direct-of plan r₀ n w scales u v s ready pair l d J per-element passed);
+        known = λ J elementwise passed known. rw eh known;
+        source-of = λ J elementwise passed known. rw es (direct-of plan r₀ n w scales u v s ready pair l d J elementwise passed);
       }
 
   -- the propagated vector is read in place of the forward one, with the window's bit
@@ -132,8 +134,8 @@ module _ (plan : List ℕ) (r₀ : List Float) (n w scales u v : ℕ) (current :
       → Aimed plan r₀ r n w scales u v current a
   aimed-far r on l g a es eh =
       let p = still-ready plan r₀ r n w scales (g .still) ready in
-      let now : (J : Job Float) (per-element : Bool) → Passed J plan r₀ n w scales per-element → Passed J plan r n w scales per-element =
-      λ J per-element passed. still-passed J plan r₀ r n w scales per-element ready (g .still) passed in
+      let now : (J : Job Float) (elementwise : Bool) → Passed J plan r₀ n w scales elementwise → Passed J plan r n w scales elementwise =
+      λ J elementwise passed. still-passed J plan r₀ r n w scales elementwise ready (g .still) passed in
       record {
         moving = rw eh (g .moving);
         still = g .still;
@@ -144,11 +146,11 @@ module _ (plan : List ℕ) (r₀ : List Float) (n w scales u v : ℕ) (current :
           some = ready .wide;
           small = omega (arith, ready .narrow);
         });
-        known = λ J per-element passed known. rw eh (record { reached = λ _. g .reached J per-element passed known });
-        source-of = λ J per-element passed known. rw es (record {
-          z-of = λ t h. rw (d .forward, d .backward) at (h .z-is) ∙ z-at J plan r n w scales u v per-element pair (now J per-element passed) (ready .wide);
+        known = λ J elementwise passed known. rw eh (record { reached = λ _. g .reached J elementwise passed known });
+        source-of = λ J elementwise passed known. rw es (record {
+          z-of = λ t h. rw (d .forward, d .backward) at (h .z-is) ∙ z-at J plan r n w scales u v elementwise pair (now J elementwise passed) (ready .wide);
           n-of = λ t h. rw (d .backward) at (h .n-is)
               ∙ propagated-sum J w u v (passed .of .window) _ _ (ready .wide)
-              (backward-half J plan r n w scales u v per-element pair (now J per-element passed)) l (g .reached J per-element passed known .vector);
+              (backward-half J plan r n w scales u v elementwise pair (now J elementwise passed)) l (g .reached J elementwise passed known .vector);
         });
       }

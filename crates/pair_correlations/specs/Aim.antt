@@ -6,15 +6,15 @@ use mathlib.Core.Logic.{_⊎_}
 use Prim.Native.Nat.{ℕ, _-_, _≤_, _<_}
 use lib.ListN.{length}
 use lib.Ieee.{Float}
-use Rattle.transfer.specs.Job.{Job}
-use Rattle.transfer.specs.Room.{earlier, later}
-use Rattle.transfer.specs.Rounded.{ieee}
-use Rattle.transfer.specs.Sweep as S
-use Rattle.plan.specs.Layout.{forwardPlace, backwardPlace}
-use Rattle.half_sums.specs.declared.sums.Source.{Source}
-use Rattle.half_sums.specs.declared.sums.Sums.{Sums}
-use Rattle.half_sums.specs.Pair.{Sourced, SumsOf}
-use Rattle.vertex.specs.Ready.{Still}
+use Rattle.transfer_matrix.specs.Job.{Job}
+use Rattle.transfer_matrix.specs.Room.{earlier, later}
+use Rattle.transfer_matrix.specs.Rounded.{ieee}
+use Rattle.transfer_matrix.specs.Sweep as S
+use Rattle.plan_steps.specs.Layout.{forwardPlace, backwardPlace}
+use Rattle.pair_sums.specs.declared.sums.Source.{Source}
+use Rattle.pair_sums.specs.declared.sums.Sums.{Sums}
+use Rattle.pair_sums.specs.Pair.{Sourced, SumsOf}
+use Rattle.vertex_step.specs.Ready.{Still}
 use Rattle.propagation.specs.declared.current.CurrentVector.{CurrentVector}
 use Rattle.pair_correlations.specs.declared.pair.Aim.{Aim}
 use Rattle.propagation.specs.Current.{Passed, CurrentKnown}
@@ -44,8 +44,8 @@ pub record Aimed (plan : List ℕ) (r₀ r : List Float) (n w scales u v : ℕ) 
   pub moving : a .current .place < 2
   pub still : Still r₀ r w scales
   pub sourced : Sourced (length r) w (a .source)
-  pub known : (J : Job Float) (per-element : Bool) → Passed J plan r₀ n w scales per-element → CurrentKnown J r₀ n w current → CurrentKnown J r n w (a .current)
-  pub source-of : (J : Job Float) (per-element : Bool) → Passed J plan r₀ n w scales per-element → CurrentKnown J r₀ n w current → SourceOf J r w u v (a .source)
+  pub known : (J : Job Float) (elementwise : Bool) → Passed J plan r₀ n w scales elementwise → CurrentKnown J r₀ n w current → CurrentKnown J r n w (a .current)
+  pub source-of : (J : Job Float) (elementwise : Bool) → Passed J plan r₀ n w scales elementwise → CurrentKnown J r₀ n w current → SourceOf J r w u v (a .source)
 
 -- Pair q is pair p, or a direct one.
 abbrev pub Second : (us vs : List ℕ) (w p q : ℕ) → Type 0

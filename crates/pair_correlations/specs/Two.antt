@@ -5,11 +5,11 @@ use mathlib.Core.List.{List}
 use Prim.Native.Nat.{ℕ, _<_}
 use lib.ListN.{length, getD, set}
 use lib.Ieee.{Float}
-use Rattle.transfer.specs.Job.{Job}
-use Rattle.transfer.specs.Room.{later}
-use Rattle.transfer.specs.Rounded.{ieee}
-use Rattle.transfer.specs.Sweep as S
-use Rattle.vertex.specs.Ready.{Still}
+use Rattle.transfer_matrix.specs.Job.{Job}
+use Rattle.transfer_matrix.specs.Room.{later}
+use Rattle.transfer_matrix.specs.Rounded.{ieee}
+use Rattle.transfer_matrix.specs.Sweep as S
+use Rattle.vertex_step.specs.Ready.{Still}
 use Rattle.propagation.specs.declared.current.CurrentVector.{CurrentVector}
 use Rattle.pair_correlations.specs.declared.pairs.Step.{Step}
 use Rattle.propagation.specs.Current.{Passed, CurrentKnown}
@@ -33,6 +33,6 @@ pub record AnsweredTwo (plan us vs : List ℕ) (r₀ r results₀ results : List
   pub moving : s .current .place < 2
   pub long : length results ≡ length results₀
   pub still : Still r₀ r w scales
-  pub answered : (J : Job Float) (per-element : Bool) → Passed J plan r₀ n w scales per-element → CurrentKnown J r₀ n w current → s .sound ≡ true
+  pub answered : (J : Job Float) (elementwise : Bool) → Passed J plan r₀ n w scales elementwise → CurrentKnown J r₀ n w current → s .sound ≡ true
       → CurrentKnown J r n w (s .current) × Written J us vs results₀ results p q
-  pub unanswered : (J : Job Float) (per-element : Bool) → Passed J plan r₀ n w scales per-element → CurrentKnown J r₀ n w current → s .sound ≡ false → unsound J us vs ≡ true
+  pub unanswered : (J : Job Float) (elementwise : Bool) → Passed J plan r₀ n w scales elementwise → CurrentKnown J r₀ n w current → s .sound ≡ false → unsound J us vs ≡ true

@@ -2,13 +2,13 @@
 ghost use mathlib.Core.Path.{_≡_};
 ghost use Prim.Native.Nat.{_<_};
 ghost use lib.ListN.{length};
-ghost use Rattle.plan.specs.Layout.{Holds};
-ghost use Rattle.vertex.specs.Ready.{Ready};
+ghost use Rattle.plan_steps.specs.Layout.{Holds};
+ghost use Rattle.vertex_step.specs.Ready.{Ready};
 ghost use Rattle.pair_correlations.specs.Sound.{soundly};
 ghost use Rattle.pair_correlations.specs.Aim.{PairPlaces, DirectSource, Aimed};
-use half_sums::Source;
-use plan::backward_place;
-use plan::forward_place;
+use pair_sums::Source;
+use plan_steps::backward_place;
+use plan_steps::forward_place;
 use propagation::CurrentVector;
 use propagation::propagate;
 

@@ -4,10 +4,10 @@ ghost use mathlib.Core.Bool.{Bool};
 ghost use Prim.Native.Nat.{_+_, _<_};
 ghost use lib.Ieee.{Float};
 ghost use lib.ListN.{length, drop};
-ghost use Rattle.transfer.specs.Job.{Job};
-ghost use Rattle.plan.specs.Layout.{Holds};
-ghost use Rattle.places.specs.Order.{Ordered};
-ghost use Rattle.vertex.specs.Ready.{Ready, PlanOf, Swept, Still};
+ghost use Rattle.transfer_matrix.specs.Job.{Job};
+ghost use Rattle.plan_steps.specs.Layout.{Holds};
+ghost use Rattle.plan_layout.specs.Order.{Ordered};
+ghost use Rattle.vertex_step.specs.Ready.{Ready, PlanOf, Swept, Still};
 ghost use Rattle.pair_correlations.specs.Served.{Served};
 ghost use Rattle.pair_correlations.specs.Sound.{Outcome};
 ghost use Rattle.pair_correlations.specs.Aim.{Second, SecondSource};
@@ -15,10 +15,10 @@ ghost use Rattle.pair_correlations.specs.Two.{AnsweredTwo};
 use crate::pair::aim_at;
 use crate::pair::direct_source;
 use crate::pair::is_sound;
-use half_sums::Source;
-use half_sums::half_sums_of_two;
-use places::earlier;
-use places::later;
+use pair_sums::Source;
+use pair_sums::half_sums_of_two;
+use plan_layout::earlier;
+use plan_layout::later;
 use propagation::CurrentVector;
 use propagation::Pairing;
 use propagation::direct_pairs;
@@ -125,7 +125,7 @@ pub fn answer_pairs(
     requires { ⌜ Ready (now plan) (length (now room)) n w scales × Served (now plan) (now us) (now vs) n w
         × Ordered (now order) (length (now us)) × (length (now results) ≡ length (now us)) ⌝ }
     ensures { λ _. ⌜ Still (now (room .entry)) (now (room .exit)) w scales ⌝ }
-    ensures { λ r. ⌜ ((J : Job Float) (per-element : Bool) → PlanOf J (now (plan .entry)) (drop (scales + n) (now (room .entry))) n w per-element
+    ensures { λ r. ⌜ ((J : Job Float) (elementwise : Bool) → PlanOf J (now (plan .entry)) (drop (scales + n) (now (room .entry))) n w elementwise
         → Swept J (now (plan .entry)) (now (room .entry)) n w scales
         → Outcome J (now (us .entry)) (now (vs .entry)) (now (results .exit)) r) ⌝ }
 {

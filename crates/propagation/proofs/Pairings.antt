@@ -9,7 +9,7 @@ use native.Mathlib.Omega.{arith}
 use lib.Dec.{ltb}
 use lib.ListN.{length, getD}
 use borrow.Author.Tests.{le-ltb}
-use Rattle.transfer.specs.Room.{earlier, later}
+use Rattle.transfer_matrix.specs.Room.{earlier, later}
 use Rattle.propagation.specs.Pairing.{Done, NextPairing}
 
 module _ (directs all direct other : ℕ) (below : direct ≤ directs) (behind : directs ≤ other) (inside : other ≤ all) where

@@ -7,21 +7,26 @@ use Prim.Native.Nat.{ℕ, suc, _+_, _-_, _^_, _≤_, _<_}
 use native.Mathlib.Omega.{arith}
 use lib.ListN.{length, getD, drop}
 use lib.Ieee.{Float, nan}
-use Rattle.vector.specs.Tabulate.{tabulate, tabulate-length}
-use Rattle.transfer.specs.Job.{Job, Step, stepOf}
-use Rattle.transfer.specs.Rounded.{ieee}
-use Rattle.transfer.specs.Sweep as S
-use Rattle.plan.specs.Layout.{stepIn, forwardPlace}
-use Rattle.sweep.specs.Place.{Places, hold}
-use Rattle.halves.specs.Antisymmetric.{AntisymmetricHalf, alternateHalf, alternate-antisymmetric, forward-antisymmetric}
-use Rattle.half_sums.specs.Terms.{halfAt}
-use Rattle.vertex.specs.Same.{antisymmetric-ext}
-use Rattle.vertex.specs.Frame.{Wrote, wrote-half}
-use Rattle.vertex.specs.Ready.{Ready, Readable, Stepping, Still, still-none, still-then, still-wrote, still-ready, moving-place, tail-factors, tail-scale}
-use Rattle.vertex.specs.Through.{Through, forwardBy, through, through-one, through-two}
-use Rattle.vertex.specs.Steady.{step-below}
+use Rattle.list_laws.specs.Tabulate.{tabulate}
+use Rattle.list_laws.specs.Laws.Tabulate.{tabulate-length}
+use Rattle.transfer_matrix.specs.Job.{Job, Step, stepOf}
+use Rattle.transfer_matrix.specs.Rounded.{ieee}
+use Rattle.transfer_matrix.specs.Sweep as S
+use Rattle.plan_steps.specs.Layout.{stepIn, forwardPlace}
+use Rattle.step_tables.specs.Place.{Places, hold}
+use Rattle.half_vectors.specs.Antisymmetric.{AntisymmetricHalf, alternateHalf}
+use Rattle.half_vectors.specs.Laws.Antisymmetric.{alternate-antisymmetric, forward-antisymmetric}
+use Rattle.pair_sums.specs.Terms.{halfAt}
+use Rattle.vertex_step.specs.Laws.Same.{antisymmetric-ext}
+use Rattle.vertex_step.specs.Laws.Frame.{Wrote, wrote-half}
+use Rattle.vertex_step.specs.Ready.{Ready, Readable, Stepping, Still}
+use Rattle.vertex_step.specs.Laws.Ready.{still-none, still-then, still-wrote, still-ready, moving-place, tail-factors, tail-scale}
+use Rattle.vertex_step.specs.Through.{Through, forwardBy, through}
+use Rattle.vertex_step.specs.Laws.Through.{through-one, through-two}
+use Rattle.vertex_step.specs.Laws.Steady.{step-below}
 use Rattle.propagation.specs.declared.current.CurrentVector.{CurrentVector}
-use Rattle.propagation.specs.Current.{Passed, still-passed, Reached, AdvanceSteps, Advanced, Propagated}
+use Rattle.propagation.specs.Current.{Passed, Reached, AdvanceSteps, Advanced, Propagated}
+use Rattle.propagation.specs.Laws.Current.{still-passed}
 
 -- ---- the definition's propagated vectors
 
@@ -52,7 +57,7 @@ step-same w w′ s s′ x x′ v a b c = cc
 -- ---- on by no step, and by an iteration of one or two: from place src to the other moving place
 
 pub advance-none : (plan : List ℕ) (r : List Float) (n w scales from at : ℕ) → at < 2 → Advanced plan r r n w scales from at from at
-advance-none plan r n w scales from at l = record { moving = l; still = still-none r w scales; reached = λ J per-element u passed before. before }
+advance-none plan r n w scales from at l = record { moving = l; still = still-none r w scales; reached = λ J elementwise u passed before. before }
 
 pub steps-inside : {w t to last : ℕ} → AdvanceSteps w t to last → t ≤ to → (t ≤ last) × (last ≤ to)
 steps-inside (inl e) b = omega arith
@@ -103,9 +108,9 @@ module _ (plan : List ℕ) (r₀ r : List Float) (n w scales from at t src : ℕ
     abbrev stepped : Wrote r r′ w (1 - src)
     stepped = record { vector = tabulate (gone scale then) (2 ^ (w - 1)); full = tabulate-length (gone scale then) (2 ^ (w - 1)); done = made }
 
-    module _ (J : Job Float) (per-element : Bool) (u : ℕ) (passed : Passed J plan r₀ n w scales per-element) (before : Reached J r₀ w u from at) where
+    module _ (J : Job Float) (elementwise : Bool) (u : ℕ) (passed : Passed J plan r₀ n w scales elementwise) (before : Reached J r₀ w u from at) where
       now : Reached J r w u t src
-      now = g .reached J per-element u passed before
+      now = g .reached J elementwise u passed before
 
       -- a step from what is propagated to v on to v + 1
       step-on : (v : ℕ) (x : Float) (h : ℕ → Float) → u ≤ v → v + 1 < n → x ≡ getD r (scales + (v + 1)) nan
@@ -139,10 +144,10 @@ module _ (plan : List ℕ) (r₀ r : List Float) (n w scales from at t src : ℕ
         record {
           moving = other;
           still = still-then r₀ r r′ w scales (g .still) (still-wrote plan r r′ n w scales (1 - src) p other stepped);
-          reached = λ J per-element u passed before.
+          reached = λ J elementwise u passed before.
               record {
-                order = omega (arith, now J per-element u passed before .order, steps-inside steps order);
-                vector = antisymmetric-ext (gone-antisymmetric J per-element u passed before) (wrote-half r r′ w (1 - src) stepped fits (gone scale then) refl);
+                order = omega (arith, now J elementwise u passed before .order, steps-inside steps order);
+                vector = antisymmetric-ext (gone-antisymmetric J elementwise u passed before) (wrote-half r r′ w (1 - src) stepped fits (gone scale then) refl);
               };
         }
 
@@ -154,7 +159,7 @@ propagated-on plan r₀ r n w scales u v on current b e g =
     record {
       moving = g .moving;
       still = g .still;
-      reached = λ J per-element passed known. g .reached J per-element u passed (rw e at (known .reached (omega arith)));
+      reached = λ J elementwise passed known. g .reached J elementwise u passed (rw e at (known .reached (omega arith)));
     }
 
 -- ---- anew
@@ -182,8 +187,8 @@ module _ (plan : List ℕ) (r₀ : List Float) (n w scales u : ℕ) (ready : Rea
     still-start : Still r₀ r₁ w scales
     still-start = still-wrote plan r₀ r₁ n w scales 0 ready (omega arith) wrote
 
-    started : (J : Job Float) (per-element : Bool) → Passed J plan r₀ n w scales per-element → Reached J r₁ w u u 0
-    started J per-element passed =
+    started : (J : Job Float) (elementwise : Bool) → Passed J plan r₀ n w scales elementwise → Reached J r₁ w u u 0
+    started J elementwise passed =
         let is : S.alternate ieee w (S.forward ieee J u) ≡ S.propagated ieee J u (u - u) =
         ap (λ (k : ℕ). S.alternate ieee k (S.forward ieee J u)) (sym (passed .of .window)) ∙ sym (propagated-start J u (u - u) (omega arith)) in
         let start = alternate-antisymmetric w (halfAt r₀ w (forwardPlace plan u)) (S.forward ieee J u) (ready .wide) (passed .swept .forward .vectors u inside kept) in
@@ -198,6 +203,6 @@ module _ (plan : List ℕ) (r₀ : List Float) (n w scales u : ℕ) (ready : Rea
         record {
           moving = g .moving;
           still = still-then r₀ r₁ r w scales still-start (g .still);
-          reached = λ J per-element passed known.
-              g .reached J per-element u (still-passed J plan r₀ r₁ n w scales per-element ready still-start passed) (started J per-element passed);
+          reached = λ J elementwise passed known.
+              g .reached J elementwise u (still-passed J plan r₀ r₁ n w scales elementwise ready still-start passed) (started J elementwise passed);
         }

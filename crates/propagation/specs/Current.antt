@@ -4,26 +4,20 @@ use mathlib.Core.Bool.{Bool}
 use mathlib.Core.List.{List}
 use mathlib.Core.Logic.{_⊎_}
 use Prim.Native.Nat.{ℕ, _+_, _-_, _≤_, _<_}
-use lib.ListN.{length, drop}
+use lib.ListN.{drop}
 use lib.Ieee.{Float}
-use Rattle.transfer.specs.Job.{Job}
-use Rattle.transfer.specs.Rounded.{ieee}
-use Rattle.transfer.specs.Sweep as S
-use Rattle.halves.specs.Antisymmetric.{AntisymmetricHalf}
-use Rattle.half_sums.specs.Terms.{halfAt}
-use Rattle.vertex.specs.Ready.{Ready, PlanOf, Swept, Still, still-swept, tail-factors}
+use Rattle.transfer_matrix.specs.Job.{Job}
+use Rattle.transfer_matrix.specs.Rounded.{ieee}
+use Rattle.transfer_matrix.specs.Sweep as S
+use Rattle.half_vectors.specs.Antisymmetric.{AntisymmetricHalf}
+use Rattle.pair_sums.specs.Terms.{halfAt}
+use Rattle.vertex_step.specs.Ready.{PlanOf, Swept, Still}
 use Rattle.propagation.specs.declared.current.CurrentVector.{CurrentVector}
 
 -- The plan is of job J, and both its sweeps have passed the room.
-pub record Passed (J : Job Float) (plan : List ℕ) (r : List Float) (n w scales : ℕ) (per-element : Bool) : Type 0 where
-  pub of : PlanOf J plan (drop (scales + n) r) n w per-element
+pub record Passed (J : Job Float) (plan : List ℕ) (r : List Float) (n w scales : ℕ) (elementwise : Bool) : Type 0 where
+  pub of : PlanOf J plan (drop (scales + n) r) n w elementwise
   pub swept : Swept J plan r n w scales
-
--- it is so where only the moving places were written since
-pub still-passed : (J : Job Float) (plan : List ℕ) (r₀ r : List Float) (n w scales : ℕ) (per-element : Bool) → Ready plan (length r₀) n w scales
-    → Still r₀ r w scales → Passed J plan r₀ n w scales per-element → Passed J plan r n w scales per-element
-still-passed J plan r₀ r n w scales per-element p s g =
-    record { of = rw (tail-factors r₀ r scales n (s .tail)) (g .of); swept = still-swept J plan r₀ r n w scales p s (g .swept) }
 
 -- The propagated vector of u has reached vertex t, and its lower half lies at place `at`.
 pub record Reached (J : Job Float) (r : List Float) (w u t at : ℕ) : Type 0 where
@@ -43,7 +37,7 @@ AdvanceSteps w t to last = (last ≡ t) ⊎ AdvanceTwo w t to last
 pub record Advanced (plan : List ℕ) (r₀ r : List Float) (n w scales from at to on : ℕ) : Type 0 where
   pub moving : on < 2
   pub still : Still r₀ r w scales
-  pub reached : (J : Job Float) (per-element : Bool) (u : ℕ) → Passed J plan r₀ n w scales per-element → Reached J r₀ w u from at → Reached J r w u to on
+  pub reached : (J : Job Float) (elementwise : Bool) (u : ℕ) → Passed J plan r₀ n w scales elementwise → Reached J r₀ w u from at → Reached J r w u to on
 
 -- The current vector is what it is said to be, if there is one.
 pub record CurrentKnown (J : Job Float) (r : List Float) (n w : ℕ) (current : CurrentVector) : Type 0 where
@@ -53,4 +47,4 @@ pub record CurrentKnown (J : Job Float) (r : List Float) (n w : ℕ) (current : 
 pub record Propagated (plan : List ℕ) (r₀ r : List Float) (n w scales u v : ℕ) (current : CurrentVector) (on : ℕ) : Type 0 where
   pub moving : on < 2
   pub still : Still r₀ r w scales
-  pub reached : (J : Job Float) (per-element : Bool) → Passed J plan r₀ n w scales per-element → CurrentKnown J r₀ n w current → Reached J r w u v on
+  pub reached : (J : Job Float) (elementwise : Bool) → Passed J plan r₀ n w scales elementwise → CurrentKnown J r₀ n w current → Reached J r w u v on

@@ -4,7 +4,7 @@ use mathlib.Core.List.{List}
 use mathlib.Core.Logic.{_⊎_}
 use Prim.Native.Nat.{ℕ, _+_, _-_, _≤_, _<_}
 use lib.ListN.{length, getD}
-use Rattle.transfer.specs.Room.{earlier, later}
+use Rattle.transfer_matrix.specs.Room.{earlier, later}
 use Rattle.propagation.specs.declared.together.Pairing.{Pairing}
 
 -- The first `directs` pairs of the order are direct.

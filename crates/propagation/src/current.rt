@@ -2,12 +2,12 @@
 // kept stays.
 ghost use Prim.Native.Nat.{_≤_, _<_};
 ghost use lib.ListN.{length};
-ghost use Rattle.plan.specs.Layout.{forwardPlace};
-ghost use Rattle.vertex.specs.Ready.{Ready};
+ghost use Rattle.plan_steps.specs.Layout.{forwardPlace};
+ghost use Rattle.vertex_step.specs.Ready.{Ready};
 ghost use Rattle.propagation.specs.Current.{AdvanceSteps, Advanced, Propagated};
-use half_steps::half_alternate;
-use plan::forward_place;
-use vertex::forward_through;
+use plan_steps::forward_place;
+use step_runs::half_alternate;
+use vertex_step::forward_through;
 
 // The current propagated vector: of which vertex, which vertex it has reached, and its place. The vertex is n where there is none.
 pub struct CurrentVector {

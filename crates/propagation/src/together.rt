@@ -2,10 +2,10 @@
 // direct pairs that are left two by two.
 ghost use Prim.Native.Nat.{_+_, _≤_, _<_};
 ghost use lib.ListN.{length};
-ghost use Rattle.places.specs.Order.{Ordered};
-ghost use Rattle.places.specs.Places.{Pairs};
+ghost use Rattle.plan_layout.specs.Order.{Ordered};
+ghost use Rattle.plan_layout.specs.Places.{Pairs};
 ghost use Rattle.propagation.specs.Pairing.{NextPairing, Directs};
-use places::is_propagated;
+use plan_layout::is_propagated;
 
 // Two numbers of the order that are answered in one pass, the second being the first again where that is alone; and how far the direct pairs
 // and the others are answered after them.

@@ -6,7 +6,7 @@ use crate::common::kind_of;
 use crate::common::see_edges;
 use crate::common::wide;
 use crate::common::word;
-use checks::Answer;
+use refusals::Answer;
 use strip::Strip;
 
 // The refusal's number, 0 for accepted.
@@ -22,14 +22,14 @@ fn edges_agree(s: Strip, list: &[u8], at: usize, diluted: bool) -> bool {
     let mut early = [GUARD; 4096];
     let mut late = [GUARD; 4096];
     let mut mag = [GUARD_MAGNITUDE; 4096];
-    let keep = stored::float_of(word(list, at, 5));
-    let low = stored::float_of(word(list, at, 6));
-    let high = stored::float_of(word(list, at, 7));
+    let keep = replay_format::float_of(word(list, at, 5));
+    let low = replay_format::float_of(word(list, at, 6));
+    let high = replay_format::float_of(word(list, at, 7));
     let expected = word(list, at, 8);
     let answered = if diluted {
-        refusal(dilution::diluted(s, keep, low, high, 1, &mut early, &mut late, &mut mag))
+        refusal(strip_dilution::diluted(s, keep, low, high, 1, &mut early, &mut late, &mut mag))
     } else {
-        refusal(raw_edges::raw_edges(s, &mut early, &mut late, &mut mag))
+        refusal(strip_edges::raw_edges(s, &mut early, &mut late, &mut mag))
     };
     let seen = see_edges(0, &early, &late, &mag);
     (answered == expected) & (seen.rest | (expected == 0))
@@ -39,7 +39,7 @@ fn pairs_refusal(s: Strip) -> u64 {
     let mut us = [GUARD; 20];
     let mut vs = [GUARD; 20];
     let mut labels = [GUARD_BYTE; 320];
-    refusal(pairset::pairs(s, &mut us, &mut vs, &mut labels))
+    refusal(strip_pairs::pairs(s, &mut us, &mut vs, &mut labels))
 }
 
 // A record: the call, the kind, 1 for a cylinder, the sides, keep and the bounds, the refusal's number.

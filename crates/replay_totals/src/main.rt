@@ -3,12 +3,12 @@
 mod call;
 mod record;
 
-use tally::NUMBERS;
+use replay_format::NUMBERS;
 
 fn report(list: &[u8], work: &mut [f64]) {
     let mut counts = [0usize; NUMBERS];
     let counted = record::replay_all(list, work, &mut counts);
-    tally::report(counted, b" calls", &counts);
+    replay_format::report(counted, b" calls", &counts);
 }
 
 fn read(fd: i32, list: &mut [u8], work: &mut [f64]) {

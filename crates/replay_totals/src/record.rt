@@ -2,19 +2,19 @@
 use crate::call::answers;
 use crate::call::left_as_stored;
 use crate::call::refusal_at;
-use stored::at;
-use stored::edge_lists;
-use stored::length_at;
-use stored::load_doubles;
-use stored::load_edges;
-use stored::load_numbers;
-use stored::two_lists;
-use tally::Counted;
-use tally::NUMBERS;
-use tally::Replayed;
-use tally::advance;
-use tally::begin;
-use tally::finish;
+use replay_format::Counted;
+use replay_format::NUMBERS;
+use replay_format::Replayed;
+use replay_format::advance;
+use replay_format::at;
+use replay_format::begin;
+use replay_format::edge_lists;
+use replay_format::finish;
+use replay_format::length_at;
+use replay_format::load_doubles;
+use replay_format::load_edges;
+use replay_format::load_numbers;
+use replay_format::two_lists;
 
 // As much as a stored call takes.
 const EDGES: usize = 128;

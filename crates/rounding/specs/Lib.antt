@@ -1,6 +1,7 @@
+-- Definitions,
 pub mod Sign
 pub mod Under
 pub mod Whole
-pub mod Sums
 pub mod Powers
-pub mod Scaled
+-- and the laws of these definitions, which no reader needs to believe.
+pub mod Laws

@@ -8,21 +8,26 @@ use native.Mathlib.Decide.{decLt}
 use native.Mathlib.Omega.{arith}
 use lib.ListN.{length, drop}
 use lib.Ieee.{Float, binary64, div}
-use Rattle.vector.specs.Tabulate.{tabulate, tabulate-length}
-use Rattle.transfer.specs.Job.{Job, Manner, Step, block, perElement, stepOf}
-use Rattle.transfer.specs.Rounded.{ieee}
-use Rattle.transfer.specs.Sweep as S
-use Rattle.plan.specs.Layout.{stepIn, forwardPlace, backwardPlace}
-use Rattle.sweep.specs.Place.{hold}
-use Rattle.halves.specs.Symmetric.{SymmetricHalf, start-half}
-use Rattle.halves.specs.Largest.{stored-symmetric}
-use Rattle.half_sums.specs.Terms.{halfAt}
-use Rattle.half_backward.specs.Fold.{fold-symmetric}
-use Rattle.vertex.specs.Same.{symmetric-ext, symmetric-as}
-use Rattle.vertex.specs.Frame.{Fits, half-held, Wrote, wrote-half, wrote-other}
-use Rattle.vertex.specs.Ready.{Ready, PlanOf, Stepping, Backward, tail-factors}
-use Rattle.vertex.specs.Steady.{step-below}
-use Rattle.vertex.specs.Through.{Through, backwardBy, through, through-one, through-two}
+use Rattle.list_laws.specs.Tabulate.{tabulate}
+use Rattle.list_laws.specs.Laws.Tabulate.{tabulate-length}
+use Rattle.transfer_matrix.specs.Job.{Job, Manner, Step, block, perElement, stepOf}
+use Rattle.transfer_matrix.specs.Rounded.{ieee}
+use Rattle.transfer_matrix.specs.Sweep as S
+use Rattle.plan_steps.specs.Layout.{stepIn, forwardPlace, backwardPlace}
+use Rattle.step_tables.specs.Place.{hold}
+use Rattle.half_vectors.specs.Symmetric.{SymmetricHalf}
+use Rattle.half_vectors.specs.Laws.Symmetric.{start-half}
+use Rattle.half_vectors.specs.Laws.Largest.{stored-symmetric}
+use Rattle.pair_sums.specs.Terms.{halfAt}
+use Rattle.step_backward.specs.Laws.Fold.{fold-symmetric}
+use Rattle.vertex_step.specs.Laws.Same.{symmetric-ext, symmetric-as}
+use Rattle.vertex_step.specs.Frame.{Fits}
+use Rattle.vertex_step.specs.Laws.Frame.{half-held, Wrote, wrote-half, wrote-other}
+use Rattle.vertex_step.specs.Ready.{Ready, PlanOf, Stepping, Backward}
+use Rattle.vertex_step.specs.Laws.Ready.{tail-factors}
+use Rattle.vertex_step.specs.Laws.Steady.{step-below}
+use Rattle.vertex_step.specs.Through.{Through, backwardBy, through}
+use Rattle.vertex_step.specs.Laws.Through.{through-one, through-two}
 use Rattle.sweeps.specs.Target.{Target}
 use Rattle.sweeps.specs.Kept.{Since}
 use Rattle.sweeps.specs.Steps.{BackwardTwo, BackwardSteps}
@@ -137,8 +142,8 @@ module _ {plan : List ℕ} (e : List Float) {r : List Float} {n w scales : ℕ} 
         };
       }
 
-  pub coming-start : (per-element : Bool) {one : Float} → one ≡ ieee .𝟙 → BackwardInvariant plan r r n w scales per-element u u dst one
-  coming-start per-element o =
+  pub coming-start : (elementwise : Bool) {one : Float} → one ≡ ieee .𝟙 → BackwardInvariant plan r r n w scales elementwise u u dst one
+  coming-start elementwise o =
       record {
         below = first-below;
         ready = rw (start-since .same) g;
@@ -150,9 +155,9 @@ module _ {plan : List ℕ} (e : List Float) {r : List Float} {n w scales : ℕ} 
 -- ---- the start at a vertex t whose vector is kept
 
 module _ {plan : List ℕ} (r : List Float) {n w scales : ℕ} (t : ℕ) {src : ℕ} (g : Ready plan (length r) n w scales) (early : t + 1 < n)
-    (placed : 0 < backwardPlace plan t) (src-is : src ≡ backwardPlace plan t) (per-element : Bool) {most : Float}
-    (taken : most ≡ S.stored ieee (cond per-element perElement block) 0 (t + 1) (tabulate (halfAt r w src) (2 ^ (w - 1)))) where
-  resumed-newest : (J : Job Float) → PlanOf J plan (drop (scales + n) r) n w per-element → Backward J plan r n w t → NewestBackward J plan r n w t src most
+    (placed : 0 < backwardPlace plan t) (src-is : src ≡ backwardPlace plan t) (elementwise : Bool) {most : Float}
+    (taken : most ≡ S.stored ieee (cond elementwise perElement block) 0 (t + 1) (tabulate (halfAt r w src) (2 ^ (w - 1)))) where
+  resumed-newest : (J : Job Float) → PlanOf J plan (drop (scales + n) r) n w elementwise → Backward J plan r n w t → NewestBackward J plan r n w t src most
   resumed-newest J of given =
       let vector : SymmetricHalf w (halfAt r w src) (S.afterSteps ieee J (J .last - t) .0) =
       subst (λ (q : ℕ). SymmetricHalf w (halfAt r w q) (S.afterSteps ieee J (J .last - t) .0)) (sym src-is)
@@ -165,7 +170,7 @@ module _ {plan : List ℕ} (r : List Float) {n w scales : ℕ} (t : ℕ) {src : 
         kept = given;
       }
 
-  pub coming-resumed : BackwardInvariant plan r r n w scales per-element t t src most
+  pub coming-resumed : BackwardInvariant plan r r n w scales elementwise t t src most
   coming-resumed =
       record {
         below = omega arith;
@@ -180,18 +185,18 @@ module _ {plan : List ℕ} (r : List Float) {n w scales : ℕ} (t : ℕ) {src : 
 
 -- ---- the start in either case: c is the vertex from which on the kept vectors are trusted
 
-module _ {plan : List ℕ} (e : List Float) {r : List Float} {n w scales : ℕ} {per-element : Bool} {c t src : ℕ} {most : Float}
+module _ {plan : List ℕ} (e : List Float) {r : List Float} {n w scales : ℕ} {elementwise : Bool} {c t src : ℕ} {most : Float}
     (g : Ready plan (length e) n w scales) (from : KeptFrom plan n c t) (target : Target (backwardPlace plan t) 1 src)
-    (begun : Begun e r n w per-element t src most) where
+    (begun : Begun e r n w elementwise t src most) where
   pub begun-since : Since (forwardPlace plan) e r n w scales
   begun-since =
       ⊎-elim (λ s. start-since e t g (s .last) target (s .made)) (λ s. rw (s .same) (since-none (forwardPlace plan) e n w scales)) begun
 
-  pub begun-invariant : BackwardInvariant plan r r n w scales per-element t t src most
+  pub begun-invariant : BackwardInvariant plan r r n w scales elementwise t t src most
   begun-invariant =
       ⊎-elim
-      (λ s. coming-start e t g (s .last) target (s .made) per-element (s .one))
-      (λ s. rw (s .same) (coming-resumed e t g (s .early) (from .placed (s .early)) (target .keeps (from .placed (s .early))) per-element (s .taken)))
+      (λ s. coming-start e t g (s .last) target (s .made) elementwise (s .one))
+      (λ s. rw (s .same) (coming-resumed e t g (s .early) (from .placed (s .early)) (target .keeps (from .placed (s .early))) elementwise (s .taken)))
       begun
 
   pub begun-stands : (J : Job Float) → Stands J plan e n w c → Stands J plan r n w t
@@ -203,12 +208,12 @@ module _ {plan : List ℕ} (e : List Float) {r : List Float} {n w scales : ℕ} 
 
 -- ---- an iteration
 
-pub steps-inside : {plan : List ℕ} {w : ℕ} {per-element : Bool} {t last : ℕ} → BackwardSteps plan w per-element t last → 1 ≤ t → (last ≤ t) × (1 ≤ last)
+pub steps-inside : {plan : List ℕ} {w : ℕ} {elementwise : Bool} {t last : ℕ} → BackwardSteps plan w elementwise t last → 1 ≤ t → (last ≤ t) × (1 ≤ last)
 steps-inside (inl e) b = omega arith
 steps-inside (inr p) b = omega (arith, p .next, p .some)
 
-module _ {plan : List ℕ} {r₀ r : List Float} {n w scales : ℕ} {per-element : Bool} {c t last : ℕ} (u : ℕ) {src dst : ℕ} {most : Float}
-    (g : BackwardInvariant plan r₀ r n w scales per-element c t src most) (steps : BackwardSteps plan w per-element t last) (next : last ≡ u + 1)
+module _ {plan : List ℕ} {r₀ r : List Float} {n w scales : ℕ} {elementwise : Bool} {c t last : ℕ} (u : ℕ) {src dst : ℕ} {most : Float}
+    (g : BackwardInvariant plan r₀ r n w scales elementwise c t src most) (steps : BackwardSteps plan w elementwise t last) (next : last ≡ u + 1)
     (target : Target (backwardPlace plan u) src dst) where
   order : last ≤ t
   order = ⊎-elim (λ e. omega arith) (λ p. omega (arith, p .next)) steps
@@ -237,7 +242,7 @@ module _ {plan : List ℕ} {r₀ r : List Float} {n w scales : ℕ} {per-element
 
   module _ {r₂ : List Float} {one scale most′ : Float} (unit : one ≡ ieee .𝟙) (one-over : scale ≡ div binary64 (ieee .𝟙) most)
       (step : r₂ ≡ hold r w dst (tabulate (through (backwardBy plan (drop (scales + n) r) w) t last scale one (halfAt r w src)) (2 ^ (w - 1))))
-      (taken : most′ ≡ S.stored ieee (cond per-element perElement block) 0 last (tabulate (halfAt r₂ w dst) (2 ^ (w - 1)))) where
+      (taken : most′ ≡ S.stored ieee (cond elementwise perElement block) 0 last (tabulate (halfAt r₂ w dst) (2 ^ (w - 1)))) where
     -- the steps
     abbrev by : ℕ → Float → (ℕ → Float) → ℕ → Float
     by = backwardBy plan (drop (scales + n) r) w
@@ -249,7 +254,7 @@ module _ {plan : List ℕ} {r₀ r : List Float} {n w scales : ℕ} {per-element
     wrote = record { vector = tabulate half (2 ^ (w - 1)); full = tabulate-length half (2 ^ (w - 1)); done = step }
 
     -- in job J
-    module _ (J : Job Float) (of : PlanOf J plan (drop (scales + n) r₀) n w per-element) (given : Stands J plan r₀ n w c) where
+    module _ (J : Job Float) (of : PlanOf J plan (drop (scales + n) r₀) n w elementwise) (given : Stands J plan r₀ n w c) where
       abbrev after : ℕ → List Float × Float
       after v = S.afterSteps ieee J (J .last - v)
 
@@ -275,13 +280,13 @@ module _ {plan : List ℕ} {r₀ r : List Float} {n w scales : ℕ} {per-element
           ∙ ap (λ (k : ℕ). S.backwardStep ieee k (stepOf J t) (div binary64 (ieee .𝟙) (after t .1)) (after t .0)) (sym (of .window))
           ∙ sym (vector-at J v (of .vertices) (g .below) e))
 
-      second : BackwardTwo plan w per-element t last → SymmetricHalf w (by last one (by t scale (halfAt r w src))) (after u .0)
+      second : BackwardTwo plan w elementwise t last → SymmetricHalf w (by last one (by t scale (halfAt r w src))) (after u .0)
       second p =
           let one-now : one ≡ div binary64 (ieee .𝟙) (after last .1) =
           unit
           ∙ sym
           (ap (div binary64 (ieee .𝟙)) (entry-at J last (of .vertices) (g .below) (p .next))
-          ∙ unscaled (J .manner) per-element 0 t (after last .0) (of .manner) (p .blocks) (p .due)) in
+          ∙ unscaled (J .manner) elementwise 0 t (after last .0) (of .manner) (p .blocks) (p .due)) in
           symmetric-as (stepped last last-below one (by t scale (halfAt r w src)) (after last .0) (first last (p .next)))
           (ap (λ (c : Float). S.backwardStep ieee w (stepOf J last) c (after last .0)) one-now
           ∙ ap (λ (k : ℕ). S.backwardStep ieee k (stepOf J last) (div binary64 (ieee .𝟙) (after last .1)) (after last .0)) (sym (of .window))
@@ -314,7 +319,7 @@ module _ {plan : List ℕ} {r₀ r : List Float} {n w scales : ℕ} {per-element
           (half-held r r₂ w q (wrote-other r r₂ w dst wrote fits q (λ e. own (sym e)) (place-of (g .ready) q (g .ready .backward .fits v d p) .inside))))
         where
           -- the vector between is not kept
-          new : v < t → BackwardTwo plan w per-element t last → v ≡ u
+          new : v < t → BackwardTwo plan w elementwise t last → v ≡ u
           new x pair =
               dite (decLt u v)
               (λ l. let e : v ≡ last = omega (arith, pair .next) in absurd (omega (arith, pair .passing, rw e at p)))
@@ -330,7 +335,7 @@ module _ {plan : List ℕ} {r₀ r : List Float} {n w scales : ℕ} {per-element
             kept = record { vectors = kept-vector };
           }
 
-    pub backward-iteration : BackwardInvariant plan r₀ r₂ n w scales per-element c u dst most′
+    pub backward-iteration : BackwardInvariant plan r₀ r₂ n w scales elementwise c u dst most′
     backward-iteration =
         let now = written-since r (g .ready) before target wrote in
         record {

@@ -10,20 +10,24 @@ use native.Mathlib.Omega.{arith}
 use lib.ListN.{length, getD, drop, set, length-set}
 use lib.Seq.{getD-set-same, getD-set-other, drop-set-lt}
 use lib.Ieee.{Float, nan, binary64, div}
-use Rattle.vector.specs.Tabulate.{tabulate, tabulate-length}
-use Rattle.transfer.specs.Job.{Job, Manner, Step, block, perElement, stepOf}
-use Rattle.transfer.specs.Rounded.{ieee}
-use Rattle.transfer.specs.Sweep as S
-use Rattle.plan.specs.Layout.{stepIn, forwardPlace, backwardPlace}
-use Rattle.sweep.specs.Place.{held, hold}
-use Rattle.halves.specs.Symmetric.{SymmetricHalf, start-half, forward-half}
-use Rattle.halves.specs.Largest.{stored-symmetric}
-use Rattle.half_sums.specs.Terms.{halfAt}
-use Rattle.vertex.specs.Same.{symmetric-ext, symmetric-as}
-use Rattle.vertex.specs.Frame.{Fits, moving-fits, half-held, Wrote, wrote-length, wrote-half, wrote-other, wrote-at, wrote-drop, set-held}
-use Rattle.vertex.specs.Ready.{Ready, PlanOf, Stepping}
-use Rattle.vertex.specs.Steady.{step-below}
-use Rattle.vertex.specs.Through.{Through, forwardBy, through, through-one, through-two}
+use Rattle.list_laws.specs.Tabulate.{tabulate}
+use Rattle.list_laws.specs.Laws.Tabulate.{tabulate-length}
+use Rattle.transfer_matrix.specs.Job.{Job, Manner, Step, block, perElement, stepOf}
+use Rattle.transfer_matrix.specs.Rounded.{ieee}
+use Rattle.transfer_matrix.specs.Sweep as S
+use Rattle.plan_steps.specs.Layout.{stepIn, forwardPlace, backwardPlace}
+use Rattle.step_tables.specs.Place.{held, hold}
+use Rattle.half_vectors.specs.Symmetric.{SymmetricHalf}
+use Rattle.half_vectors.specs.Laws.Symmetric.{start-half, forward-half}
+use Rattle.half_vectors.specs.Laws.Largest.{stored-symmetric}
+use Rattle.pair_sums.specs.Terms.{halfAt}
+use Rattle.vertex_step.specs.Laws.Same.{symmetric-ext, symmetric-as}
+use Rattle.vertex_step.specs.Frame.{Fits}
+use Rattle.vertex_step.specs.Laws.Frame.{moving-fits, half-held, Wrote, wrote-length, wrote-half, wrote-other, wrote-at, wrote-drop, set-held}
+use Rattle.vertex_step.specs.Ready.{Ready, PlanOf, Stepping}
+use Rattle.vertex_step.specs.Laws.Steady.{step-below}
+use Rattle.vertex_step.specs.Through.{Through, forwardBy, through}
+use Rattle.vertex_step.specs.Laws.Through.{through-one, through-two}
 use Rattle.sweeps.specs.Target.{Target}
 use Rattle.sweeps.specs.Kept.{Since}
 use Rattle.sweeps.specs.Steps.{ForwardTwo, ForwardSteps}
@@ -86,8 +90,8 @@ module _ {plan : List ℕ} (e : List Float) {r : List Float} {n w scales : ℕ} 
   first-symmetric : SymmetricHalf w (halfAt r w 0) (S.start ieee w)
   first-symmetric = symmetric-ext (start-half w (g .wide)) (wrote-half e r w 0 first-wrote first-inside (λ _. ieee .𝟙) refl)
 
-  pub forward-start : (per-element : Bool) {one : Float} → one ≡ ieee .𝟙 → ForwardInvariant plan r r n w scales per-element 0 0 one
-  forward-start per-element o =
+  pub forward-start : (elementwise : Bool) {one : Float} → one ≡ ieee .𝟙 → ForwardInvariant plan r r n w scales elementwise 0 0 one
+  forward-start elementwise o =
       record {
         below = omega arith;
         ready = rw (start-same .same) g;
@@ -102,12 +106,12 @@ module _ {plan : List ℕ} (e : List Float) {r : List Float} {n w scales : ℕ} 
 
 -- ---- an iteration: the scales are stored, then the steps are taken
 
-pub steps-inside : {plan : List ℕ} {n w : ℕ} {per-element : Bool} {t last : ℕ} → ForwardSteps plan n w per-element t last → t < n → (t ≤ last) × (last < n)
+pub steps-inside : {plan : List ℕ} {n w : ℕ} {elementwise : Bool} {t last : ℕ} → ForwardSteps plan n w elementwise t last → t < n → (t ≤ last) × (last < n)
 steps-inside (inl e) b = omega arith
 steps-inside (inr p) b = omega (arith, p .next, p .inside)
 
-module _ {plan : List ℕ} {r₀ r : List Float} {n w scales : ℕ} {per-element : Bool} {t last src dst : ℕ} {most : Float}
-    (g : ForwardInvariant plan r₀ r n w scales per-element t src most) (b : t < n) (steps : ForwardSteps plan n w per-element t last)
+module _ {plan : List ℕ} {r₀ r : List Float} {n w scales : ℕ} {elementwise : Bool} {t last src dst : ℕ} {most : Float}
+    (g : ForwardInvariant plan r₀ r n w scales elementwise t src most) (b : t < n) (steps : ForwardSteps plan n w elementwise t last)
     (target : Target (forwardPlace plan last) src dst) where
   last-order : t ≤ last
   last-order = steps-inside steps b .0
@@ -153,7 +157,7 @@ module _ {plan : List ℕ} {r₀ r : List Float} {n w scales : ℕ} {per-element
 
     module _ {r₂ : List Float} {most′ : Float} (unit : one ≡ ieee .𝟙) (one-over : scale ≡ div binary64 (ieee .𝟙) most)
         (step : r₂ ≡ hold r₁ w dst (tabulate (through (forwardBy plan (drop (scales + n) r₁) w false) t last scale one (halfAt r₁ w src)) (2 ^ (w - 1))))
-        (taken : most′ ≡ S.stored ieee (cond per-element perElement block) 3 last (tabulate (halfAt r₂ w dst) (2 ^ (w - 1)))) where
+        (taken : most′ ≡ S.stored ieee (cond elementwise perElement block) 3 last (tabulate (halfAt r₂ w dst) (2 ^ (w - 1)))) where
       -- the steps
       abbrev by : ℕ → Float → (ℕ → Float) → ℕ → Float
       by = forwardBy plan (drop (scales + n) r₁) w false
@@ -173,7 +177,7 @@ module _ {plan : List ℕ} {r₀ r : List Float} {n w scales : ℕ} {per-element
           ∙ drop-set-lt (scales + n) r (scales + last) one (omega (arith, last-inside)) ∙ g .since .tail
 
       -- in job J
-      module _ (J : Job Float) (of : PlanOf J plan (drop (scales + n) r₀) n w per-element) where
+      module _ (J : Job Float) (of : PlanOf J plan (drop (scales + n) r₀) n w elementwise) where
         abbrev before : ℕ → List Float × Float
         before u = S.beforeStep ieee J u
 
@@ -199,13 +203,13 @@ module _ {plan : List ℕ} {r₀ r : List Float} {n w scales : ℕ} {per-element
             ∙ ap (λ (k : ℕ). S.forwardStep ieee k (stepOf J t) (div binary64 (ieee .𝟙) (before t .1)) (before t .0)) (sym (of .window))
             ∙ sym (vector-next J t))
 
-        next-one : ForwardTwo plan n w per-element t last → one ≡ div binary64 (ieee .𝟙) (before last .1)
+        next-one : ForwardTwo plan n w elementwise t last → one ≡ div binary64 (ieee .𝟙) (before last .1)
         next-one p =
             let e : last ≡ suc t = omega (arith, p .next) in
             unit
-            ∙ rw e (sym (ap (div binary64 (ieee .𝟙)) (entry-next J t) ∙ unscaled (J .manner) per-element 3 t (before (suc t) .0) (of .manner) (p .blocks) (p .due)))
+            ∙ rw e (sym (ap (div binary64 (ieee .𝟙)) (entry-next J t) ∙ unscaled (J .manner) elementwise 3 t (before (suc t) .0) (of .manner) (p .blocks) (p .due)))
 
-        second : ForwardTwo plan n w per-element t last → SymmetricHalf w (by last one (by t scale (halfAt r₁ w src))) (before (suc last) .0)
+        second : ForwardTwo plan n w elementwise t last → SymmetricHalf w (by last one (by t scale (halfAt r₁ w src))) (before (suc last) .0)
         second p =
             let e : suc t ≡ last = omega (arith, p .next) in
             symmetric-as (stepped last last-inside one (by t scale (halfAt r₁ w src)) (before (suc t) .0) first)
@@ -246,7 +250,7 @@ module _ {plan : List ℕ} {r₀ r : List Float} {n w scales : ℕ} {per-element
             (symmetric-as (subst (λ (q : ℕ). SymmetricHalf w (halfAt r₂ w q) (before (suc last) .0)) (target .keeps p′) vector) (sym (forward-is J last))))
           where
             -- the vector between is not kept
-            passed : u < last → ForwardTwo plan n w per-element t last → u < t
+            passed : u < last → ForwardTwo plan n w elementwise t last → u < t
             passed d pair = dite (decLt u t) (λ l. l) (λ l. let e : u ≡ t = omega (arith, pair .next) in absurd (omega (arith, pair .passing, rw e at p)))
 
         kept-scale : (u : ℕ) → u < last + 1 → getD r₂ (scales + u) nan ≡ S.scale ieee J u
@@ -265,7 +269,7 @@ module _ {plan : List ℕ} {r₀ r : List Float} {n w scales : ℕ} {per-element
             at-t =
                 getD-set-same (set r (scales + last) one) (scales + t) scale nan (omega (arith, room t b, l)) ∙ scale-now ∙ sym (scale-is J t)
 
-            at-last : ForwardTwo plan n w per-element t last → getD r₁ (scales + last) nan ≡ S.scale ieee J last
+            at-last : ForwardTwo plan n w elementwise t last → getD r₁ (scales + last) nan ≡ S.scale ieee J last
             at-last p =
                 getD-set-other (set r (scales + last) one) (scales + t) (scales + last) scale nan (λ x. omega (arith, p .next))
                 ∙ getD-set-same r (scales + last) one nan (room last last-inside) ∙ next-one p ∙ sym (scale-is J last)
@@ -297,7 +301,7 @@ module _ {plan : List ℕ} {r₀ r : List Float} {n w scales : ℕ} {per-element
           (inside q f)
           ∙ places q f ∙ g .since .vectors v c p
 
-      pub forward-iteration : ForwardInvariant plan r₀ r₂ n w scales per-element (last + 1) dst most′
+      pub forward-iteration : ForwardInvariant plan r₀ r₂ n w scales elementwise (last + 1) dst most′
       forward-iteration =
           let fits = inside dst forward-fits in
           let same : length r₂ ≡ length r = wrote-length r₁ r₂ w dst wrote fits ∙ length-same in

@@ -5,12 +5,14 @@ use Prim.Native.Nat.{ℕ, _+_, _≤_, _<_}
 use native.Mathlib.Omega.{arith}
 use lib.ListN.{length}
 use lib.Ieee.{Float}
-use Rattle.transfer.specs.Job.{Job}
-use Rattle.plan.specs.Layout.{forwardPlace, backwardPlace}
-use Rattle.sweep.specs.Place.{Place}
-use Rattle.vertex.specs.Same.{symmetric-ext}
-use Rattle.vertex.specs.Frame.{Fits, half-held, Wrote, wrote-length, wrote-other, wrote-drop}
-use Rattle.vertex.specs.Ready.{Ready, Own, Stepping, Forward, Backward, tail-scale}
+use Rattle.transfer_matrix.specs.Job.{Job}
+use Rattle.plan_steps.specs.Layout.{forwardPlace, backwardPlace}
+use Rattle.step_tables.specs.Place.{Place}
+use Rattle.vertex_step.specs.Laws.Same.{symmetric-ext}
+use Rattle.vertex_step.specs.Frame.{Fits}
+use Rattle.vertex_step.specs.Laws.Frame.{half-held, Wrote, wrote-length, wrote-other, wrote-drop}
+use Rattle.vertex_step.specs.Ready.{Ready, Own, Stepping, Forward, Backward}
+use Rattle.vertex_step.specs.Laws.Ready.{tail-scale}
 use Rattle.sweeps.specs.Kept.{Since}
 
 -- ---- what is asked

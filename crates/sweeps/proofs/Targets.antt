@@ -4,8 +4,9 @@ use mathlib.Core.Logic.{dite}
 use Prim.Native.Nat.{ℕ, _*_, _^_, _≤_, _<_}
 use native.Mathlib.Decide.{decLt}
 use native.Mathlib.Omega.{arith}
-use Rattle.vertex.specs.Frame.{Fits, moving-fits}
-use Rattle.vertex.specs.Ready.{Own}
+use Rattle.vertex_step.specs.Frame.{Fits}
+use Rattle.vertex_step.specs.Laws.Frame.{moving-fits}
+use Rattle.vertex_step.specs.Ready.{Own}
 use Rattle.sweeps.specs.Target.{Target, Free}
 
 -- dst is the target of the step from src that makes the vector of t

@@ -5,14 +5,14 @@ use mathlib.Core.List.{List}
 use mathlib.Core.Logic.{_⊎_}
 use Prim.Native.Nat.{ℕ, _+_, _-_, _^_, _≤_, _<_}
 use lib.Ieee.{Float}
-use Rattle.vector.specs.Tabulate.{tabulate}
-use Rattle.transfer.specs.Job.{Job, block, perElement}
-use Rattle.transfer.specs.Rounded.{ieee}
-use Rattle.transfer.specs.Sweep as S
-use Rattle.plan.specs.Layout.{backwardPlace}
-use Rattle.sweep.specs.Place.{hold}
-use Rattle.half_sums.specs.Terms.{halfAt}
-use Rattle.vertex.specs.Ready.{Backward}
+use Rattle.list_laws.specs.Tabulate.{tabulate}
+use Rattle.transfer_matrix.specs.Job.{Job, block, perElement}
+use Rattle.transfer_matrix.specs.Rounded.{ieee}
+use Rattle.transfer_matrix.specs.Sweep as S
+use Rattle.plan_steps.specs.Layout.{backwardPlace}
+use Rattle.step_tables.specs.Place.{hold}
+use Rattle.pair_sums.specs.Terms.{halfAt}
+use Rattle.vertex_step.specs.Ready.{Backward}
 
 -- The backward vectors that are kept from vertex c on stand in the room; where c is the last vertex or more, none does.
 abbrev pub Stands : Job Float → List ℕ → List Float → (n w c : ℕ) → Type 0
@@ -31,10 +31,10 @@ pub record Started (r₀ r : List Float) (n w t src : ℕ) (most : Float) : Type
   pub one : most ≡ ieee .𝟙
 
 -- Elsewhere the vector at src stays, and `most` is what the step that gave it stored.
-pub record Resumed (r₀ r : List Float) (n w : ℕ) (per-element : Bool) (t src : ℕ) (most : Float) : Type 0 where
+pub record Resumed (r₀ r : List Float) (n w : ℕ) (elementwise : Bool) (t src : ℕ) (most : Float) : Type 0 where
   pub early : t + 1 < n
   pub same : r ≡ r₀
-  pub taken : most ≡ S.stored ieee (cond per-element perElement block) 0 (t + 1) (tabulate (halfAt r₀ w src) (2 ^ (w - 1)))
+  pub taken : most ≡ S.stored ieee (cond elementwise perElement block) 0 (t + 1) (tabulate (halfAt r₀ w src) (2 ^ (w - 1)))
 
 abbrev pub Begun : (r₀ r : List Float) (n w : ℕ) → Bool → (t src : ℕ) → Float → Type 0
-Begun r₀ r n w per-element t src most = Started r₀ r n w t src most ⊎ Resumed r₀ r n w per-element t src most
+Begun r₀ r n w elementwise t src most = Started r₀ r n w t src most ⊎ Resumed r₀ r n w elementwise t src most

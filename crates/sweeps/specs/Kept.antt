@@ -4,7 +4,7 @@ use mathlib.Core.List.{List}
 use Prim.Native.Nat.{ℕ, _<_}
 use lib.ListN.{length, drop}
 use lib.Ieee.{Float}
-use Rattle.sweep.specs.Place.{held}
+use Rattle.step_tables.specs.Place.{held}
 
 -- Since r₀ the length and all from number k on are as they were.
 pub record SameFrom (r₀ r : List Float) (k : ℕ) : Type 0 where

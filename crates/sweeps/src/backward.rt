@@ -2,27 +2,27 @@
 ghost use Prim.Native.Nat.{_+_, _≤_, _<_};
 ghost use lib.ListN.{length, drop};
 ghost use lib.Ieee.{Float};
-ghost use Rattle.transfer.specs.Job.{Job};
-ghost use Rattle.plan.specs.Layout.{Holds, forwardPlace};
-ghost use Rattle.sweep.specs.Place.{Place};
-ghost use Rattle.vertex.specs.Ready.{Ready, PlanOf, Backward};
+ghost use Rattle.transfer_matrix.specs.Job.{Job};
+ghost use Rattle.plan_steps.specs.Layout.{Holds, forwardPlace};
+ghost use Rattle.step_tables.specs.Place.{Place};
+ghost use Rattle.vertex_step.specs.Ready.{Ready, PlanOf, Backward};
 ghost use Rattle.sweeps.specs.Begun.{Stands, KeptFrom, Begun};
 ghost use Rattle.sweeps.specs.Kept.{Since};
 ghost use Rattle.sweeps.specs.Steps.{BackwardSteps};
 use crate::target::place_for;
 use crate::target::start_at;
-use half_sums::half_stored;
-use half_sums::is_due;
-use plan::backward_place;
-use vertex::backward_through;
+use pair_sums::half_stored;
+use pair_sums::is_due;
+use plan_steps::backward_place;
+use vertex_step::backward_through;
 
 // The last vertex of an iteration from t on. Two steps are taken in one pass where no largest entry is due between them and the vector between
 // them is not kept; in a window below 6 one at a time is quicker.
-fn backward_last(plan: &[usize], w: usize, per_element: bool, t: usize) -> usize
+fn backward_last(plan: &[usize], w: usize, elementwise: bool, t: usize) -> usize
     requires { ⌜ Holds (now plan) t × (1 ≤ t) ⌝ }
-    ensures { λ r. ⌜ BackwardSteps (now (plan .entry)) w «per_element» t r ⌝ }
+    ensures { λ r. ⌜ BackwardSteps (now (plan .entry)) w elementwise t r ⌝ }
 {
-    if per_element {
+    if elementwise {
         return t;
     }
     if w < 6 {
@@ -57,12 +57,12 @@ fn kept_from(plan: &[usize], n: usize, c: usize) -> usize
 }
 
 // The vector of vertex t at place src: written at the last vertex, kept already elsewhere. Returns the largest entry that was stored with it.
-fn begin_at(room: &mut [f64], n: usize, w: usize, per_element: bool, t: usize, src: usize) -> f64
+fn begin_at(room: &mut [f64], n: usize, w: usize, elementwise: bool, t: usize, src: usize) -> f64
     requires { ⌜ Place (length (now room)) w src × (t < n) ⌝ }
-    ensures { λ r. ⌜ Begun (now (room .entry)) (now (room .exit)) n w «per_element» t src r ⌝ }
+    ensures { λ r. ⌜ Begun (now (room .entry)) (now (room .exit)) n w elementwise t src r ⌝ }
 {
     if t + 1 < n {
-        return half_stored(room, src, w, is_due(per_element, 0, t + 1));
+        return half_stored(room, src, w, is_due(elementwise, 0, t + 1));
     }
     start_at(room, w, src);
     1.0
@@ -77,12 +77,12 @@ pub fn sweep_backward(
     n: usize,
     w: usize,
     scales: usize,
-    per_element: bool,
+    elementwise: bool,
     changed: usize,
 )
     requires { ⌜ (1 ≤ n) × Ready (now plan) (length (now room)) n w scales ⌝ }
     ensures { λ _. ⌜ Since (forwardPlace (now (plan .entry))) (now (room .entry)) (now (room .exit)) n w scales ⌝ }
-    ensures { λ _. ⌜ ((J : Job Float) → PlanOf J (now (plan .entry)) (drop (scales + n) (now (room .entry))) n w «per_element»
+    ensures { λ _. ⌜ ((J : Job Float) → PlanOf J (now (plan .entry)) (drop (scales + n) (now (room .entry))) n w elementwise
         → Stands J (now (plan .entry)) (now (room .entry)) n w changed → Backward J (now (plan .entry)) (now (room .exit)) n w 0) ⌝ }
 {
     let factors = scales + n;
@@ -94,13 +94,13 @@ pub fn sweep_backward(
     let mut down2 = [0.0f64; 16];
     let mut t = kept_from(plan, n, changed);
     let mut src = place_for(backward_place(plan, t), 1);
-    let mut most = begin_at(room, n, w, per_element, t, src);
+    let mut most = begin_at(room, n, w, elementwise, t, src);
     while t > 0 {
         let scale = 1.0 / most;
-        let last = backward_last(plan, w, per_element, t);
+        let last = backward_last(plan, w, elementwise, t);
         let u = last - 1;
         let dst = place_for(backward_place(plan, u), src);
-        let due = is_due(per_element, 0, last);
+        let due = is_due(elementwise, 0, last);
         most = backward_through(
             room,
             factors,

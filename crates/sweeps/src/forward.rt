@@ -2,24 +2,24 @@
 ghost use Prim.Native.Nat.{_+_, _<_};
 ghost use lib.ListN.{length, drop};
 ghost use lib.Ieee.{Float};
-ghost use Rattle.transfer.specs.Job.{Job};
-ghost use Rattle.plan.specs.Layout.{Holds, backwardPlace};
-ghost use Rattle.vertex.specs.Ready.{Ready, PlanOf, Forward};
+ghost use Rattle.transfer_matrix.specs.Job.{Job};
+ghost use Rattle.plan_steps.specs.Layout.{Holds, backwardPlace};
+ghost use Rattle.vertex_step.specs.Ready.{Ready, PlanOf, Forward};
 ghost use Rattle.sweeps.specs.Kept.{Since};
 ghost use Rattle.sweeps.specs.Steps.{ForwardSteps};
 use crate::target::place_for;
 use crate::target::start_at;
-use half_sums::is_due;
-use plan::forward_place;
-use vertex::forward_through;
+use pair_sums::is_due;
+use plan_steps::forward_place;
+use vertex_step::forward_through;
 
 // The last vertex of an iteration from t on. Two steps are taken in one pass where no largest entry is due between them and the vector between
 // them is not kept; in a window below 6 one at a time is quicker.
-fn forward_last(plan: &[usize], n: usize, w: usize, per_element: bool, t: usize) -> usize
+fn forward_last(plan: &[usize], n: usize, w: usize, elementwise: bool, t: usize) -> usize
     requires { ⌜ Holds (now plan) n × (t < n) ⌝ }
-    ensures { λ r. ⌜ ForwardSteps (now (plan .entry)) n w «per_element» t r ⌝ }
+    ensures { λ r. ⌜ ForwardSteps (now (plan .entry)) n w elementwise t r ⌝ }
 {
-    if per_element {
+    if elementwise {
         return t;
     }
     if w < 6 {
@@ -45,11 +45,11 @@ pub fn sweep_forward(
     n: usize,
     w: usize,
     scales: usize,
-    per_element: bool,
+    elementwise: bool,
 )
     requires { ⌜ Ready (now plan) (length (now room)) n w scales ⌝ }
     ensures { λ _. ⌜ Since (backwardPlace (now (plan .entry))) (now (room .entry)) (now (room .exit)) n w (scales + n) ⌝ }
-    ensures { λ _. ⌜ ((J : Job Float) → PlanOf J (now (plan .entry)) (drop (scales + n) (now (room .entry))) n w «per_element»
+    ensures { λ _. ⌜ ((J : Job Float) → PlanOf J (now (plan .entry)) (drop (scales + n) (now (room .entry))) n w elementwise
         → Forward J (now (plan .entry)) (now (room .exit)) w scales n) ⌝ }
 {
     let factors = scales + n;
@@ -65,11 +65,11 @@ pub fn sweep_forward(
     let mut t = 0usize;
     while t < n {
         let scale = 1.0 / most;
-        let last = forward_last(plan, n, w, per_element, t);
+        let last = forward_last(plan, n, w, elementwise, t);
         room[scales + last] = 1.0;
         room[scales + t] = scale;
         let dst = place_for(forward_place(plan, last), src);
-        let due = is_due(per_element, 3, last);
+        let due = is_due(elementwise, 3, last);
         most = forward_through(
             room,
             factors,

@@ -2,8 +2,8 @@
 ghost use Prim.Native.Nat.{_+_, _≤_};
 ghost use lib.ListN.{length, drop};
 ghost use lib.Ieee.{Float};
-ghost use Rattle.transfer.specs.Job.{Job};
-ghost use Rattle.vertex.specs.Ready.{Ready, PlanOf, Swept};
+ghost use Rattle.transfer_matrix.specs.Job.{Job};
+ghost use Rattle.vertex_step.specs.Ready.{Ready, PlanOf, Swept};
 ghost use Rattle.sweeps.specs.Begun.{Stands};
 ghost use Rattle.sweeps.specs.Kept.{SameFrom};
 
@@ -22,14 +22,14 @@ pub fn sweep(
     n: usize,
     w: usize,
     scales: usize,
-    per_element: bool,
+    elementwise: bool,
     changed: usize,
 )
     requires { ⌜ (1 ≤ n) × Ready (now plan) (length (now room)) n w scales ⌝ }
     ensures { λ _. ⌜ SameFrom (now (room .entry)) (now (room .exit)) (scales + n) ⌝ }
-    ensures { λ _. ⌜ ((J : Job Float) → PlanOf J (now (plan .entry)) (drop (scales + n) (now (room .entry))) n w «per_element»
+    ensures { λ _. ⌜ ((J : Job Float) → PlanOf J (now (plan .entry)) (drop (scales + n) (now (room .entry))) n w elementwise
         → Stands J (now (plan .entry)) (now (room .entry)) n w changed → Swept J (now (plan .entry)) (now (room .exit)) n w scales) ⌝ }
 {
-    sweep_forward(room, plan, n, w, scales, per_element);
-    sweep_backward(room, plan, n, w, scales, per_element, changed);
+    sweep_forward(room, plan, n, w, scales, elementwise);
+    sweep_backward(room, plan, n, w, scales, elementwise, changed);
 }

@@ -2,12 +2,12 @@
 ghost use mathlib.Core.Path.{_≡_};
 ghost use Prim.Native.Nat.{_-_, _^_};
 ghost use lib.ListN.{length};
-ghost use Rattle.vector.specs.Tabulate.{tabulate};
-ghost use Rattle.transfer.specs.Rounded.{ieee};
-ghost use Rattle.sweep.specs.Place.{Place, hold};
+ghost use Rattle.list_laws.specs.Tabulate.{tabulate};
+ghost use Rattle.transfer_matrix.specs.Rounded.{ieee};
+ghost use Rattle.step_tables.specs.Place.{Place, hold};
 ghost use Rattle.sweeps.specs.Target.{Target};
-use sweep::fill;
-use sweep::pow2;
+use step_tables::fill;
+use step_tables::pow2;
 
 // The place that a step writes: the kept one, or the moving one that is not the source. So no vector is copied.
 pub(crate) fn place_for(kept: usize, src: usize) -> usize

@@ -3,25 +3,25 @@ ghost use mathlib.Core.Path.{_≡_};
 ghost use mathlib.Core.Bool.{false};
 ghost use Prim.Native.Nat.{_*_, _≤_};
 ghost use lib.ListN.{length};
-ghost use Rattle.vector.specs.Tabulate.{tabulate};
+ghost use Rattle.list_laws.specs.Tabulate.{tabulate};
 ghost use Rattle.forest.specs.Labels.{isTree};
 ghost use Rattle.forest.specs.Paths.{Edges};
-ghost use Rattle.plan.specs.Layout.{Holds};
-ghost use Rattle.chunks.specs.Chunked.{Lists};
-ghost use Rattle.lattice.specs.Graphs.{freeCount};
-ghost use Rattle.totals.specs.Finished.{Passed, Numbered, Marks, stepping, TotalsAre};
-use chunked_totals::Chunks;
-use chunked_totals::chunked_totals;
-use chunks::Shape;
+ghost use Rattle.plan_steps.specs.Layout.{Holds};
+ghost use Rattle.totals_configuration.specs.Chunked.{Lists};
+ghost use Rattle.graph.specs.Graphs.{freeCount};
+ghost use Rattle.totals_call.specs.Finished.{Passed, Numbered, Marks, stepping, TotalsAre};
 use forest::mark_tree_edges;
-use places::make_plan;
-use places::order_pairs;
-use planned::clear;
-use totals::EDGES;
-use totals::PAIRS;
-use totals::PLAN;
-use totals::SUMS;
-use totals::clear_unsound;
+use job_run::clear;
+use plan_layout::make_plan;
+use plan_layout::order_pairs;
+use totals_call::EDGES;
+use totals_call::PAIRS;
+use totals_call::PLAN;
+use totals_call::SUMS;
+use totals_call::clear_unsound;
+use totals_chunks::Chunks;
+use totals_chunks::chunked_totals;
+use totals_configuration::SweepShape;
 
 // Marks the tree edges, where configurations go by number; drawn ones read no mark.
 fn mark_edges(drawn: bool, n: usize, early: &[usize], late: &[usize], tree: &mut [bool])
@@ -67,7 +67,7 @@ fn plan_and_total(
     let layout = make_plan(plan, n, w, early, late, us, vs);
     order_pairs(order, n, w, us, vs);
     mark_edges(chunks.drawn, n, early, late, tree);
-    let shape = Shape {
+    let shape = SweepShape {
         n,
         w,
         scales: layout.scales,

@@ -25,12 +25,6 @@ mul-couple-at c =
     let z : i .b * length (a .mag .now) ≤ 262144 = omega arith in
     record { fits = omega arith }
 
-mul-couple-at-2 : tie.Need-mul-couple-at-2 Inv-loop μ-loop
-mul-couple-at-2 c = search needs
-
-shared-slice-read-couple-at : tie.Need-shared-slice-read-couple-at Inv-loop μ-loop
-shared-slice-read-couple-at c = search needs
-
 couple-at-requires : tie.Need-couple-at-requires Inv-loop μ-loop
 couple-at-requires c κs =
     let i = c .before .before .before .loop in
@@ -38,12 +32,6 @@ couple-at-requires c κs =
     let p = row-fits (a .results .now) (a .betas .now) (a .mag .now) (c .before .before .before .before .before .before .before .pre .0) (i .b) (omega arith) in
     let l = ap length (i .inv .1) ∙ rows-length (a .results .now) (a .betas .now) (a .mag .now) (c .before .before .before .before .before .before .before .pre .0) (i .b) (i .inv .0) in
     omega arith
-
-add-b : tie.Need-add-b Inv-loop μ-loop
-add-b c = search needs
-
-loop-less : tie.Need-loop-less Inv-loop μ-loop
-loop-less c = search needs
 
 loop-again : tie.Need-loop-again Inv-loop μ-loop
 loop-again c =
@@ -69,15 +57,5 @@ pub couple-spec : {M : Type 1} → statement M
 couple-spec =
     tie.close
     (tie.spec
-    Inv-loop
-    μ-loop
-    loop-holds
-    mul-couple-at
-    mul-couple-at-2
-    shared-slice-read-couple-at
-    couple-at-requires
-    add-b
-    loop-less
-    loop-again
-    same-length
-    returns)
+    Inv-loop μ-loop loop-holds mul-couple-at (λ c. search needs) (λ c. search needs) couple-at-requires (λ c. search needs)
+    (λ c. search needs) loop-again same-length returns)

@@ -3,8 +3,9 @@ use Prim.Native.Nat.{_+_, _-_, _≤_, _<_}
 use native.Mathlib.Omega.{arith}
 use lib.Ieee.{nan, binary64, mul}
 use lib.ListN.{length, getD}
-use Rattle.vector.specs.Tabulate.{tabulate}
-use Rattle.vector.specs.Part.{put, fill-none, fill-one, fill-length}
+use Rattle.list_laws.specs.Tabulate.{tabulate}
+use Rattle.list_laws.specs.Part.{put}
+use Rattle.list_laws.specs.Laws.Part.{fill-none, fill-one, fill-length}
 use borrow.Author.Needs.{needs}
 use Rattle.couplings.proofs.couple_at.Statement.{statement}
 use Rattle.couplings.proofs.couple_at.Tie as tie
@@ -18,30 +19,12 @@ abbrev μ-loop : tie.MeasureT-loop
 loop-holds : tie.Need-loop-holds Inv-loop μ-loop
 loop-holds c = (omega arith, fill-none _ _ _)
 
-mul-results : tie.Need-mul-results Inv-loop μ-loop
-mul-results c = search needs
-
-shared-slice-read-results : tie.Need-shared-slice-read-results Inv-loop μ-loop
-shared-slice-read-results c = search needs
-
-add-results : tie.Need-add-results Inv-loop μ-loop
-add-results c = search needs
-
-mul-results-2 : tie.Need-mul-results-2 Inv-loop μ-loop
-mul-results-2 c = search needs
-
 slice-write-results : tie.Need-slice-write-results Inv-loop μ-loop
 slice-write-results c =
     let i = c .before .before .loop in
     let a = c .before .before .before .args in
     let l = fill-length (a .results .now) (a .at) (λ j. mul binary64 (a .beta) (getD (a .mag .now) j nan)) (i .e) (omega arith) in
     omega (arith, ap length (i .inv .1))
-
-add-e : tie.Need-add-e Inv-loop μ-loop
-add-e c = search needs
-
-loop-less : tie.Need-loop-less Inv-loop μ-loop
-loop-less c = search needs
 
 loop-again : tie.Need-loop-again Inv-loop μ-loop
 loop-again c =
@@ -65,16 +48,5 @@ pub couple-at-spec : {M : Type 1} → statement M
 couple-at-spec =
     tie.close
     (tie.spec
-    Inv-loop
-    μ-loop
-    loop-holds
-    mul-results
-    shared-slice-read-results
-    add-results
-    mul-results-2
-    slice-write-results
-    add-e
-    loop-less
-    loop-again
-    same-length
-    returns)
+    Inv-loop μ-loop loop-holds (λ c. search needs) (λ c. search needs) (λ c. search needs) (λ c. search needs) slice-write-results
+    (λ c. search needs) (λ c. search needs) loop-again same-length returns)

@@ -5,21 +5,6 @@ use borrow.Author.Needs.{needs}
 use Rattle.couplings.proofs.couplings.Statement.{statement}
 use Rattle.couplings.proofs.couplings.Tie as tie
 
-slice-aggregate-none : tie.Need-slice-aggregate-none
-slice-aggregate-none c = search needs
-
-slice-aggregate-check-graph : tie.Need-slice-aggregate-check-graph
-slice-aggregate-check-graph c = search needs
-
-slice-aggregate-check-graph-2 : tie.Need-slice-aggregate-check-graph-2
-slice-aggregate-check-graph-2 c = search needs
-
-slice-aggregate-check-graph-3 : tie.Need-slice-aggregate-check-graph-3
-slice-aggregate-check-graph-3 c = search needs
-
-check-graph-requires : tie.Need-check-graph-requires
-check-graph-requires c κs = search needs
-
 returns : tie.Need-returns
 returns c =
     let graph = c .before .before .before .before in
@@ -35,20 +20,11 @@ returns-2 c =
     let graph = c .before .before .before .before .before in
     misfitting (graph .before .before .before .before .before .before .before .before .before .before .args .results .now) (graph .check-graph .ensures) (c .before .if1 .left) (λ e. omega arith)
 
-array-share-prefix-mag : tie.Need-array-share-prefix-mag
-array-share-prefix-mag c = search needs
-
-slice-aggregate-couple : tie.Need-slice-aggregate-couple
-slice-aggregate-couple c = search needs
-
 couple-requires : tie.Need-couple-requires
 couple-requires c κs =
     let fits = c .before .before in
     let graph = fits .before .before .before .before .before in
     fitting (graph .before .before .before .before .before .before .before .before .before .before .args .results .now) (graph .check-graph .ensures) (fits .before .if1 .left) (fits .if2 .left)
-
-same-length : tie.Need-same-length
-same-length c = search needs
 
 returns-3 : tie.Need-returns-3
 returns-3 c =
@@ -60,16 +36,5 @@ pub couplings-spec : {M : Type 1} → statement M
 couplings-spec =
     tie.close
     (tie.spec
-    slice-aggregate-none
-    slice-aggregate-check-graph
-    slice-aggregate-check-graph-2
-    slice-aggregate-check-graph-3
-    check-graph-requires
-    returns
-    mul-if2
-    returns-2
-    array-share-prefix-mag
-    slice-aggregate-couple
-    couple-requires
-    same-length
-    returns-3)
+    (λ c. search needs) (λ c. search needs) (λ c. search needs) (λ c. search needs) (λ c κs. search needs) returns mul-if2 returns-2
+    (λ c. search needs) (λ c. search needs) couple-requires (λ c. search needs) returns-3)

@@ -4,13 +4,13 @@ use Prim.Native.Nat.{_≤_}
 use native.Mathlib.Omega.{arith}
 use lib.ListN.{length}
 use lib.Seq.{length-take-le}
-use Rattle.plan.specs.Layout.{Holds}
-use Rattle.planned.specs.Zeros.{zeros}
-use Rattle.totals.specs.Jobs.{jobIn}
-use Rattle.totals.specs.Finished.{stepping}
-use Rattle.totals.specs.Signing.{chunked-plan}
-use Rattle.totals.specs.Entering.{joins}
-use Rattle.totals.specs.Staging.{enough-factors, staged, summable, room-fits, finished, cleared-answers}
+use Rattle.plan_steps.specs.Layout.{Holds}
+use Rattle.job_run.specs.Zeros.{zeros}
+use Rattle.totals_call.specs.Jobs.{jobIn}
+use Rattle.totals_call.specs.Finished.{stepping}
+use Rattle.totals_call.specs.Laws.Signing.{chunked-plan}
+use Rattle.totals_call.specs.Laws.Entering.{joins}
+use Rattle.totals_call.specs.Laws.Staging.{enough-factors, staged, summable, room-fits, finished, cleared-answers}
 use borrow.Author.Needs.{needs}
 use Rattle.totals_job.proofs.plan_and_total.Statement.{statement}
 use Rattle.totals_job.proofs.plan_and_total.Tie as tie
@@ -49,15 +49,6 @@ chunked-totals-requires c κs =
       p .6,
     )
 
-clear-requires : tie.Need-clear-requires
-clear-requires c κs = search needs
-
-clear-unsound-requires : tie.Need-clear-unsound-requires
-clear-unsound-requires c κs = search needs
-
-clear-unsound-requires-2 : tie.Need-clear-unsound-requires-2
-clear-unsound-requires-2 c κs = search needs
-
 same-length : tie.Need-same-length
 same-length c = c .before .before .before .before .before .before .before .before .before .before .before .before .before .before .before .before .before .before .before .before .before .before .before .before .before .before .before .before .before .before .before .before .before .before .before .before .before .before .before .before .before .before .before .before .before .before .before .make-plan .kept .0
 
@@ -85,9 +76,6 @@ same-length-8 c = c .before .before .before .before .before .before .clear-unsou
 same-length-9 : tie.Need-same-length-9
 same-length-9 c = c .before .before .clear-unsound2 .kept .1 .0 ∙ c .before .before .before .before .before .before .before .before .before .before .before .before .before .before .before .before .before .before .before .before .before .before .before .before .before .chunked-totals .kept .1 .1 .1 .1 .1 .1 .1 .1 .1 .1 .1 .1 .1 .1 .1 .0
 
-same-length-10 : tie.Need-same-length-10
-same-length-10 c = search needs
-
 returns : tie.Need-returns
 returns c =
     let s = c .before .before .before .before .before .before .before .before .before .before .before .before .before .before .before .before .before .before .before .before .before .before .before .before .before .before .before .before .before .before .before .before .before .before .before .before .before .before .before .before .before .before .before .before .before .before .before .before .before .before .before .before .before .before .before .before .before .before .before .before .before .before .before .before in
@@ -109,23 +97,6 @@ pub plan-and-total-spec : {M : Type 1} → statement M
 plan-and-total-spec =
     tie.close
     (tie.spec
-    make-plan-requires
-    order-pairs-requires
-    mark-edges-requires
-    slice-relend-prefix-room
-    slice-aggregate-room
-    chunked-totals-requires
-    clear-requires
-    clear-unsound-requires
-    clear-unsound-requires-2
-    same-length
-    same-length-2
-    same-length-3
-    same-length-4
-    same-length-5
-    same-length-6
-    same-length-7
-    same-length-8
-    same-length-9
-    same-length-10
-    returns)
+    make-plan-requires order-pairs-requires mark-edges-requires slice-relend-prefix-room slice-aggregate-room chunked-totals-requires
+    (λ c κs. search needs) (λ c κs. search needs) (λ c κs. search needs) same-length same-length-2 same-length-3 same-length-4
+    same-length-5 same-length-6 same-length-7 same-length-8 same-length-9 (λ c. search needs) returns)

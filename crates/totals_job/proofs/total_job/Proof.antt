@@ -1,34 +1,19 @@
 use mathlib.Core.Path.{sym, _∙_}
 use native.Mathlib.Omega.{arith}
 use lib.Seq.{length-take-le}
-use Rattle.totals.specs.Staging.{few-sums}
+use Rattle.totals_call.specs.Laws.Staging.{few-sums}
 use borrow.Author.Needs.{needs}
 use Rattle.totals_job.proofs.total_job.Statement.{statement}
 use Rattle.totals_job.proofs.total_job.Tie as tie
 
-slice-aggregate-plan-and-total : tie.Need-slice-aggregate-plan-and-total
-slice-aggregate-plan-and-total c = search needs
-
-array-borrow-prefix-order : tie.Need-array-borrow-prefix-order
-array-borrow-prefix-order c = search needs
-
 slice-aggregate-plan-and-total-2 : tie.Need-slice-aggregate-plan-and-total-2
 slice-aggregate-plan-and-total-2 c = sym (length-take-le _ _ (omega (arith, c .before .before .before .before .before .before .before .before .before .before .pre .0 .job .few-pairs)))
-
-array-borrow-prefix-tree : tie.Need-array-borrow-prefix-tree
-array-borrow-prefix-tree c = search needs
 
 slice-aggregate-plan-and-total-3 : tie.Need-slice-aggregate-plan-and-total-3
 slice-aggregate-plan-and-total-3 c = sym (length-take-le _ _ (omega (arith, c .before .before .before .before .before .before .before .before .before .before .before .pre .0 .job .few-edges)))
 
-array-borrow-prefix-signs : tie.Need-array-borrow-prefix-signs
-array-borrow-prefix-signs c = search needs
-
 slice-aggregate-plan-and-total-4 : tie.Need-slice-aggregate-plan-and-total-4
 slice-aggregate-plan-and-total-4 c = sym (length-take-le _ _ (omega (arith, c .before .before .before .before .before .before .before .before .before .before .before .before .pre .0 .job .few-edges)))
-
-array-borrow-prefix-c : tie.Need-array-borrow-prefix-c
-array-borrow-prefix-c c = search needs
 
 slice-aggregate-plan-and-total-5 : tie.Need-slice-aggregate-plan-and-total-5
 slice-aggregate-plan-and-total-5 c = sym (length-take-le _ _ (omega (arith, c .before .before .before .before .before .before .before .before .before .before .before .before .before .pre .0 .job .few-pairs)))
@@ -78,21 +63,7 @@ pub total-job-spec : {M : Type 1} → statement M
 total-job-spec =
     tie.close
     (tie.spec
-    slice-aggregate-plan-and-total
-    array-borrow-prefix-order
-    slice-aggregate-plan-and-total-2
-    array-borrow-prefix-tree
-    slice-aggregate-plan-and-total-3
-    array-borrow-prefix-signs
-    slice-aggregate-plan-and-total-4
-    array-borrow-prefix-c
-    slice-aggregate-plan-and-total-5
-    array-borrow-prefix-subsquares
-    slice-aggregate-plan-and-total-6
-    array-borrow-prefix-subfourths
-    slice-aggregate-plan-and-total-7
-    plan-and-total-requires
-    same-length
-    same-length-2
-    same-length-3
-    returns)
+    (λ c. search needs) (λ c. search needs) slice-aggregate-plan-and-total-2 (λ c. search needs) slice-aggregate-plan-and-total-3
+    (λ c. search needs) slice-aggregate-plan-and-total-4 (λ c. search needs) slice-aggregate-plan-and-total-5
+    array-borrow-prefix-subsquares slice-aggregate-plan-and-total-6 array-borrow-prefix-subfourths slice-aggregate-plan-and-total-7
+    plan-and-total-requires same-length same-length-2 same-length-3 returns)

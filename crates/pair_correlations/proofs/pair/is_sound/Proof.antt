@@ -2,7 +2,7 @@
 use mathlib.Core.Path.{_≡_, refl}
 use mathlib.Core.Bool.{false}
 use lib.Ieee.{inf, binary64, div, ofBits, ofFields, odd}
-use Rattle.sweep.specs.Constants.{zero-is}
+use Rattle.step_tables.specs.Laws.Constants.{zero-is}
 use Rattle.pair_correlations.specs.Sound.{soundly}
 use Rattle.pair_correlations.proofs.pair.is_sound.Statement.{statement}
 use Rattle.pair_correlations.proofs.pair.is_sound.Tie as tie

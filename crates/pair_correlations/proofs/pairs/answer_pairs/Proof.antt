@@ -4,7 +4,7 @@ use Prim.Native.Nat.{_+_, _-_}
 use native.Mathlib.Omega.{arith}
 use lib.ListN.{length}
 use borrow.Author.Tests.{not-true, not-false}
-use Rattle.vertex.specs.Ready.{still-ready}
+use Rattle.vertex_step.specs.Laws.Ready.{still-ready}
 use Rattle.pair_correlations.proofs.Answering.{Answering, answering-none, all-answered, still-next, two-unsound, two-more, second-of-pairing}
 use Rattle.pair_correlations.proofs.pairs.answer_pairs.Statement.{statement}
 use Rattle.pair_correlations.proofs.pairs.answer_pairs.Tie as tie
@@ -122,23 +122,6 @@ pub answer-pairs-spec : {M : Type 1} → statement M
 answer-pairs-spec =
     tie.close
     (tie.spec
-    Inv-loop
-    μ-loop
-    direct-pairs-requires
-    loop-holds
-    add-loop
-    add-loop-2
-    next-pairing-requires
-    mul-answer-two
-    shared-slice-read-answer-two
-    mul-answer-two-2
-    shared-slice-read-answer-two-2
-    answer-two-requires
-    same-length
-    same-length-2
-    returns
-    loop-less
-    loop-again
-    same-length-3
-    same-length-4
-    returns-2)
+    Inv-loop μ-loop direct-pairs-requires loop-holds add-loop add-loop-2 next-pairing-requires mul-answer-two shared-slice-read-answer-two
+    mul-answer-two-2 shared-slice-read-answer-two-2 answer-two-requires same-length same-length-2 returns loop-less loop-again
+    same-length-3 same-length-4 returns-2)

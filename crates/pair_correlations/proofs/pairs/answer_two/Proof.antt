@@ -10,15 +10,6 @@ use Rattle.pair_correlations.proofs.Two.{second-sourced, two-refused, t
 use Rattle.pair_correlations.proofs.pairs.answer_two.Statement.{statement}
 use Rattle.pair_correlations.proofs.pairs.answer_two.Tie as tie
 
-mul-a : tie.Need-mul-a
-mul-a c = search needs
-
-shared-slice-read-a : tie.Need-shared-slice-read-a
-shared-slice-read-a c = search needs
-
-mul-b : tie.Need-mul-b
-mul-b c = search needs
-
 shared-slice-read-b : tie.Need-shared-slice-read-b
 shared-slice-read-b c = let s = c .before .before .before .before .before .before .before in omega (arith, s .pre .2, s .pre .1 .pairs .matched)
 
@@ -90,9 +81,6 @@ slice-write-results-2 c = let s = c .before .before .before .before .before .bef
 same-length-3 : tie.Need-same-length-3
 same-length-3 c = c .before .before .before .before .before .before .before .before .before .before .before .before .before .before .before .aim-at .kept .0
 
-same-length-4 : tie.Need-same-length-4
-same-length-4 c = search needs
-
 returns-3 : tie.Need-returns-3
 returns-3 c =
     let sums = c .before .before .before .before .before .before .before .before .before in
@@ -107,25 +95,6 @@ pub answer-two-spec : {M : Type 1} → statement M
 answer-two-spec =
     tie.close
     (tie.spec
-    mul-a
-    shared-slice-read-a
-    mul-b
-    shared-slice-read-b
-    earlier-requires
-    later-requires
-    aim-at-requires
-    second-source-requires
-    half-sums-of-two-requires
-    is-sound-requires
-    same-length
-    returns
-    is-sound-requires-2
-    same-length-2
-    returns-2
-    mul-results
-    slice-write-results
-    mul-results-2
-    slice-write-results-2
-    same-length-3
-    same-length-4
-    returns-3)
+    (λ c. search needs) (λ c. search needs) (λ c. search needs) shared-slice-read-b earlier-requires later-requires aim-at-requires
+    second-source-requires half-sums-of-two-requires is-sound-requires same-length returns is-sound-requires-2 same-length-2 returns-2
+    mul-results slice-write-results mul-results-2 slice-write-results-2 same-length-3 (λ c. search needs) returns-3)

@@ -9,24 +9,6 @@ use Rattle.pair_correlations.proofs.pairs.second_source.Tie as tie
 returns : tie.Need-returns
 returns c = inl (c .if1 .taken, refl)
 
-mul-a : tie.Need-mul-a
-mul-a c = search needs
-
-shared-slice-read-a : tie.Need-shared-slice-read-a
-shared-slice-read-a c = search needs
-
-mul-b : tie.Need-mul-b
-mul-b c = search needs
-
-shared-slice-read-b : tie.Need-shared-slice-read-b
-shared-slice-read-b c = search needs
-
-earlier-requires : tie.Need-earlier-requires
-earlier-requires c κs = search needs
-
-later-requires : tie.Need-later-requires
-later-requires c κs = search needs
-
 direct-source-requires : tie.Need-direct-source-requires
 direct-source-requires c κs =
     let s = c .before .before .before .before .before .before .before .before in
@@ -40,12 +22,5 @@ pub second-source-spec : {M : Type 1} → statement M
 second-source-spec =
     tie.close
     (tie.spec
-    returns
-    mul-a
-    shared-slice-read-a
-    mul-b
-    shared-slice-read-b
-    earlier-requires
-    later-requires
-    direct-source-requires
-    returns-2)
+    returns (λ c. search needs) (λ c. search needs) (λ c. search needs) (λ c. search needs) (λ c κs. search needs) (λ c κs. search needs)
+    direct-source-requires returns-2)

@@ -26,12 +26,6 @@ loop-holds c =
     let s = c .before .before in
     (omega arith, advance-none _ _ _ _ _ _ _ (s .pre .3))
 
-add-next : tie.Need-add-next Inv-loop μ-loop
-add-next c = omega arith
-
-advance-last-requires : tie.Need-advance-last-requires Inv-loop μ-loop
-advance-last-requires c κs = omega arith
-
 add-scale : tie.Need-add-scale Inv-loop μ-loop
 add-scale c = omega (arith, ends c)
 
@@ -49,12 +43,6 @@ mul-then c = omega (arith, ends (c .before))
 
 slice-read-then : tie.Need-slice-read-then Inv-loop μ-loop
 slice-read-then c = omega (arith, ends (c .before .before))
-
-sub-dst : tie.Need-sub-dst Inv-loop μ-loop
-sub-dst c = omega arith
-
-add-forward-through : tie.Need-add-forward-through Inv-loop μ-loop
-add-forward-through c = omega arith
 
 forward-through-requires : tie.Need-forward-through-requires Inv-loop μ-loop
 forward-through-requires c κs =
@@ -92,21 +80,5 @@ pub advance-spec : {M : Type 1} → statement M
 advance-spec =
     tie.close
     (tie.spec
-    Inv-loop
-    μ-loop
-    loop-holds
-    add-next
-    advance-last-requires
-    add-scale
-    mul-scale
-    slice-read-scale
-    add-then
-    mul-then
-    slice-read-then
-    sub-dst
-    add-forward-through
-    forward-through-requires
-    loop-less
-    loop-again
-    same-length
-    returns)
+    Inv-loop μ-loop loop-holds (λ c. omega arith) (λ c κs. omega arith) add-scale mul-scale slice-read-scale add-then mul-then
+    slice-read-then (λ c. omega arith) (λ c. omega arith) forward-through-requires loop-less loop-again same-length returns)

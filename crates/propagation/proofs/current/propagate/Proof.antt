@@ -7,21 +7,12 @@ use Rattle.propagation.proofs.Propagation.{propagated-on, start-places,
 use Rattle.propagation.proofs.current.propagate.Statement.{statement}
 use Rattle.propagation.proofs.current.propagate.Tie as tie
 
-advance-requires : tie.Need-advance-requires
-advance-requires c κs = search needs
-
-same-length : tie.Need-same-length
-same-length c = search needs
-
 returns : tie.Need-returns
 returns c =
     let s = c .before .before .before .before .before .before .before .before .before .before in
     let b : s .args .u < s .args .n = omega arith in
     let e : s .args .current .vertex ≡ s .args .u = omega arith in
     propagated-on _ _ _ _ _ _ _ _ _ _ b e (c .before .before .advance .ensures)
-
-forward-place-requires : tie.Need-forward-place-requires
-forward-place-requires c κs = search needs
 
 half-alternate-requires : tie.Need-half-alternate-requires
 half-alternate-requires c κs =
@@ -33,9 +24,6 @@ advance-requires-2 : tie.Need-advance-requires-2
 advance-requires-2 c κs =
     let s = c .before .before .before .before .before .before .before .before .before .before in
     (rw (c .before .before .before .half-alternate .kept .0) (s .pre .0), s .pre .1, s .pre .2, omega arith)
-
-same-length-2 : tie.Need-same-length-2
-same-length-2 c = search needs
 
 returns-2 : tie.Need-returns-2
 returns-2 c =
@@ -49,11 +37,5 @@ pub propagate-spec : {M : Type 1} → statement M
 propagate-spec =
     tie.close
     (tie.spec
-    advance-requires
-    same-length
-    returns
-    forward-place-requires
-    half-alternate-requires
-    advance-requires-2
-    same-length-2
-    returns-2)
+    (λ c κs. search needs) (λ c. search needs) returns (λ c κs. search needs) half-alternate-requires advance-requires-2
+    (λ c. search needs) returns-2)

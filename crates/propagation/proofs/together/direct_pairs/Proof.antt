@@ -1,9 +1,8 @@
 -- The first k pairs are direct.
 use mathlib.Core.Path.{sym, _∙_}
-use Prim.Native.Nat.{_-_, _≤_, _<_}
+use Prim.Native.Nat.{_-_, _≤_}
 use native.Mathlib.Omega.{arith}
-use lib.ListN.{length, getD}
-use borrow.Author.Needs.{needs}
+use lib.ListN.{length}
 use Rattle.propagation.proofs.Pairings.{Front, front-more}
 use Rattle.propagation.proofs.together.direct_pairs.Statement.{statement}
 use Rattle.propagation.proofs.together.direct_pairs.Tie as tie
@@ -16,12 +15,6 @@ abbrev μ-loop : tie.MeasureT-loop
 
 loop-holds : tie.Need-loop-holds Inv-loop μ-loop
 loop-holds c = (omega arith, λ j l. absurd (omega arith))
-
-mul-p : tie.Need-mul-p Inv-loop μ-loop
-mul-p c = omega arith
-
-shared-slice-read-p : tie.Need-shared-slice-read-p Inv-loop μ-loop
-shared-slice-read-p c = omega arith
 
 mul-is-propagated : tie.Need-mul-is-propagated Inv-loop μ-loop
 mul-is-propagated c =
@@ -49,12 +42,6 @@ is-propagated-requires c κs = tt
 returns : tie.Need-returns Inv-loop μ-loop
 returns c = let at = c .before .before .before .before .before .before in record { inside = at .loop .inv .0; near = at .loop .inv .1 }
 
-add-k : tie.Need-add-k Inv-loop μ-loop
-add-k c = omega arith
-
-loop-less : tie.Need-loop-less Inv-loop μ-loop
-loop-less c = omega arith
-
 loop-again : tie.Need-loop-again Inv-loop μ-loop
 loop-again c =
     let at = c .before .before .before .before .before .before in
@@ -68,18 +55,5 @@ pub direct-pairs-spec : {M : Type 1} → statement M
 direct-pairs-spec =
     tie.close
     (tie.spec
-    Inv-loop
-    μ-loop
-    loop-holds
-    mul-p
-    shared-slice-read-p
-    mul-is-propagated
-    shared-slice-read-is-propagated
-    mul-is-propagated-2
-    shared-slice-read-is-propagated-2
-    is-propagated-requires
-    returns
-    add-k
-    loop-less
-    loop-again
-    returns-2)
+    Inv-loop μ-loop loop-holds (λ c. omega arith) (λ c. omega arith) mul-is-propagated shared-slice-read-is-propagated mul-is-propagated-2
+    shared-slice-read-is-propagated-2 is-propagated-requires returns (λ c. omega arith) (λ c. omega arith) loop-again returns-2)

@@ -18,17 +18,8 @@ returns-3 c = inl refl
 returns-4 : tie.Need-returns-4
 returns-4 c = inl refl
 
-sub-backward-place : tie.Need-sub-backward-place
-sub-backward-place c = search needs
-
-backward-place-requires : tie.Need-backward-place-requires
-backward-place-requires c κs = search needs
-
 returns-5 : tie.Need-returns-5
 returns-5 c = inl refl
-
-sub-result : tie.Need-sub-result
-sub-result c = search needs
 
 returns-6 : tie.Need-returns-6
 returns-6 c =
@@ -46,12 +37,4 @@ pub backward-last-spec : {M : Type 1} → statement M
 backward-last-spec =
     tie.close
     (tie.spec
-    returns
-    returns-2
-    returns-3
-    returns-4
-    sub-backward-place
-    backward-place-requires
-    returns-5
-    sub-result
-    returns-6)
+    returns returns-2 returns-3 returns-4 (λ c. search needs) (λ c κs. search needs) returns-5 (λ c. search needs) returns-6)

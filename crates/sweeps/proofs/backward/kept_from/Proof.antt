@@ -11,26 +11,8 @@ Inv-loop plan n c last t₀ t = (last + 1 ≡ n) × (c ≤ t)
 abbrev μ-loop : tie.MeasureT-loop
 μ-loop plan n c last t₀ t = last - t
 
-sub-last : tie.Need-sub-last Inv-loop μ-loop
-sub-last c = omega arith
-
-loop-holds : tie.Need-loop-holds Inv-loop μ-loop
-loop-holds c = omega arith
-
-backward-place-requires : tie.Need-backward-place-requires Inv-loop μ-loop
-backward-place-requires c κs = omega arith
-
 returns : tie.Need-returns Inv-loop μ-loop
 returns c = record { below = omega arith; from = λ b. omega arith; placed = λ b. omega (arith, c .before .backward-place .ensures) }
-
-add-t : tie.Need-add-t Inv-loop μ-loop
-add-t c = omega arith
-
-loop-less : tie.Need-loop-less Inv-loop μ-loop
-loop-less c = omega arith
-
-loop-again : tie.Need-loop-again Inv-loop μ-loop
-loop-again c = omega arith
 
 returns-2 : tie.Need-returns-2 Inv-loop μ-loop
 returns-2 c = record { below = omega arith; from = λ b. absurd (omega arith); placed = λ b. absurd (omega arith) }
@@ -39,13 +21,5 @@ pub kept-from-spec : {M : Type 1} → statement M
 kept-from-spec =
     tie.close
     (tie.spec
-    Inv-loop
-    μ-loop
-    sub-last
-    loop-holds
-    backward-place-requires
-    returns
-    add-t
-    loop-less
-    loop-again
-    returns-2)
+    Inv-loop μ-loop (λ c. omega arith) (λ c. omega arith) (λ c κs. omega arith) returns (λ c. omega arith) (λ c. omega arith)
+    (λ c. omega arith) returns-2)

@@ -3,22 +3,22 @@ use mathlib.Core.Path.{_≡_, _∙_}
 use Prim.Native.Nat.{_+_, _-_, _≤_}
 use native.Mathlib.Omega.{arith}
 use borrow.Author.Needs.{needs}
-use Rattle.plan.specs.Layout.{backwardPlace}
-use Rattle.sweep.specs.Constants.{one-is}
-use Rattle.half_sums.specs.Stored.{stored-if}
-use Rattle.vertex.specs.Ready.{tail-factors}
+use Rattle.plan_steps.specs.Layout.{backwardPlace}
+use Rattle.step_tables.specs.Laws.Constants.{one-is}
+use Rattle.pair_sums.specs.Laws.Stored.{stored-if}
+use Rattle.vertex_step.specs.Laws.Ready.{tail-factors}
 use Rattle.sweeps.specs.Target.{Target}
 use Rattle.sweeps.specs.BackwardInvariant.{BackwardInvariant}
 use Rattle.sweeps.proofs.Frames.{place-of, since-then}
-use Rattle.sweeps.proofs.BackwardIteration.{written-fits, begun-since, begun-invariant, begun-stands, steps-inside, backward-fits, backward-stepping, backward-steps, backward-iteration}
+use Rattle.sweeps.proofs.BackwardIteration.{written-fits, begun-since, begun-invariant, begun-stands, steps-inside, backward-stepping, backward-steps, backward-iteration}
 use Rattle.sweeps.proofs.backward.sweep_backward.Statement.{statement}
 use Rattle.sweeps.proofs.backward.sweep_backward.Tie as tie
 
 abbrev Inv-loop : tie.InvT-loop
-Inv-loop room₀ plan n w scales per-element changed factors bits₀ up₀ down₀ bits2₀ up2₀ down2₀ t₀ src₀ most₀ room bits up down bits2 up2 down2 t src most = BackwardInvariant plan room₀ room n w scales per-element t₀ t src most
+Inv-loop room₀ plan n w scales elementwise changed factors bits₀ up₀ down₀ bits2₀ up2₀ down2₀ t₀ src₀ most₀ room bits up down bits2 up2 down2 t src most = BackwardInvariant plan room₀ room n w scales elementwise t₀ t src most
 
 abbrev μ-loop : tie.MeasureT-loop
-μ-loop room₀ plan n w scales per-element changed factors bits₀ up₀ down₀ bits2₀ up2₀ down2₀ t₀ src₀ most₀ room bits up down bits2 up2 down2 t src most = t
+μ-loop room₀ plan n w scales elementwise changed factors bits₀ up₀ down₀ bits2₀ up2₀ down2₀ t₀ src₀ most₀ room bits up down bits2 up2 down2 t src most = t
 
 -- the place of the vertex where the sweep begins
 first : (c : tie.After-place-for Inv-loop μ-loop)
@@ -39,17 +39,11 @@ target c = rw (c .before .backward-place2 .ensures) at (c .place-for2 .ensures)
 next : (c : tie.After-place-for2 Inv-loop μ-loop) → let r = c .before .before .backward-last .result in r ≡ r - 1 + 1
 next c = omega (arith, ends (c .before .before))
 
-add-factors : tie.Need-add-factors Inv-loop μ-loop
-add-factors c = search needs
-
 kept-from-requires : tie.Need-kept-from-requires Inv-loop μ-loop
 kept-from-requires c κs = (c .before .before .pre .1 .holds, c .before .before .pre .0)
 
 backward-place-requires : tie.Need-backward-place-requires Inv-loop μ-loop
 backward-place-requires c κs = omega (arith, c .before .before .before .pre .1 .holds, c .kept-from .ensures .below)
-
-place-for-requires : tie.Need-place-for-requires Inv-loop μ-loop
-place-for-requires c κs = search needs
 
 begin-at-requires : tie.Need-begin-at-requires Inv-loop μ-loop
 begin-at-requires c κs =
@@ -71,9 +65,6 @@ sub-u c = omega (arith, ends c)
 
 backward-place-requires-2 : tie.Need-backward-place-requires-2 Inv-loop μ-loop
 backward-place-requires-2 c κs = omega (arith, ends c, c .before .before .loop .inv .ready .holds, c .before .before .loop .inv .below)
-
-place-for-requires-2 : tie.Need-place-for-requires-2 Inv-loop μ-loop
-place-for-requires-2 c κs = search needs
 
 is-due-requires : tie.Need-is-due-requires Inv-loop μ-loop
 is-due-requires c κs = tt
@@ -118,21 +109,6 @@ pub sweep-backward-spec : {M : Type 1} → statement M
 sweep-backward-spec =
     tie.close
     (tie.spec
-    Inv-loop
-    μ-loop
-    add-factors
-    kept-from-requires
-    backward-place-requires
-    place-for-requires
-    begin-at-requires
-    loop-holds
-    backward-last-requires
-    sub-u
-    backward-place-requires-2
-    place-for-requires-2
-    is-due-requires
-    backward-through-requires
-    loop-less
-    loop-again
-    same-length
-    returns)
+    Inv-loop μ-loop (λ c. search needs) kept-from-requires backward-place-requires (λ c κs. search needs) begin-at-requires loop-holds
+    backward-last-requires sub-u backward-place-requires-2 (λ c κs. search needs) is-due-requires backward-through-requires loop-less
+    loop-again same-length returns)

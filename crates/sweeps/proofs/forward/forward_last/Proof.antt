@@ -12,23 +12,14 @@ returns c = inl refl
 returns-2 : tie.Need-returns-2
 returns-2 c = inl refl
 
-add-if3 : tie.Need-add-if3
-add-if3 c = search needs
-
 returns-3 : tie.Need-returns-3
 returns-3 c = inl refl
 
 returns-4 : tie.Need-returns-4
 returns-4 c = inl refl
 
-forward-place-requires : tie.Need-forward-place-requires
-forward-place-requires c κs = search needs
-
 returns-5 : tie.Need-returns-5
 returns-5 c = inl refl
-
-add-result : tie.Need-add-result
-add-result c = search needs
 
 returns-6 : tie.Need-returns-6
 returns-6 c =
@@ -46,12 +37,4 @@ pub forward-last-spec : {M : Type 1} → statement M
 forward-last-spec =
     tie.close
     (tie.spec
-    returns
-    returns-2
-    add-if3
-    returns-3
-    returns-4
-    forward-place-requires
-    returns-5
-    add-result
-    returns-6)
+    returns returns-2 (λ c. search needs) returns-3 returns-4 (λ c κs. search needs) returns-5 (λ c. search needs) returns-6)

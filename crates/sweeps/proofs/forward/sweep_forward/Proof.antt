@@ -2,24 +2,24 @@
 use mathlib.Core.Path.{_≡_, _∙_}
 use Prim.Native.Nat.{_-_, _≤_, _<_}
 use native.Mathlib.Omega.{arith}
-use lib.ListN.{length, length-set}
+use lib.ListN.{length-set}
 use borrow.Author.Needs.{needs}
-use Rattle.plan.specs.Layout.{forwardPlace}
-use Rattle.sweep.specs.Constants.{one-is}
-use Rattle.half_sums.specs.Stored.{stored-if}
-use Rattle.vertex.specs.Frame.{moving-fits}
+use Rattle.plan_steps.specs.Layout.{forwardPlace}
+use Rattle.step_tables.specs.Laws.Constants.{one-is}
+use Rattle.pair_sums.specs.Laws.Stored.{stored-if}
+use Rattle.vertex_step.specs.Laws.Frame.{moving-fits}
 use Rattle.sweeps.specs.Target.{Target}
 use Rattle.sweeps.specs.ForwardInvariant.{ForwardInvariant}
 use Rattle.sweeps.proofs.Frames.{place-of, since-then}
-use Rattle.sweeps.proofs.ForwardIteration.{start-same, forward-start, steps-inside, forward-fits, forward-stepping, forward-steps, forward-iteration}
+use Rattle.sweeps.proofs.ForwardIteration.{start-same, forward-start, steps-inside, forward-stepping, forward-steps, forward-iteration}
 use Rattle.sweeps.proofs.forward.sweep_forward.Statement.{statement}
 use Rattle.sweeps.proofs.forward.sweep_forward.Tie as tie
 
 abbrev Inv-loop : tie.InvT-loop
-Inv-loop room₀ plan n w scales per-element factors bits₀ up₀ down₀ bits2₀ up2₀ down2₀ src₀ most₀ t₀ room bits up down bits2 up2 down2 src most t = ForwardInvariant plan room₀ room n w scales per-element t src most
+Inv-loop room₀ plan n w scales elementwise factors bits₀ up₀ down₀ bits2₀ up2₀ down2₀ src₀ most₀ t₀ room bits up down bits2 up2 down2 src most t = ForwardInvariant plan room₀ room n w scales elementwise t src most
 
 abbrev μ-loop : tie.MeasureT-loop
-μ-loop room₀ plan n w scales per-element factors bits₀ up₀ down₀ bits2₀ up2₀ down2₀ src₀ most₀ t₀ room bits up down bits2 up2 down2 src most t = n - t
+μ-loop room₀ plan n w scales elementwise factors bits₀ up₀ down₀ bits2₀ up2₀ down2₀ src₀ most₀ t₀ room bits up down bits2 up2 down2 src most t = n - t
 
 -- the last vertex of the iteration
 ends : (c : tie.After-forward-last Inv-loop μ-loop)
@@ -33,16 +33,13 @@ target : (c : tie.After-place-for Inv-loop μ-loop)
     Target (forwardPlace (a .plan .now) (c .before .before .forward-last .result)) (c .before .before .before .before .loop .src) (c .place-for .result)
 target c = rw (c .before .forward-place .ensures) at (c .place-for .ensures)
 
-add-factors : tie.Need-add-factors Inv-loop μ-loop
-add-factors c = search needs
-
 start-at-requires : tie.Need-start-at-requires Inv-loop μ-loop
 start-at-requires c κs = let p = c .before .before .before .pre in place-of p 0 (moving-fits _ _ 0 (omega arith) (p .moving))
 
 loop-holds : tie.Need-loop-holds Inv-loop μ-loop
 loop-holds c =
     let s = c .before .before .before .before .before .before in
-    forward-start (s .args .room .now) (s .pre) (c .before .before .start-at .ensures) (s .args .per-element) one-is
+    forward-start (s .args .room .now) (s .pre) (c .before .before .start-at .ensures) (s .args .elementwise) one-is
 
 forward-last-requires : tie.Need-forward-last-requires Inv-loop μ-loop
 forward-last-requires c κs = (omega (arith, c .before .loop .inv .ready .holds), c .loop-test .taken)
@@ -67,9 +64,6 @@ slice-write-room-2 c = simp length-set (omega (arith, ends c, c .before .before 
 
 forward-place-requires : tie.Need-forward-place-requires Inv-loop μ-loop
 forward-place-requires c κs = omega (arith, ends c, c .before .before .loop .inv .ready .holds)
-
-place-for-requires : tie.Need-place-for-requires Inv-loop μ-loop
-place-for-requires c κs = search needs
 
 is-due-requires : tie.Need-is-due-requires Inv-loop μ-loop
 is-due-requires c κs = tt
@@ -115,24 +109,6 @@ pub sweep-forward-spec : {M : Type 1} → statement M
 sweep-forward-spec =
     tie.close
     (tie.spec
-    Inv-loop
-    μ-loop
-    add-factors
-    start-at-requires
-    loop-holds
-    forward-last-requires
-    add-room
-    mul-room
-    slice-write-room
-    add-room-2
-    mul-room-2
-    slice-write-room-2
-    forward-place-requires
-    place-for-requires
-    is-due-requires
-    forward-through-requires
-    add-t
-    loop-less
-    loop-again
-    same-length
-    returns)
+    Inv-loop μ-loop (λ c. search needs) start-at-requires loop-holds forward-last-requires add-room mul-room slice-write-room add-room-2
+    mul-room-2 slice-write-room-2 forward-place-requires (λ c κs. search needs) is-due-requires forward-through-requires add-t loop-less
+    loop-again same-length returns)

@@ -3,8 +3,8 @@ use mathlib.Core.Path.{_≡_, _∙_}
 use Prim.Native.Nat.{ℕ, _-_, _/_, _^_, _≤_}
 use native.Mathlib.Omega.{arith}
 use borrow.Author.Needs.{needs}
-use Rattle.vector.specs.Power.{pow-double}
-use Rattle.sweep.specs.Constants.{one-is}
+use Rattle.list_laws.specs.Laws.Power.{pow-double}
+use Rattle.step_tables.specs.Laws.Constants.{one-is}
 use Rattle.sweeps.proofs.target.start_at.Statement.{statement}
 use Rattle.sweeps.proofs.target.start_at.Tie as tie
 

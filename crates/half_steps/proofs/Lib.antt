@@ -1,2 +1,0 @@
-mod FewIteration
-mod AlternateIteration
