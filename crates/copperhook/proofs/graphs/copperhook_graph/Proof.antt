@@ -1,8 +1,8 @@
 -- What the answer that was told says.
 use Rattle.copperhook.proofs.Told.{kept-told}
 use borrow.Author.Needs.{needs}
-use Rattle.copperhook.proofs.graph.copperhook_graph.Statement.{statement}
-use Rattle.copperhook.proofs.graph.copperhook_graph.Tie as tie
+use Rattle.copperhook.proofs.graphs.copperhook_graph.Statement.{statement}
+use Rattle.copperhook.proofs.graphs.copperhook_graph.Tie as tie
 
 new-requires : tie.Need-new-requires
 new-requires c κs = search needs

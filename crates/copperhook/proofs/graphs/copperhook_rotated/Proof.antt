@@ -1,8 +1,8 @@
 -- What the answer that was told says.
 use Rattle.copperhook.proofs.Told.{kept-told}
 use borrow.Author.Needs.{needs}
-use Rattle.copperhook.proofs.graph.copperhook_rotated.Statement.{statement}
-use Rattle.copperhook.proofs.graph.copperhook_rotated.Tie as tie
+use Rattle.copperhook.proofs.graphs.copperhook_rotated.Statement.{statement}
+use Rattle.copperhook.proofs.graphs.copperhook_rotated.Tie as tie
 
 rotated-requires : tie.Need-rotated-requires
 rotated-requires c κs = search needs
