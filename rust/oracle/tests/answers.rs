@@ -18,7 +18,7 @@ fn the_stored_lists_are_the_originals_answers() {
         ("estimates", "replay_estimate/data/estimates.bin"),
         ("roots", "replay_estimate/data/roots.bin"),
         ("totals", "replay_totals/data/totals.bin"),
-        ("sweeps", "transfer/specs/Original.antt"),
+        ("sweeps", "transfer_matrix/specs/Original.antt"),
     ] {
         let made = Command::new(env!("CARGO_BIN_EXE_answers")).arg(list).output().expect("answers runs");
         assert!(made.status.success(), "answers {list}: {}", String::from_utf8_lossy(&made.stderr));
