@@ -1,7 +1,6 @@
 -- What is proved of the definitions.
 pub mod Ring
 pub mod Within
-pub mod Grid
 pub mod Rounds
 pub mod Operations
 pub mod Close

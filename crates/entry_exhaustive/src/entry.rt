@@ -5,13 +5,12 @@ use entry_correlations::Manner;
 use entry_correlations::is_elementwise;
 use forest::count_free_edges;
 use job_checks::check_with_betas;
+use limits::COUNTED;
+use limits::EDGES;
 use refusals::Answer;
 use step_tables::pow2;
 use totals_chunks::all_chunks;
 use totals_job::total_job;
-
-// At most so many free edges are enumerated.
-const FREE: usize = 34;
 
 // Writes the sums of the squares and of the fourth powers of every correlation, over all configurations, for each beta and pair. Two
 // factors are lent for each beta and kept edge. Returns the count of configurations, or the refusal.
@@ -34,9 +33,9 @@ pub fn exhaustive(
         (now (betas .entry)) (now (factors .entry)) manner r (now (squares .entry)) (now (squares .exit))
         (now (fourths .entry)) (now (fourths .exit)) (now (work .entry)) (now (work .exit)) ⌝ }
 {
-    let mut early = [0usize; 4096];
-    let mut late = [0usize; 4096];
-    let mut mag = [0.0f64; 4096];
+    let mut early = [0usize; EDGES];
+    let mut late = [0usize; EDGES];
+    let mut mag = [0.0f64; EDGES];
     let job = check_with_betas(
         n,
         floor,
@@ -66,7 +65,7 @@ pub fn exhaustive(
         betas.len(),
         factors,
         free,
-        FREE,
+        COUNTED,
         betas.len() * us.len(),
         squares.len(),
         fourths.len(),

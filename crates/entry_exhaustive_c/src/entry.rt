@@ -1,6 +1,7 @@
 // The correlations of all configurations, for callers.
 ghost use mathlib.Core.Path.{_≡_};
 ghost use Prim.Native.Nat.{_*_, _^_, _≤_};
+ghost use Rattle.limits.specs.Limits.{mostStored};
 ghost use Rattle.totals_call.specs.Calls.{EnumeratedEach};
 use crate::job::store_job;
 use buffer_checks::check_enumeration;
@@ -8,18 +9,17 @@ use entry_correlations::Manner;
 use entry_correlations::is_elementwise;
 use forest::count_free_edges;
 use job_checks::check_with_betas;
+use limits::EDGES;
+use limits::STORED;
 use refusals::Answer;
 use step_tables::pow2;
-
-// With at most so many free edges every correlation is stored.
-const FREE: usize = 24;
 
 // How many correlations there are, where the free edges are few enough.
 fn stored_count(sums: usize, free: usize) -> usize
     requires { ⌜ sums ≤ 16384 ⌝ }
-    ensures { λ r. ⌜ (free ≤ 24 → r ≡ sums * 2 ^ free) ⌝ }
+    ensures { λ r. ⌜ (free ≤ mostStored → r ≡ sums * 2 ^ free) ⌝ }
 {
-    if FREE < free {
+    if STORED < free {
         return 0;
     }
     sums * pow2(free)
@@ -44,9 +44,9 @@ pub fn exhaustive_c(
     ensures { λ r. ⌜ EnumeratedEach n floor (now (a .entry)) (now (b .entry)) (now (m .entry)) (now (us .entry)) (now (vs .entry))
         (now (betas .entry)) (now (factors .entry)) manner r (now (stored .entry)) (now (stored .exit)) (now (work .entry)) (now (work .exit)) ⌝ }
 {
-    let mut early = [0usize; 4096];
-    let mut late = [0usize; 4096];
-    let mut mag = [0.0f64; 4096];
+    let mut early = [0usize; EDGES];
+    let mut late = [0usize; EDGES];
+    let mut mag = [0.0f64; EDGES];
     let job = check_with_betas(
         n,
         floor,
@@ -76,7 +76,7 @@ pub fn exhaustive_c(
         betas.len(),
         factors,
         free,
-        FREE,
+        STORED,
         stored_count(betas.len() * us.len(), free),
         stored.len(),
         stored.len(),

@@ -2,6 +2,7 @@
 ghost use mathlib.Core.Path.{_≡_};
 ghost use Prim.Native.Nat.{_*_, _^_, _≤_};
 ghost use lib.ListN.{length};
+ghost use Rattle.limits.specs.Limits.{mostCounted};
 ghost use Rattle.plan_steps.specs.Layout.{Holds};
 ghost use Rattle.graph.specs.Graphs.{freeCount};
 ghost use Rattle.totals_call.specs.Finished.{Passed, Marks, stepping, StoredAre};
@@ -37,7 +38,7 @@ fn plan_and_store(
     work: &mut [f64],
 ) -> bool
     requires { ⌜ Passed n w (now early) (now late) (now us) (now vs) (length (now factors)) betas (length (now work))
-        × (free ≡ freeCount (now early) (now late)) × (free ≤ 34) × Holds (now plan) n × (length (now order) ≡ length (now us))
+        × (free ≡ freeCount (now early) (now late)) × (free ≤ mostCounted) × Holds (now plan) n × (length (now order) ≡ length (now us))
         × Marks (length (now early)) (length (now tree)) (length (now signs)) × (length (now c) ≡ length (now us))
         × (length (now stored) ≡ betas * length (now us) * 2 ^ free) ⌝ }
     ensures { λ r. ⌜ StoredAre n w (now (early .entry)) (now (late .entry)) (now (factors .entry)) (stepping elementwise) (now (us .entry))
@@ -92,7 +93,7 @@ pub(crate) fn store_job(
     work: &mut [f64],
 ) -> bool
     requires { ⌜ Passed n w (now early) (now late) (now us) (now vs) (length (now factors)) betas (length (now work))
-        × (free ≡ freeCount (now early) (now late)) × (free ≤ 34)
+        × (free ≡ freeCount (now early) (now late)) × (free ≤ mostCounted)
         × (length (now stored) ≡ betas * length (now us) * 2 ^ free) ⌝ }
     ensures { λ r. ⌜ StoredAre n w (now (early .entry)) (now (late .entry)) (now (factors .entry)) (stepping elementwise) (now (us .entry))
         (now (vs .entry)) betas (betas * length (now (us .entry)) * 2 ^ free) (length (now (early .entry))) r (now (stored .exit))

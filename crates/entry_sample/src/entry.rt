@@ -4,6 +4,7 @@ use buffer_checks::check_sampling;
 use entry_correlations::Manner;
 use entry_correlations::is_elementwise;
 use job_checks::check_with_betas;
+use limits::EDGES;
 use refusals::Answer;
 use totals_chunks::Chunks;
 use totals_job::total_job;
@@ -35,9 +36,9 @@ pub fn sample(
         (now (betas .entry)) (now (factors .entry)) manner seed from to samples r (now (squares .entry)) (now (squares .exit))
         (now (fourths .entry)) (now (fourths .exit)) (now (work .entry)) (now (work .exit)) ⌝ }
 {
-    let mut early = [0usize; 4096];
-    let mut late = [0usize; 4096];
-    let mut mag = [0.0f64; 4096];
+    let mut early = [0usize; EDGES];
+    let mut late = [0usize; EDGES];
+    let mut mag = [0.0f64; EDGES];
     let job = check_with_betas(
         n,
         floor,

@@ -7,11 +7,9 @@ ghost use Rattle.transfer_matrix.specs.Configuration.{numbered};
 ghost use Rattle.plan_steps.specs.Edges.{Edges};
 ghost use Rattle.plan_steps.specs.Layout.{Holds, nearCount};
 ghost use Rattle.error_bound.specs.Bound.{mostNear};
+use limits::PLAN;
 use plan_steps::near_count;
 use plan_steps::plan_edges;
-
-// The most vertices have twelve numbers each in the plan.
-const PLAN: usize = 12288;
 
 // The largest number of near edges that the plan says of a vertex.
 fn most_planned(plan: &[usize], n: usize) -> usize

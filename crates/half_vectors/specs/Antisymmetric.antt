@@ -6,7 +6,7 @@ use lib.Ieee.{Float, neg}
 use Rattle.list_laws.specs.Bits.{bit}
 use Rattle.transfer_matrix.specs.Rounded.{ieee}
 use Rattle.transfer_matrix.specs.Sweep as S
-use Rattle.half_vectors.specs.Alike.{Alike}
+use Rattle.rounding.specs.Alike.{Alike}
 
 -- but for the signs of zeros, entry j of the whole v is entry j of the half h, and entry 2 ^ w - 1 - j is its negative
 pub record AntisymmetricHalf (w : ℕ) (h : ℕ → Float) (v : List Float) : Type 0 where

@@ -1,14 +1,10 @@
 -- What is proved of the definitions.
-pub mod Sign
-pub mod Alike
-pub mod Running
 pub mod Terms
 pub mod Half
 pub mod Symmetric
 pub mod Antisymmetric
 pub mod Sums
 pub mod Largest
-pub mod Commute
 pub mod Flip
 pub mod Entries
 pub mod FlipInvariance

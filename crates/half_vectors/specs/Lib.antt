@@ -1,5 +1,4 @@
 -- The definitions that the contracts cite,
-pub mod Alike
 pub mod Half
 pub mod Symmetric
 pub mod Antisymmetric

@@ -9,13 +9,10 @@ ghost use Rattle.plan_steps.specs.Layout.{Holds};
 ghost use Rattle.job_run.specs.Passed.{Passed, Finished};
 use crate::planned::lay_factors;
 use crate::planned::run;
+use limits::PAIRS;
+use limits::PLAN;
 use plan_layout::make_plan;
 use plan_layout::order_pairs;
-
-// The most vertices have twelve numbers each in the plan; and there are 256 pairs at most.
-const PLAN: usize = 12288;
-
-const PAIRS: usize = 256;
 
 // Plans the job, orders its pairs, lays the factors into the room and runs. `plan` and `order` are made here.
 fn plan_and_run(

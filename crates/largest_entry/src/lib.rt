@@ -3,6 +3,7 @@ ghost use mathlib.Core.Path.{_≡_};
 ghost use Prim.Native.Nat.{_+_, _*_, _^_, _≤_};
 ghost use lib.Ieee.{nan};
 ghost use lib.ListN.{length, getD};
+ghost use Rattle.limits.specs.Limits.{mostWindow};
 ghost use Rattle.list_laws.specs.Part.{part};
 ghost use Rattle.transfer_matrix.specs.Rounded.{ieee};
 ghost use Rattle.transfer_matrix.specs.Sweep as S;
@@ -101,7 +102,7 @@ fn sixteen_lanes(v: &[f64], at: usize, n: usize) -> f64
 
 // The largest of the 2 to the e entries at `at`. With e below 4 they are fewer than the lanes.
 pub fn largest_from(v: &[f64], at: usize, e: usize) -> f64
-    requires { ⌜ (e ≤ 24) × (at + 2 ^ e ≤ length (now v)) ⌝ }
+    requires { ⌜ (e ≤ mostWindow) × (at + 2 ^ e ≤ length (now v)) ⌝ }
     ensures { λ r. ⌜ r ≡ S.largest ieee (ieee .𝟘) (part (now (v .entry)) at (2 ^ e)) ⌝ }
 {
     let n = pow2(e);

@@ -16,7 +16,7 @@ use Rattle.transfer_matrix.specs.Arithmetic.{sum, signedSum}
 use Rattle.transfer_matrix.specs.Rounded.{ieee}
 use Rattle.step_tables.specs.Rule.{entries}
 use Rattle.half_vectors.specs.Half.{negatedIf}
-use Rattle.half_vectors.specs.Laws.Sign.{add-neg, sub-neg}
+use Rattle.rounding.specs.Laws.Negation.{add-neg, sub-neg}
 use Rattle.half_vectors.specs.Sums.{differ}
 use Rattle.pair_sums.specs.declared.sums.Source.{Source}
 use Rattle.pair_sums.specs.declared.sums.Sums.{Sums}

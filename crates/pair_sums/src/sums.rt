@@ -3,6 +3,7 @@
 ghost use mathlib.Core.Path.{_≡_};
 ghost use Prim.Native.Nat.{ℕ, _+_, _*_, _-_, _%_, _^_, _≤_, _<_};
 ghost use lib.ListN.{length};
+ghost use Rattle.limits.specs.Limits.{mostWindow};
 ghost use Rattle.pair_sums.specs.Pair.{Within, Summed, Sourced, Begun, SumsOf};
 use half_vectors::negated_if;
 use step_tables::pow2;
@@ -78,7 +79,7 @@ fn sums_of_one(v: &[f64], at: Source) -> Sums
 
 // The sums of two pairs over halves of two entries and more.
 fn there_and_back(v: &[f64], x: Source, y: Source, w: usize) -> Both
-    requires { ⌜ (2 ≤ w) × (w ≤ 24) × Within (length (now v)) (2 ^ (w - 1)) x × Within (length (now v)) (2 ^ (w - 1)) y ⌝ }
+    requires { ⌜ (2 ≤ w) × (w ≤ mostWindow) × Within (length (now v)) (2 ^ (w - 1)) x × Within (length (now v)) (2 ^ (w - 1)) y ⌝ }
     ensures { λ r. ⌜ Summed (now (v .entry)) x w (2 ^ w) (r .first) × Summed (now (v .entry)) y w (2 ^ w) (r .second) ⌝ }
 {
     let mut s = Sums { z: 0.0, n: 0.0 };

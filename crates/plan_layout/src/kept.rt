@@ -3,6 +3,7 @@ ghost use mathlib.Core.Path.{_≡_};
 ghost use mathlib.Core.Bool.{false, cond};
 ghost use Prim.Native.Nat.{_+_, _*_, _-_, _<_, _≤_};
 ghost use lib.ListN.{length, getD, set};
+ghost use Rattle.limits.specs.Limits.{mostVertices};
 ghost use Rattle.list_laws.specs.Count.{count};
 ghost use Rattle.transfer_matrix.specs.Room.{keepsForward, keepsBackward};
 ghost use Rattle.plan_steps.specs.Layout.{numbers, indexOf, Holds};
@@ -10,15 +11,13 @@ ghost use Rattle.plan_layout.specs.Places.{Pairs, Marked, MarkedToo, Num
 use crate::pairs::earlier;
 use crate::pairs::is_propagated;
 use crate::pairs::later;
+use limits::VERTICES;
 use plan_steps::BACKWARD_PLACE;
 use plan_steps::FORWARD_PLACE;
 use plan_steps::NUMBERS;
 
 // The places 0 and 1 are for the vectors that move from vertex to vertex.
 const MOVING: usize = 2;
-
-// The most vertices that a graph has.
-const VERTICES: usize = 1024;
 
 // Marks vertex t, where `kept`.
 fn mark(marks: &mut [bool], t: usize, kept: bool)
@@ -72,7 +71,7 @@ fn give_place(plan: &mut [usize], t: usize, k: usize, kept: bool, next: usize) -
 
 // Gives the marked vertices the places from `from` on, in vertex order. Returns the place behind the last.
 fn number_places(plan: &mut [usize], n: usize, k: usize, marks: &[bool], from: usize) -> usize
-    requires { ⌜ Holds (now plan) n × (n ≤ 1024) × (n ≤ length (now marks)) × (k < numbers) × (from ≤ 1026) ⌝ }
+    requires { ⌜ Holds (now plan) n × (n ≤ mostVertices) × (n ≤ length (now marks)) × (k < numbers) × (from ≤ 1026) ⌝ }
     ensures { λ r. ⌜ Numbered (now (plan .entry)) (now (plan .exit)) (λ t. getD (now (marks .entry)) t false) k from n r ⌝ }
 {
     let mut next = from;
@@ -103,7 +102,7 @@ fn count_marks(marks: &[bool], n: usize) -> usize
 
 // The number of places: the moving vectors, the kept forward ones and the kept backward ones.
 pub fn count_places(n: usize, w: usize, us: &[usize], vs: &[usize]) -> usize
-    requires { ⌜ Pairs (now us) (now vs) n × (n ≤ 1024) ⌝ }
+    requires { ⌜ Pairs (now us) (now vs) n × (n ≤ mostVertices) ⌝ }
     ensures { λ r. ⌜ r ≡ placesOf n w (now (us .entry)) (now (vs .entry)) ⌝ }
 {
     let mut forward = [false; VERTICES];
@@ -115,7 +114,7 @@ pub fn count_places(n: usize, w: usize, us: &[usize], vs: &[usize]) -> usize
 
 // The places of all kept vectors in the plan. Returns the number of places.
 pub fn plan_places(plan: &mut [usize], n: usize, w: usize, us: &[usize], vs: &[usize]) -> usize
-    requires { ⌜ Pairs (now us) (now vs) n × (n ≤ 1024) × Holds (now plan) n ⌝ }
+    requires { ⌜ Pairs (now us) (now vs) n × (n ≤ mostVertices) × Holds (now plan) n ⌝ }
     ensures { λ r. ⌜ Placed (now (plan .entry)) (now (plan .exit)) (now (us .entry)) (now (vs .entry)) n w r ⌝ }
 {
     let mut forward = [false; VERTICES];

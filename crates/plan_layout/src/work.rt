@@ -3,6 +3,7 @@ ghost use mathlib.Core.Path.{_≡_};
 ghost use mathlib.Core.Bool.{false};
 ghost use Prim.Native.Nat.{_≤_};
 ghost use lib.ListN.{length};
+ghost use Rattle.limits.specs.Limits.{mostEdges, mostVertices, mostWindow};
 ghost use Rattle.transfer_matrix.specs.Job.{tooManyNear};
 ghost use Rattle.transfer_matrix.specs.Configuration.{numbered};
 ghost use Rattle.transfer_matrix.specs.Room.{room as roomOf};
@@ -25,7 +26,7 @@ pub struct Work {
 
 // The places first, a vector of 2^w numbers each, then the scales of the vertices, then the factors of the m edges.
 fn work_of(places: usize, n: usize, w: usize, m: usize) -> Work
-    requires { ⌜ (places ≤ 2050) × (n ≤ 1024) × (w ≤ 24) × (m ≤ 4096) ⌝ }
+    requires { ⌜ (places ≤ 2050) × (n ≤ mostVertices) × (w ≤ mostWindow) × (m ≤ mostEdges) ⌝ }
     ensures { λ r. ⌜ (r .places ≡ places) × Laid n w m (r .places) (r .scales) (r .factors) (r .room) ⌝ }
 {
     let scales = places * pow2(w);
@@ -41,7 +42,7 @@ fn work_of(places: usize, n: usize, w: usize, m: usize) -> Work
 
 // The doubles of work memory that a call needs.
 pub fn room_needed(n: usize, w: usize, m: usize, us: &[usize], vs: &[usize]) -> usize
-    requires { ⌜ Pairs (now us) (now vs) n × (n ≤ 1024) × (w ≤ 24) × (m ≤ 4096) ⌝ }
+    requires { ⌜ Pairs (now us) (now vs) n × (n ≤ mostVertices) × (w ≤ mostWindow) × (m ≤ mostEdges) ⌝ }
     ensures { λ r. ⌜ r ≡ roomOf n w m (now (us .entry)) (now (vs .entry)) ⌝ }
 {
     let places = count_places(n, w, us, vs);
@@ -59,7 +60,7 @@ pub fn make_plan(
     us: &[usize],
     vs: &[usize],
 ) -> Work
-    requires { ⌜ Edges (now early) (now late) n w × (length (now early) ≤ 4096) × Pairs (now us) (now vs) n × Holds (now plan) n
+    requires { ⌜ Edges (now early) (now late) n w × (length (now early) ≤ mostEdges) × Pairs (now us) (now vs) n × Holds (now plan) n
         × (tooManyNear n w (numbered (now early) (now late)) ≡ false) ⌝ }
     ensures { λ r. ⌜ Planned (now (plan .exit)) (now (early .entry)) (now (late .entry)) (now (us .entry)) (now (vs .entry)) n w
         (r .places) (r .scales) (r .factors) (r .room) ⌝ }

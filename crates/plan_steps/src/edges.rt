@@ -12,9 +12,8 @@ use crate::layout::MOST_NEAR;
 use crate::layout::NEAR_COUNT;
 use crate::layout::NUMBERS;
 use crate::near::insert_near;
-
-// A plan of 1,024 vertices.
-const PLAN: usize = 12288;
+use limits::PLAN;
+use limits::VERTICES;
 
 // No vertex has an edge.
 fn clear_rows(plan: &mut [usize], n: usize)
@@ -88,7 +87,7 @@ fn is_crowded(n: usize, w: usize, early: &[usize], late: &[usize]) -> bool
     requires { ⌜ Edges (now early) (now late) n w ⌝ }
     ensures { λ r. ⌜ (r ≡ false → tooManyNear n w (numbered (now (early .entry)) (now (late .entry))) ≡ false) ⌝ }
 {
-    let mut counts = [0usize; 1024];
+    let mut counts = [0usize; VERTICES];
     count_near(&mut counts, n, w, early, late)
 }
 

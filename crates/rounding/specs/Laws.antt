@@ -5,3 +5,8 @@ pub mod Whole
 pub mod Sums
 pub mod Powers
 pub mod Scaled
+pub mod Alike
+pub mod Commute
+pub mod Negation
+pub mod Running
+pub mod Grid

@@ -3,6 +3,7 @@ ghost use mathlib.Core.Path.{_≡_};
 ghost use mathlib.Core.Bool.{false};
 ghost use Prim.Native.Nat.{_*_, _≤_};
 ghost use lib.ListN.{length};
+ghost use Rattle.limits.specs.Limits.{mostVertices};
 ghost use Rattle.list_laws.specs.Tabulate.{tabulate};
 ghost use Rattle.forest.specs.Labels.{isTree};
 ghost use Rattle.forest.specs.Paths.{Edges};
@@ -25,7 +26,7 @@ use totals_configuration::SweepShape;
 
 // Marks the tree edges, where configurations go by number; drawn ones read no mark.
 fn mark_edges(drawn: bool, n: usize, early: &[usize], late: &[usize], tree: &mut [bool])
-    requires { ⌜ Edges n (now early) (now late) × (n ≤ 1024) × (length (now tree) ≡ length (now early)) ⌝ }
+    requires { ⌜ Edges n (now early) (now late) × (n ≤ mostVertices) × (length (now tree) ≡ length (now early)) ⌝ }
     ensures { λ _. ⌜ (drawn ≡ false
         → now (tree .exit) ≡ tabulate (isTree (now (early .entry)) (now (late .entry))) (length (now (early .entry)))) ⌝ }
 {

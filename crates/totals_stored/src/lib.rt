@@ -6,6 +6,7 @@ ghost use mathlib.Core.Bool.{true, not};
 ghost use Prim.Native.Nat.{ℕ, _*_, _/_, _%_, _^_, _≤_};
 ghost use lib.Ieee.{Float};
 ghost use lib.ListN.{length};
+ghost use Rattle.limits.specs.Limits.{mostCounted};
 ghost use Rattle.list_laws.specs.Search.{some};
 ghost use Rattle.list_laws.specs.Tabulate.{tabulate};
 ghost use Rattle.transfer_matrix.specs.Job.{Job};
@@ -36,7 +37,7 @@ pub fn stored_correlations(
     stored: &mut [f64],
 ) -> bool
     requires { ⌜ Stage (now plan) (now us) (now vs) (now order) (length (now tree)) shape (length (now room)) (length (now c))
-        × EnoughFactors (length (now factors)) (length (now tree)) betas × Enumerates (now tree) (length (now signs)) 0 (2 ^ free) × (free ≤ 34)
+        × EnoughFactors (length (now factors)) (length (now tree)) betas × Enumerates (now tree) (length (now signs)) 0 (2 ^ free) × (free ≤ mostCounted)
         × (length (now stored) ≡ betas * length (now us) * 2 ^ free) ⌝ }
     ensures { λ r. ⌜ ((J : ℕ → ℕ → Job Float) → PlanOfRun J (now (plan .entry)) (now (factors .entry)) (length (now (tree .entry))) (signsOf (now (tree .entry))) betas shape
         → (r ≡ not (some (λ x. unsoundBetas (J x) (now (us .entry)) (now (vs .entry)) betas) (2 ^ free)))

@@ -21,7 +21,7 @@ use Rattle.accuracy.specs.Laws.Ring.{_⊹_, _⋆_, ‐_, nat-add, nat-mu
 use Rattle.accuracy.specs.Laws.Ring.{+-zero, +-*, one-*, neg-+, neg-neg}
 use Rattle.accuracy.specs.Within.{Within}
 use Rattle.accuracy.specs.Laws.Within.{within-≼, within-neg, within-mono}
-use Rattle.accuracy.specs.Laws.Grid.{Off, off}
+use Rattle.rounding.specs.Laws.Grid.{Off, off}
 use Rattle.accuracy.specs.Rounds.{ε}
 
 -- and the smallest normal double, 2 ^ -1022.

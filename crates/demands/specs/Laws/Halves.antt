@@ -14,7 +14,7 @@ use Rattle.transfer_matrix.specs.Rounded.{ieee}
 use Rattle.transfer_matrix.specs.Sweep as S
 use Rattle.transfer_matrix.specs.Checked.{Checked}
 use Rattle.bounds.specs.Bounds.{forward-finite, propagated-under}
-use Rattle.half_vectors.specs.Alike.{Alike, same, zeros}
+use Rattle.rounding.specs.Alike.{Alike, same, zeros}
 use Rattle.half_vectors.specs.Symmetric.{SymmetricHalf}
 use Rattle.half_vectors.specs.Antisymmetric.{AntisymmetricHalf}
 

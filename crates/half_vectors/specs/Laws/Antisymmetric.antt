@@ -13,14 +13,14 @@ use Rattle.list_laws.specs.Laws.Tabulate.{tabulate-at}
 use Rattle.transfer_matrix.specs.Job.{Step}
 use Rattle.transfer_matrix.specs.Rounded.{ieee}
 use Rattle.transfer_matrix.specs.Sweep as S
-use Rattle.half_vectors.specs.Laws.Commute.{sum-commutes}
+use Rattle.rounding.specs.Laws.Commute.{sum-commutes}
 use Rattle.half_vectors.specs.Laws.Flip.{Below, bit-flips, up-flips, down-flips}
 use Rattle.half_vectors.specs.Entries as E
 use Rattle.half_vectors.specs.Laws.Entries as ELaws
 use Rattle.half_vectors.specs.Entries.{blend}
-use Rattle.half_vectors.specs.Laws.Sign.{neg-neg, neg-first, neg-second}
-use Rattle.half_vectors.specs.Alike.{Alike, same}
-use Rattle.half_vectors.specs.Laws.Alike.{alike-is, alike-sym, alike-trans, alike-mul, alike-add, add-negated}
+use Rattle.rounding.specs.Laws.Negation.{neg-neg, neg-first, neg-second}
+use Rattle.rounding.specs.Alike.{Alike, same}
+use Rattle.rounding.specs.Laws.Alike.{alike-is, alike-sym, alike-trans, alike-mul, alike-add, add-negated}
 use Rattle.half_vectors.specs.Half.{forwardHalf}
 use Rattle.half_vectors.specs.Laws.Half.{forwardHalf-even, forwardHalf-odd}
 use Rattle.half_vectors.specs.Symmetric.{SymmetricHalf}

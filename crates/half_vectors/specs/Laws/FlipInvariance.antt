@@ -12,7 +12,7 @@ use Rattle.list_laws.specs.Laws.Tabulate.{tabulate-at}
 use Rattle.transfer_matrix.specs.Job.{Step}
 use Rattle.transfer_matrix.specs.Rounded.{ieee}
 use Rattle.transfer_matrix.specs.Sweep as S
-use Rattle.half_vectors.specs.Laws.Commute.{sum-commutes}
+use Rattle.rounding.specs.Laws.Commute.{sum-commutes}
 use Rattle.half_vectors.specs.Laws.Flip.{Below, up-flips, down-flips}
 use Rattle.half_vectors.specs.Entries as E
 use Rattle.half_vectors.specs.Laws.Entries as ELaws

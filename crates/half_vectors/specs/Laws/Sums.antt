@@ -13,8 +13,8 @@ use Rattle.transfer_matrix.specs.Arithmetic.{sum, signedSum}
 use Rattle.transfer_matrix.specs.Rounded.{ieee}
 use Rattle.transfer_matrix.specs.Sweep as S
 use Rattle.half_vectors.specs.Laws.Flip.{bit-flips}
-use Rattle.half_vectors.specs.Laws.Sign.{neg-first}
-use Rattle.half_vectors.specs.Laws.Alike.{alike-is, alike-mul}
+use Rattle.rounding.specs.Laws.Negation.{neg-first}
+use Rattle.rounding.specs.Laws.Alike.{alike-is, alike-mul}
 use Rattle.half_vectors.specs.Laws.Terms.{SameTerm, like, negated, signed-same, sum-same}
 use Rattle.half_vectors.specs.Half.{thereAndBack}
 use Rattle.half_vectors.specs.Laws.Half.{there, back, by-halves}

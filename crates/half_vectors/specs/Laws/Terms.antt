@@ -7,9 +7,9 @@ use lib.Dec.{T}
 use lib.Ieee.{Float, binary64, neg, add, sub, fits}
 use Rattle.transfer_matrix.specs.Arithmetic.{sum, signedSum}
 use Rattle.transfer_matrix.specs.Rounded.{ieee}
-use Rattle.half_vectors.specs.Laws.Sign.{add-neg, sub-neg}
-use Rattle.half_vectors.specs.Alike.{Alike}
-use Rattle.half_vectors.specs.Laws.Running.{Running, add-forgets, sub-forgets, add-running, sub-running}
+use Rattle.rounding.specs.Laws.Negation.{add-neg, sub-neg}
+use Rattle.rounding.specs.Alike.{Alike}
+use Rattle.rounding.specs.Laws.Running.{Running, add-forgets, sub-forgets, add-running, sub-running}
 
 -- x subtracted where m says so, and y where k does, come to the same but for the sign of a zero
 pub data SameTerm : Bool → Float → Bool → Float → Type 0 where

@@ -11,7 +11,7 @@ use Rattle.transfer_matrix.specs.Arithmetic.{sum, signedSum}
 use Rattle.transfer_matrix.specs.Job.{Job}
 use Rattle.transfer_matrix.specs.Rounded.{ieee}
 use Rattle.transfer_matrix.specs.Sweep as S
-use Rattle.half_vectors.specs.Alike.{same}
+use Rattle.rounding.specs.Alike.{same}
 use Rattle.half_vectors.specs.Laws.Terms.{like, signed-same}
 use Rattle.half_vectors.specs.Half.{thereAndBack}
 use Rattle.half_vectors.specs.Symmetric.{SymmetricHalf}

@@ -12,9 +12,9 @@ use lib.IntN.{ℤ, pos}
 use lib.Ieee.{Float, nan, inf, fin, Format, binary32, binary64, up, down, unlike, round, neg, sum, add, mul}
 use lib.Ieee.Fits.{up-pos, down-pos}
 use lib.Ieee.Scale.{round-same}
-use Rattle.half_vectors.specs.Laws.Commute.{and-true, and-false, sum-commutes, product-commutes}
-use Rattle.half_vectors.specs.Laws.Sign.{round-neg}
-use Rattle.half_vectors.specs.Alike.{Alike, same, zeros}
+use Rattle.rounding.specs.Laws.Commute.{and-true, and-false, sum-commutes, product-commutes}
+use Rattle.rounding.specs.Laws.Negation.{round-neg}
+use Rattle.rounding.specs.Alike.{Alike, same, zeros}
 
 -- what is the same is alike
 pub alike-is : {x y : Float} → x ≡ y → Alike x y

@@ -4,7 +4,7 @@ use mathlib.Core.Bool.{Bool, true, false, cond, not}
 use Prim.Native.Nat.{ℕ, zero, suc, _+_, _*_, _^_}
 use lib.Dec.{eqb, ltb}
 use lib.Ieee.{Float, nan, inf, fin, Format, prec, emax, low, up, down, unlike, odd, units, round, neg, add, sub, mul}
-use Rattle.half_vectors.specs.Laws.Commute.{product-commutes}
+use Rattle.rounding.specs.Laws.Commute.{product-commutes}
 
 not-not : (s : Bool) → not (not s) ≡ s
 not-not true = refl

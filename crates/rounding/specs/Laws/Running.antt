@@ -14,10 +14,10 @@ use lib.Ieee.{Float, nan, inf, fin, Format, binary32, binary64, prec, emax, low,
 use lib.Ieee.Fits.{up-pos, down-pos, and-l, and-r, neg-fits, add-fits}
 use lib.Ieee.Order.{round-mono}
 use lib.Ieee.Positive.{positive, above, above-of-le}
 use Rattle.rounding.specs.Laws.Sign.{notMinus, round-notMinus}
-use Rattle.half_vectors.specs.Laws.Sign.{round-neg}
-use Rattle.half_vectors.specs.Alike.{Alike, same, zeros}
-use Rattle.half_vectors.specs.Laws.Alike.{alike-neg, add-noughts, add-nought}
+use Rattle.rounding.specs.Laws.Negation.{round-neg}
+use Rattle.rounding.specs.Alike.{Alike, same, zeros}
+use Rattle.rounding.specs.Laws.Alike.{alike-neg, add-noughts, add-nought}
 
 -- whether it is -0.0
 abbrev pub minusZero : Float → Bool
