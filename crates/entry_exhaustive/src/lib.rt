@@ -1,4 +1,4 @@
-// The totals of all configurations of a strip.
+// The totals of all configurations.
 mod entry;
 
 pub use entry::exhaustive;

@@ -1,4 +1,4 @@
-// The totals of drawn configurations of a strip.
+// The totals of drawn configurations.
 mod entry;
 
 pub use entry::sample;

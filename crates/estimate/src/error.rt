@@ -4,7 +4,7 @@ ghost use Rattle.estimate.specs.Estimates.{atLeastZero, errorOf, meanErr
 use crate::MeanError;
 use sqrt::sqrt;
 
-// A variance below zero is one that rounding has made; -0.0 is none.
+// A variance below zero comes of rounding and counts as +0.0, and so does -0.0.
 fn at_least_zero(v: f64) -> f64
     ensures { λ r. ⌜ r ≡ atLeastZero v ⌝ }
 {

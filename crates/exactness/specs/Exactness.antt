@@ -1,5 +1,5 @@
 -- In exact arithmetic the sweeps' answer is the textbook ratio: in either manner, for the ends of a pair in either order, in any window that
--- reaches every edge, and with any scales above zero. The modules below hold the proof, one idea each.
+-- reaches every edge, and with any scales above zero. specs/Laws holds the proof, one idea a file.
 use mathlib.Core.Path.{_≡_, _∙_, ap₂}
 use mathlib.Core.List.{List}
 use Prim.Native.Nat.{ℕ, suc, _≤_, _<_, min, max}

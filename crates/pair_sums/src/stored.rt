@@ -11,7 +11,7 @@ ghost use Rattle.pair_sums.specs.Terms.{halfAt};
 use largest_entry::largest_from;
 use step_tables::pow2;
 
-// The largest entry of the half at place p. It is the whole vector's (`largest-symmetric` of the crate halves).
+// The largest entry of the half at place p. It is the whole vector's (`largest-symmetric` of crate half_vectors).
 pub fn half_largest_at(room: &[f64], p: usize, w: usize) -> f64
     requires { ⌜ Place (length (now room)) w p ⌝ }
     ensures { λ r. ⌜ r ≡ S.largest ieee (ieee .𝟘) (tabulate (halfAt (now (room .entry)) w p) (2 ^ (w - 1))) ⌝ }
@@ -19,7 +19,7 @@ pub fn half_largest_at(room: &[f64], p: usize, w: usize) -> f64
     largest_from(room, p * pow2(w), w - 1)
 }
 
-// Whether the largest entry is taken after the step at t. `elementwise` is the elementwise manner: after every step. In the block manner it is
+// Whether the largest entry is taken after the step at t. `elementwise` is the per-element manner: after every step. In the block manner it is
 // taken where t % 4 is r.
 pub fn is_due(elementwise: bool, r: usize, t: usize) -> bool
     ensures { λ b. ⌜ b ≡ due elementwise r t ⌝ }

@@ -14,7 +14,7 @@ fn factor_at(e: usize, minus: bool) -> usize
     if minus { 2 * e + 1 } else { 2 * e }
 }
 
-// Writes the factors in use at beta b to the room, from `at` on, one for each kept edge. No other function reads the factors that were lent.
+// Writes the factors in use at beta b to the room, from `at` on, one for each kept edge. No other function below the entries of totals reads the lent list.
 pub fn lay_signed(room: &mut [f64], at: usize, factors: &[f64], b: usize, signs: &[bool])
     requires { ⌜ (at + length (now signs) ≤ length (now room)) × (2 * (b * length (now signs) + length (now signs)) ≤ length (now factors))
         × (b * length (now signs) + length (now signs) ≤ 262144) ⌝ }

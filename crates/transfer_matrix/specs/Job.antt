@@ -14,7 +14,7 @@ pub record Edge (K : Type 0) : Type 0 where
   pub late : ℕ
   pub factor : K
 
--- How often a sweep is rescaled: in the block manner every fourth step, in the elementwise manner every step.
+-- How often a sweep is rescaled: in the block manner every fourth step, in the per-element manner every step.
 pub data Manner : Type 0 where
   block perElement : Manner
 
