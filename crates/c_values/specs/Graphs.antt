@@ -1,8 +1,8 @@
 -- What a graph is as a number, 0 for accepted, and what it leaves in references that held `old`.
 use mathlib.Core.Path.{_≡_}
 use Prim.Native.Nat.{ℕ}
-use Rattle.graph.specs.declared.graph.Made.{Made}
-use Rattle.graph.specs.declared.graph.Made.the-variants.{Kept, Refused}
+use Rattle.graph_edges.specs.declared.Made.{Made}
+use Rattle.graph_edges.specs.declared.Made.the-variants.{Kept, Refused}
 
 abbrev pub numberOf : Made → ℕ
 numberOf (Kept g) = 0

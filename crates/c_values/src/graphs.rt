@@ -1,6 +1,6 @@
 // A graph's window and number of edges through references.
 ghost use Rattle.c_values.specs.Graphs.{Tells};
-use graph::Made;
+use graph_edges::Made;
 
 // Where the call is refused, `window` and `edges` keep what they held.
 pub fn tell_graph(answer: Made, window: &mut usize, edges: &mut usize) -> usize

@@ -9,9 +9,9 @@ use Rattle.list_laws.specs.Front.{over}
 use Rattle.refusals.specs.Edges as Edges
 use Rattle.refusals.specs.Answers.{answered, left}
 use Rattle.refusals.specs.declared.Answer.{Answer}
-use Rattle.graph.specs.Graphs.{Set}
+use Rattle.graph_edges.specs.Graphs.{Set}
 use Rattle.graph.specs.Reached.{Distanced}
-use Rattle.graph.specs.declared.graph.Made.{Made}
+use Rattle.graph_edges.specs.declared.Made.{Made}
 use Rattle.graph.specs.declared.graph.Reached.{Reached}
 use Rattle.entry_correlations.specs.declared.Manner.{Manner}
 use Rattle.strip.specs.declared.strip.Strip.{Strip}

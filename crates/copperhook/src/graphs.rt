@@ -4,10 +4,10 @@ ghost use lib.ListN.{length};
 ghost use Rattle.refusals.specs.Edges.{kept};
 ghost use Rattle.refusals.specs.Request.{graphRequest};
 ghost use Rattle.refusals.specs.Refusal.{refusal, ofGraphWithBuffers};
-ghost use Rattle.graph.specs.Graphs.{tooShort, rotate};
+ghost use Rattle.graph_edges.specs.Graphs.{tooShort, rotate};
 ghost use Rattle.copperhook.specs.Graphs.{Listed};
 use c_values::tell_graph;
-use graph::Graph;
+use graph_edges::Graph;
 
 // As `Graph::new`; where the call is refused, `window` and `edges` keep what they held.
 #[no_mangle]

@@ -7,15 +7,16 @@ use native.Mathlib.Omega.{arith}
 use lib.Ieee.{Float}
 use lib.ListN.{length, take}
 use Rattle.refusals.specs.Edges.{kept, keptEarly, keptLate}
-use Rattle.refusals.specs.Request.{graphRequest, distanceRequest, outside}
-use Rattle.refusals.specs.Refusal.{refusal, ofGraphWithBuffers, ofDistance}
-use Rattle.refusals.specs.Laws.Later.{then-buffers, then-pair, refused-before, refused-here, refused-not}
+use Rattle.refusals.specs.Request.{distanceRequest, outside}
+use Rattle.refusals.specs.Refusal.{refusal, ofDistance}
+use Rattle.refusals.specs.Laws.Later.{then-pair, refused-before, refused-here, refused-not}
 use Rattle.forest.specs.Paths.{Edges, Spans}
 use Rattle.distance.specs.Walks.{Distance}
 use Rattle.distance.specs.declared.Reach.{Reach}
 use Rattle.kept_edges.specs.Keep.{Written, CheckedGraph, KeptEdges}
 pub use Rattle.kept_edges.specs.Laws.Fronts.{front-early, front-late, early-part, late-part, early-fits, late-fits}
-pub use Rattle.kept_edges.specs.Laws.Fronts.{of-kept, is-accepted, kept-fronts}
+pub use Rattle.kept_edges.specs.Laws.Fronts.{of-kept, kept-fronts}
+pub use Rattle.kept_edges.specs.Laws.Buffers.{buffers-before, buffers-here, buffers-not}
 
 module _ {a b : List ℕ} {m : List Float} {k : ℕ} {early early′ late late′ : List ℕ} {mag mag′ : List Float}
     (W : Written a b m (length a) k early early′ late late′ mag mag′) where
@@ -29,17 +30,6 @@ module _ {a b : List ℕ} {m : List Float} {k : ℕ} {early early′ late late�
 -- ---- the graph was checked, and r was answered
 module _ {n : ℕ} {a b : List ℕ} {m : List Float} {r k : ℕ} {early early′ late late′ : List ℕ} {mag mag′ : List Float}
     (G : CheckedGraph n a b m [] [] [] r k early early′ late late′ mag mag′) where
-  -- of a call with buffers, which misfit or not
-  module _ (misfit : Bool) where
-    pub buffers-before : (r ≡ 0 → ⊥) → r ≡ refusal ofGraphWithBuffers (graphRequest n a b m misfit)
-    buffers-before = refused-before (then-buffers n a b m misfit) r (G .refusal)
-
-    pub buffers-here : r ≡ 0 → misfit ≡ true → 12 ≡ refusal ofGraphWithBuffers (graphRequest n a b m misfit)
-    buffers-here = refused-here (then-buffers n a b m misfit) r (G .refusal)
-
-    pub buffers-not : r ≡ 0 → misfit ≡ false → 0 ≡ refusal ofGraphWithBuffers (graphRequest n a b m misfit)
-    buffers-not = refused-not (then-buffers n a b m misfit) r (G .refusal)
-
   -- of a call with one pair
   module _ (u v : ℕ) where
     pub pair-before : (r ≡ 0 → ⊥) → r ≡ refusal ofDistance (distanceRequest n a b m u v)

@@ -1,3 +1,2 @@
 mod Building
 mod Setting
-mod Turning

@@ -1,9 +1,8 @@
-// The graph of a job, for callers: each entry checks first, and where it refuses it alters no lent list.
+// What follows from the kept edges of a graph, for callers: each entry checks first, and where it refuses it alters no lent list.
 ghost use mathlib.Core.Path.{_≡_};
-ghost use mathlib.Core.Bool.{false, not, _||_};
-ghost use lib.Dec.{eqb, ltb};
-ghost use Prim.Native.Nat.{ℕ, _≤_, _<_};
-ghost use lib.ListN.{length, getD};
+ghost use mathlib.Core.Bool.{false, not};
+ghost use lib.Dec.{eqb};
+ghost use lib.ListN.{length};
 ghost use Rattle.transfer_matrix.specs.Job.{windowOf};
 ghost use Rattle.refusals.specs.Edges.{kept, keptEarly, keptLate};
 ghost use Rattle.refusals.specs.Request.{graphRequest, distanceRequest};
@@ -12,28 +11,14 @@ ghost use Rattle.refusals.specs.Answers.{answered, left};
 ghost use Rattle.forest.specs.Paths.{Spans};
 ghost use Rattle.forest.specs.Components.{componentCount};
 ghost use Rattle.kept_edges.specs.Keep.{KeptEdges};
-ghost use Rattle.graph.specs.Graphs.{tooShort, freeCount, treeMarks, componentNames, measureOf, Set, rotate, Turned};
+ghost use Rattle.graph.specs.Graphs.{freeCount, treeMarks, componentNames, measureOf};
 ghost use Rattle.graph.specs.Reached.{Distanced};
 use distance::Reach;
 use kept_edges::build::build;
 use kept_edges::is_outside;
-use kept_edges::keep::keep;
 use kept_edges::window_of;
 use limits::EDGES;
 use refusals::Answer;
-
-// A graph whose kept edges stand in lists beside it.
-pub struct Graph {
-    pub n: usize,
-    pub win: usize,
-    pub edges: usize,
-}
-
-// A graph, or the number of a refusal.
-pub enum Made {
-    Kept(Graph),
-    Refused(usize),
-}
 
 // The length of a shortest walk, that there is none, or the number of a refusal.
 pub enum Reached {
@@ -164,93 +149,5 @@ pub fn distance(n: usize, a: &[usize], b: &[usize], m: &[f64], u: usize, v: usiz
     match distance::shortest_walk(&early[..edges], &late[..edges], u, v) {
         Reach::Length(k) => Reached::Length(k),
         Reach::NotJoined => Reached::NotJoined,
-    }
-}
-
-impl Graph {
-    // The kept edges to the fronts of three lists, and the graph that they make.
-    pub fn new(
-        n: usize,
-        floor: usize,
-        a: &[usize],
-        b: &[usize],
-        m: &[f64],
-        early: &mut [usize],
-        late: &mut [usize],
-        mag: &mut [f64],
-    ) -> Made
-        ensures { λ r. ⌜ Set (refusal ofGraphWithBuffers (graphRequest n (now (a .entry)) (now (b .entry)) (now (m .entry))
-            (tooShort (length (kept (now (a .entry)) (now (b .entry)) (now (m .entry)))) (now (early .entry)) (now (late .entry)) (now (mag .entry)))))
-            n floor (kept (now (a .entry)) (now (b .entry)) (now (m .entry))) r
-            (now (early .entry)) (now (early .exit)) (now (late .entry)) (now (late .exit)) (now (mag .entry)) (now (mag .exit)) ⌝ }
-    {
-        let mut first = [0usize; EDGES];
-        let mut second = [0usize; EDGES];
-        let mut size = [0.0f64; EDGES];
-        let g = build(n, a, b, m, &mut first, &mut second, &mut size);
-        let refusal = g.refusal;
-        if refusal != 0 {
-            return Made::Refused(refusal);
-        }
-        let edges = g.edges;
-        if is_too_short(edges, early.len(), late.len(), mag.len()) {
-            return Made::Refused(12);
-        }
-        let win = window_of(floor, &first[..edges], &second[..edges]);
-        keep(a, b, m, early, late, mag);
-        Made::Kept(Graph { n, win, edges })
-    }
-
-    // The graph turned by 180 degrees, v to n - 1 - v; its edges keep their order, magnitudes and window.
-    pub fn rotated(
-        n: usize,
-        floor: usize,
-        a: &[usize],
-        b: &[usize],
-        m: &[f64],
-        early: &mut [usize],
-        late: &mut [usize],
-        mag: &mut [f64],
-    ) -> Made
-        ensures { λ r. ⌜ Set (refusal ofGraphWithBuffers (graphRequest n (now (a .entry)) (now (b .entry)) (now (m .entry))
-            (tooShort (length (kept (now (a .entry)) (now (b .entry)) (now (m .entry)))) (now (early .entry)) (now (late .entry)) (now (mag .entry)))))
-            n floor (rotate n (kept (now (a .entry)) (now (b .entry)) (now (m .entry)))) r
-            (now (early .entry)) (now (early .exit)) (now (late .entry)) (now (late .exit)) (now (mag .entry)) (now (mag .exit)) ⌝ }
-    {
-        match Graph::new(n, floor, a, b, m, early, late, mag) {
-            Made::Kept(g) => {
-                turn(n, g.edges, early, late);
-                Made::Kept(g)
-            }
-            Made::Refused(refusal) => Made::Refused(refusal),
-        }
-    }
-}
-
-fn is_too_short(edges: usize, early: usize, late: usize, mag: usize) -> bool
-    ensures { λ r. ⌜ r ≡ (ltb early edges || ltb late edges || ltb mag edges) ⌝ }
-{
-    if early < edges {
-        return true;
-    }
-    if late < edges {
-        return true;
-    }
-    mag < edges
-}
-
-// The first edges with their ends turned, v to n - 1 - v: the later end comes first.
-fn turn(n: usize, edges: usize, early: &mut [usize], late: &mut [usize])
-    requires { ⌜ (edges ≤ length (now early)) × (edges ≤ length (now late)) ⌝ }
-    requires { ⌜ ((e : ℕ) → e < edges → (getD (now early) e 0 < n) × (getD (now late) e 0 < n)) ⌝ }
-    ensures { λ r. ⌜ Turned n edges (now (early .entry)) (now (early .exit)) (now (late .entry)) (now (late .exit)) ⌝ }
-{
-    let mut e: usize = 0;
-    while e < edges {
-        let x = early[e];
-        let y = late[e];
-        early[e] = n - 1 - y;
-        late[e] = n - 1 - x;
-        e += 1;
     }
 }

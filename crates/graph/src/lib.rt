@@ -1,8 +1,6 @@
-// The graph of a job, and what follows from its kept edges.
+// What follows from the kept edges of a graph.
 mod graph;
 
-pub use graph::Graph;
-pub use graph::Made;
 pub use graph::Reached;
 pub use graph::components;
 pub use graph::cyclomatic;

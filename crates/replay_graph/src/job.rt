@@ -1,7 +1,7 @@
 // One job: its lists are loaded, every graph entry is called, and what they answer and leave is hashed.
-use graph::Graph;
-use graph::Made;
 use graph::Reached;
+use graph_edges::Graph;
+use graph_edges::Made;
 use refusals::Answer;
 use replay_format::OFFSET;
 use replay_format::at;

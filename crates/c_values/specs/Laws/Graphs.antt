@@ -2,8 +2,8 @@
 use mathlib.Core.Path.{_≡_, refl}
 use Prim.Native.Nat.{ℕ, zero, suc}
 use Rattle.refusals.specs.Answers.{left}
-use Rattle.graph.specs.Graphs.{made}
-use Rattle.graph.specs.declared.graph.Graph.{Graph}
+use Rattle.graph_edges.specs.Graphs.{made}
+use Rattle.graph_edges.specs.declared.Graph.{Graph}
 use Rattle.c_values.specs.Graphs.{numberOf, windowIn, edgesIn}
 
 -- ---- of a call whose refusal and graph are known

@@ -1,7 +1,7 @@
 -- The graph is set out as it is; where it is accepted, its edges are turned.
-use Rattle.graph.proofs.Building.{early-fits, late-fits}
-use Rattle.graph.proofs.Turning.{given, refused-turned, rotated-given, kept-below}
-use Rattle.graph.specs.Graphs.{tooShort}
+use Rattle.kept_edges.specs.Laws.Fronts.{early-fits, late-fits}
+use Rattle.graph_edges.proofs.Turning.{given, refused-turned, rotated-given, kept-below}
+use Rattle.graph_edges.specs.Graphs.{tooShort}
 use Rattle.list_laws.specs.Search.{some}
 use Rattle.refusals.specs.Key.{Key}
 use Rattle.refusals.specs.Request.{Request, graphRequest, badEnds}
@@ -12,8 +12,8 @@ use mathlib.Core.Bool.{false}
 use mathlib.Core.Path.{_≡_, refl}
 use lib.ListN.{length}
 use borrow.Author.Needs.{needs}
-use Rattle.graph.proofs.graph.Graph.rotated.Statement.{statement}
-use Rattle.graph.proofs.graph.Graph.rotated.Tie as tie
+use Rattle.graph_edges.proofs.Graph.rotated.Statement.{statement}
+use Rattle.graph_edges.proofs.Graph.rotated.Tie as tie
 
 -- the request that `new` has answered
 abbrev asked : tie.After-new → Request

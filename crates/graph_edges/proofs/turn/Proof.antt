@@ -1,10 +1,10 @@
 -- The edges before e are turned, the others as they were.
-use Rattle.graph.proofs.Turning.{Turning, turning-none, turning-more, turning-all, early-waits, late-waits}
+use Rattle.graph_edges.proofs.Turning.{Turning, turning-none, turning-more, turning-all, early-waits, late-waits}
 use lib.ListN.{getD}
 use Prim.Native.Nat.{_-_, _<_}
 use native.Mathlib.Omega.{arith}
-use Rattle.graph.proofs.graph.turn.Statement.{statement}
-use Rattle.graph.proofs.graph.turn.Tie as tie
+use Rattle.graph_edges.proofs.turn.Statement.{statement}
+use Rattle.graph_edges.proofs.turn.Tie as tie
 
 abbrev Inv-loop : tie.InvT-loop
 Inv-loop n edges early₀ late₀ e₀ early late e = Turning n edges early₀ early late₀ late e

@@ -1,7 +1,8 @@
 -- The kept edges are set out again, in the lent lists, if the graph is accepted and they hold it.
-use Rattle.graph.specs.Graphs.{tooShort}
-use Rattle.graph.proofs.Building.{buffers-before, buffers-here, buffers-not, kept-fronts, is-accepted, of-kept}
-use Rattle.graph.proofs.Setting.{refused-set, kept-set, holds-all}
+use Rattle.graph_edges.specs.Graphs.{tooShort}
+use Rattle.kept_edges.specs.Laws.Buffers.{buffers-before, buffers-here, buffers-not}
+use Rattle.kept_edges.specs.Laws.Fronts.{kept-fronts, is-accepted, of-kept}
+use Rattle.graph_edges.proofs.Setting.{refused-set, kept-set, holds-all}
 use Rattle.transfer_matrix.specs.Job.{windowOf}
 use Rattle.refusals.specs.Edges.{kept}
 use Rattle.refusals.specs.Laws.First.{told}
@@ -9,8 +10,8 @@ use native.Mathlib.Omega.{arith}
 use lib.ListN.{length}
 use mathlib.Core.Bool.{Bool}
 use borrow.Author.Needs.{needs}
-use Rattle.graph.proofs.graph.Graph.new.Statement.{statement}
-use Rattle.graph.proofs.graph.Graph.new.Tie as tie
+use Rattle.graph_edges.proofs.Graph.new.Statement.{statement}
+use Rattle.graph_edges.proofs.Graph.new.Tie as tie
 
 -- whether the lists are too short, where the graph is built
 abbrev misfit : tie.After-build → Bool

@@ -19,10 +19,10 @@ use Rattle.list_laws.specs.Front.{over}
 use Rattle.list_laws.specs.Laws.Front.{over-more, over-behind, over-front, over-over}
 use Rattle.refusals.specs.Edges.{Kept, kept, earlyEnds, lateEnds, keptEarly, keptLate}
 use Rattle.kept_edges.specs.Keep.{Written}
-use Rattle.graph.specs.Graphs.{Set, Turned, turned, rotate}
-use Rattle.graph.specs.declared.graph.Graph.{Graph}
-use Rattle.graph.specs.declared.graph.Made.{Made}
-use Rattle.graph.specs.declared.graph.Made.the-variants as Made
+use Rattle.graph_edges.specs.Graphs.{Set, Turned, turned, rotate}
+use Rattle.graph_edges.specs.declared.Graph.{Graph}
+use Rattle.graph_edges.specs.declared.Made.{Made}
+use Rattle.graph_edges.specs.declared.Made.the-variants as Made
 
 -- e of the edges were turned
 pub record Turning (n k : ℕ) (early₀ early late₀ late : List ℕ) (e : ℕ) : Type 0 where

@@ -1,7 +1,7 @@
 -- The tests, one after the other.
 use borrow.Author.Tests.{lt-ltb, le-ltb}
-use Rattle.graph.proofs.graph.is_too_short.Statement.{statement}
-use Rattle.graph.proofs.graph.is_too_short.Tie as tie
+use Rattle.graph_edges.proofs.is_too_short.Statement.{statement}
+use Rattle.graph_edges.proofs.is_too_short.Tie as tie
 
 returns : tie.Need-returns
 returns c = simp (lt-ltb _ _ (c .if1 .taken))
