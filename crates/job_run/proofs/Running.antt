@@ -9,7 +9,7 @@ use Rattle.transfer_matrix.specs.Job.{Job}
 use Rattle.transfer_matrix.specs.Rounded.{ieee}
 use Rattle.transfer_matrix.specs.Sweep as S
 use Rattle.vertex_step.specs.Ready.{PlanOf, Swept}
-use Rattle.sweeps.specs.Kept.{SameFrom}
+use Rattle.sweep_places.specs.Kept.{SameFrom}
 use Rattle.pair_correlations.specs.Sound.{unsound, Outcome}
 
 module _ (plan us vs : List ℕ) (e r results : List Float) (n w scales : ℕ) (elementwise sound : Bool)

@@ -4,15 +4,10 @@ ghost use lib.ListN.{length, drop};
 ghost use lib.Ieee.{Float};
 ghost use Rattle.transfer_matrix.specs.Job.{Job};
 ghost use Rattle.vertex_step.specs.Ready.{Ready, PlanOf, Swept};
-ghost use Rattle.sweeps.specs.Begun.{Stands};
-ghost use Rattle.sweeps.specs.Kept.{SameFrom};
-
-mod backward;
-mod forward;
-mod target;
-
-pub use backward::sweep_backward;
-pub use forward::sweep_forward;
+ghost use Rattle.sweep_places.specs.Begun.{Stands};
+ghost use Rattle.sweep_places.specs.Kept.{SameFrom};
+use sweep_backward::sweep_backward;
+use sweep_forward::sweep_forward;
 
 // Both sweeps: what the pairs are answered from. The kept backward vectors from vertex `changed` on stand already, and are not worked out
 // again; none does where `changed` is the last vertex or more.

@@ -19,8 +19,8 @@ use Rattle.vertex_step.specs.Frame.{Fits}
 use Rattle.vertex_step.specs.Laws.Frame.{half-held}
 use Rattle.vertex_step.specs.Ready.{Ready, PlanOf, Backward, Swept, Still}
 use Rattle.vertex_step.specs.Laws.Ready.{still-swept}
-use Rattle.sweeps.specs.Begun.{Stands}
-use Rattle.sweeps.specs.Kept.{SameFrom}
+use Rattle.sweep_places.specs.Begun.{Stands}
+use Rattle.sweep_places.specs.Kept.{SameFrom}
 use Rattle.pair_correlations.specs.Sound.{Outcome}
 use Rattle.totals_configuration.specs.declared.SweepShape.{SweepShape}
 use Rattle.totals_configuration.specs.Stage.{Stage}

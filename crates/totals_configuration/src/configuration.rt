@@ -6,7 +6,7 @@ ghost use lib.Ieee.{Float};
 ghost use lib.ListN.{length};
 ghost use Rattle.transfer_matrix.specs.Job.{Job};
 ghost use Rattle.vertex_step.specs.Ready.{Backward};
-ghost use Rattle.sweeps.specs.Begun.{Stands};
+ghost use Rattle.sweep_places.specs.Begun.{Stands};
 ghost use Rattle.pair_correlations.specs.Sound.{Outcome};
 ghost use Rattle.totals_configuration.specs.Signed.{PlanOfSigns, PlanOfAll};
 ghost use Rattle.totals_configuration.specs.Powers.{correlationAt, unsoundBetas, AddedPowers, AddedBeta};

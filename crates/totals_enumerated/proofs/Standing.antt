@@ -12,8 +12,8 @@ use Rattle.list_laws.specs.Laws.Tabulate.{tabulate-length, tabulate-at}
 use Rattle.transfer_matrix.specs.Job.{Job}
 use Rattle.transfer_matrix.specs.Configuration.{enumeratedMinus, lentAt}
 use Rattle.vertex_step.specs.Ready.{Ready, Backward}
-use Rattle.sweeps.specs.Begun.{Stands}
-use Rattle.sweeps.specs.Laws.Reuse.{reads-map, backward-stands}
+use Rattle.sweep_places.specs.Begun.{Stands}
+use Rattle.sweep_places.specs.Laws.Reuse.{reads-map, backward-stands}
 use Rattle.totals_signs.specs.Signed.{signedFactors}
 use Rattle.totals_configuration.specs.declared.SweepShape.{SweepShape}
 use Rattle.totals_configuration.specs.Signed.{PlanOfSigns}

@@ -5,7 +5,7 @@ use mathlib.Core.List.{List}
 use Prim.Native.Nat.{ℕ, _≤_, _<_}
 use lib.ListN.{getD}
 use Rattle.plan_steps.specs.Layout.{Holds, nearCount}
-use Rattle.sweeps.specs.Reuse.{Reads}
+use Rattle.sweep_places.specs.Reuse.{Reads}
 
 -- No edge past `last` changed its sign, and no tree edge did: edge e is one of them.
 abbrev pub Settled : List Bool → ℕ → ℕ → Type 0

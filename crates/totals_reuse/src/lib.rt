@@ -4,7 +4,7 @@ ghost use mathlib.Core.Bool.{false};
 ghost use Prim.Native.Nat.{_+_, _-_, _<_, _≤_};
 ghost use lib.ListN.{length};
 ghost use Rattle.plan_steps.specs.Layout.{leftEdge};
-ghost use Rattle.sweeps.specs.Reuse.{Reads};
+ghost use Rattle.sweep_places.specs.Reuse.{Reads};
 ghost use Rattle.totals_reuse.specs.Settled.{Settled, EdgesIn, SettledAbove, StandingFrom};
 use plan_steps::left_edge;
 use plan_steps::near_count;

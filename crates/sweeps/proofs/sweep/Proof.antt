@@ -2,7 +2,7 @@
 use mathlib.Core.Path.{_∙_}
 use borrow.Author.Needs.{needs}
 use Rattle.vertex_step.specs.Laws.Ready.{tail-factors}
-use Rattle.sweeps.proofs.Frames.{since-forward, since-backward}
+use Rattle.sweep_places.proofs.Frames.{since-forward, since-backward}
 use Rattle.sweeps.proofs.sweep.Statement.{statement}
 use Rattle.sweeps.proofs.sweep.Tie as tie
 

@@ -6,7 +6,7 @@ use mathlib.Core.Logic.{dite}
 use Prim.Native.Nat.{ℕ, _+_, _≤_}
 use native.Mathlib.Decide.{decLt}
 use native.Mathlib.Omega.{arith}
-use Rattle.sweeps.specs.Reuse.{Reads}
+use Rattle.sweep_places.specs.Reuse.{Reads}
 use Rattle.totals_reuse.specs.Settled.{Settled, EdgesIn, SettledAbove}
 
 pub edges-first : {plan : List ℕ} {m n : ℕ} (k : ℕ) → EdgesIn plan m n → k ≤ n → EdgesIn plan m k
