@@ -9,31 +9,34 @@ use lib.Ieee.{Float}
 use lib.Ieee.Positive.{positive, positive-finite}
 use lib.Ieee.Scale.{finite}
 use Rattle.fraction.specs.Fraction.{ℚ, oneℚ, Posℚ}
-use Rattle.transfer.specs.Checked.{Checked}
-use Rattle.transfer.specs.Job.{Job, stepOf}
-use Rattle.transfer.specs.Rounded.{ieee}
-use Rattle.transfer.specs.Sweep.{at, Z, answer, N}
+use Rattle.transfer_matrix.specs.Checked.{Checked}
+use Rattle.transfer_matrix.specs.Job.{Job, stepOf}
+use Rattle.transfer_matrix.specs.Rounded.{ieee}
+use Rattle.transfer_matrix.specs.Sweep.{at, Z, answer, N}
 use Rattle.exactness.specs.AnyScales.{ZOf, answerOf}
-use Rattle.exactness.specs.Exact.{rational, atValues, rational-laws, checked-values}
+use Rattle.exactness.specs.Exact.{rational, atValues}
+use Rattle.exactness.specs.Laws.Exact.{rational-laws, checked-values}
 use Rattle.exactness.specs.Textbook.{textbook}
 use Rattle.exactness.specs.Exactness.{exactly-scaled}
 use Rattle.bounds.specs.Bounds.{numerator-under}
-use Rattle.accuracy.specs.Ring.{_⋆_, NonNeg, _≼_, nat, nn-mul, nn-pos}
-use Rattle.accuracy.specs.Rounds.{ε, smallest}
+use Rattle.accuracy.specs.Ring.{NonNeg, nat}
+use Rattle.accuracy.specs.Laws.Ring.{_⋆_, _≼_, nn-mul, nn-pos}
+use Rattle.accuracy.specs.Rounds.{ε}
+use Rattle.accuracy.specs.Laws.Rounds.{smallest}
 use Rattle.accuracy.specs.Close.{Close}
-use Rattle.accuracy.specs.Powers.{θ}
-use Rattle.accuracy.specs.Factors.{ModerateStep, moderate-steps, EdgesModerate, step-roundings}
-use Rattle.accuracy.specs.ExactSweeps.{after, before, exact-sweeps}
-use Rattle.accuracy.specs.Sums.{term-≼}
-use Rattle.accuracy.specs.Ratio.{ratio-close}
+use Rattle.accuracy.specs.Laws.Powers.{θ}
+use Rattle.accuracy.specs.Laws.Factors.{ModerateStep, moderate-steps, EdgesModerate, step-roundings}
+use Rattle.accuracy.specs.Laws.ExactSweeps.{after, before, exact-sweeps}
+use Rattle.accuracy.specs.Laws.Sums.{term-≼}
+use Rattle.accuracy.specs.Laws.Ratio.{ratio-close}
 use Rattle.accuracy.specs.Normal.{exactZ, exactN, roundings, Normal}
-use Rattle.accuracy.specs.Pairs.{Z-pos, Z-close, N-close}
-use Rattle.accuracy.specs.Spread as S
-use Rattle.accuracy.specs.Levels.{Settled}
-use Rattle.accuracy.specs.Room.{Room}
-use Rattle.accuracy.specs.Room as R
-use Rattle.accuracy.specs.Ahead.{ahead-clear, ahead-settled}
-use Rattle.accuracy.specs.Back.{back-clear, back-settled}
+use Rattle.accuracy.specs.Laws.Pairs.{Z-pos, Z-close, N-close}
+use Rattle.accuracy.specs.Laws.Spread as S
+use Rattle.accuracy.specs.Laws.Levels.{Settled}
+use Rattle.accuracy.specs.Laws.Room.{Room}
+use Rattle.accuracy.specs.Laws.Room as R
+use Rattle.accuracy.specs.Laws.Ahead.{ahead-clear, ahead-settled}
+use Rattle.accuracy.specs.Laws.Back.{back-clear, back-settled}
 
 -- Where the sweeps stay in the normal range, an answer is close to the textbook's correlation.
 accurate : (J : Job Float) (ok : Checked (λ x. T (positive x)) J) (β : ℚ) (c u v : ℕ) → (u ≡ v → ⊥) → u ≤ J .last → v ≤ J .last

@@ -5,15 +5,17 @@ use lib.ListN.{length}
 use lib.Ieee.{Float}
 use lib.Ieee.Positive.{positive}
 use Rattle.fraction.specs.Fraction.{ℚ, oneℚ}
-use Rattle.transfer.specs.Checked.{Checked}
-use Rattle.transfer.specs.Job.{Job, stepOf}
+use Rattle.transfer_matrix.specs.Checked.{Checked}
+use Rattle.transfer_matrix.specs.Job.{Job, stepOf}
 use Rattle.exactness.specs.AnyScales.{ZOf, NOf}
 use Rattle.exactness.specs.Exact.{rational, atValues}
-use Rattle.accuracy.specs.Ring.{_⋆_, NonNeg, _≼_, nat}
-use Rattle.accuracy.specs.Rounds.{ε, smallest}
-use Rattle.accuracy.specs.Factors.{ModerateStep}
-use Rattle.accuracy.specs.ExactSweeps.{ahead, exactForward, exactBackward}
-use Rattle.accuracy.specs.Sweeps.{ClearAhead, ClearBack}
+use Rattle.accuracy.specs.Ring.{NonNeg, nat}
+use Rattle.accuracy.specs.Laws.Ring.{_⋆_, _≼_}
+use Rattle.accuracy.specs.Rounds.{ε}
+use Rattle.accuracy.specs.Laws.Rounds.{smallest}
+use Rattle.accuracy.specs.Laws.Factors.{ModerateStep}
+use Rattle.accuracy.specs.Laws.ExactSweeps.{ahead, exactForward, exactBackward}
+use Rattle.accuracy.specs.Laws.Sweeps.{ClearAhead, ClearBack}
 
 -- The exact Z and N of a pair, at the rounded sweeps' scales.
 abbrev pub exactZ : Job Float → ℕ → ℚ

@@ -10,23 +10,25 @@ use lib.Pow.{pow-mono}
 use lib.Ieee.{Float, binary64, neg, le}
 use lib.Ieee.Scale.{finite}
 use lib.Ieee.Positive.{positive, positive-finite}
-use Rattle.rounding.specs.Sign.{abs, notMinus}
-use Rattle.rounding.specs.Under.{Under, unit, div-under, in-unit}
-use Rattle.rounding.specs.Sums.{Each}
+use Rattle.rounding.specs.Sign.{abs}
+use Rattle.rounding.specs.Laws.Sign.{notMinus}
+use Rattle.rounding.specs.Under.{unit}
+use Rattle.rounding.specs.Laws.Under.{Under, div-under, in-unit}
+use Rattle.rounding.specs.Laws.Sums.{Each}
 use Rattle.rounding.specs.Powers.{Ordered}
-use Rattle.transfer.specs.Job.{Job}
-use Rattle.transfer.specs.Checked.{Checked}
-use Rattle.transfer.specs.Rounded.{ieee}
-use Rattle.transfer.specs.Sweep.{at, forward, scale, backward, propagated, Z, N, answer}
-use Rattle.transfer.specs.Totals.{chunkSize, chunkCount, enumeratedCount, sampledCount, square, fourth, enumerated, sampled}
+use Rattle.transfer_matrix.specs.Job.{Job}
+use Rattle.transfer_matrix.specs.Checked.{Checked}
+use Rattle.transfer_matrix.specs.Rounded.{ieee}
+use Rattle.transfer_matrix.specs.Sweep.{at, forward, scale, backward, propagated, Z, N, answer}
+use Rattle.transfer_matrix.specs.Totals.{chunkSize, chunkCount, enumeratedCount, sampledCount, square, fourth, enumerated, sampled}
 use Rattle.exactness.specs.AnyScales.{propagatedOf, ZOf, answerOf}
-use Rattle.exactness.specs.Own as Own
+use Rattle.exactness.specs.Laws.Own as Own
 use Rattle.exactness.specs.Literal.{literalForward, literalScale, literalPropagated, literalZ, literalAnswer}
-use Rattle.bounds.specs.Factors.{checked-notMinus}
-use Rattle.bounds.specs.Steps.{Finite}
-use Rattle.bounds.specs.Sweeps.{Fair, own-fair, literal-fair, propagated-beneath, propagated-le, before-finite, earlier-finite}
-use Rattle.bounds.specs.Pairs.{N-under-Z, Z-finite}
-use Rattle.bounds.specs.Chunks.{chunked-ordered, chunks-cover, configuration-lt}
+use Rattle.bounds.specs.Laws.Factors.{checked-notMinus}
+use Rattle.bounds.specs.Laws.Steps.{Finite}
+use Rattle.bounds.specs.Laws.Sweeps.{Fair, own-fair, literal-fair, propagated-beneath, propagated-le, before-finite, earlier-finite}
+use Rattle.bounds.specs.Laws.Pairs.{N-under-Z, Z-finite}
+use Rattle.bounds.specs.Laws.Chunks.{chunked-ordered, chunks-cover, configuration-lt}
 
 -- ---- vectors that follow the forward steps, at any scales without a minus sign
 module _ {J : Job Float} {F : ℕ → List Float} {f : ℕ → Float} {B : ℕ → List Float} (fair : Fair J F f B) where

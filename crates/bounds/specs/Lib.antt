@@ -1,6 +1,4 @@
-pub mod Factors
-pub mod Steps
-pub mod Sweeps
-pub mod Pairs
-pub mod Chunks
+-- Definitions,
 pub mod Bounds
+-- and the laws of these definitions, which no reader needs to believe.
+pub mod Laws

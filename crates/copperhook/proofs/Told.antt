@@ -5,22 +5,24 @@ use mathlib.Core.List.{List}
 use Prim.Native.Nat.{ℕ}
 use lib.Ieee.{Float}
 use lib.ListN.{length}
-use Rattle.vector.specs.Front.{over}
-use Rattle.checks.specs.Edges as Edges
-use Rattle.checks.specs.Answers.{answered, left}
-use Rattle.checks.specs.declared.Answer.{Answer}
-use Rattle.lattice.specs.Graphs.{Set}
-use Rattle.lattice.specs.Reached.{Distanced}
-use Rattle.lattice.specs.declared.graph.Made.{Made}
-use Rattle.lattice.specs.declared.graph.Reached.{Reached}
-use Rattle.glass.specs.declared.Manner.{Manner}
+use Rattle.list_laws.specs.Front.{over}
+use Rattle.refusals.specs.Edges as Edges
+use Rattle.refusals.specs.Answers.{answered, left}
+use Rattle.refusals.specs.declared.Answer.{Answer}
+use Rattle.graph_edges.specs.Graphs.{Set}
+use Rattle.graph.specs.Reached.{Distanced}
+use Rattle.graph_edges.specs.declared.Made.{Made}
+use Rattle.graph.specs.declared.graph.Reached.{Reached}
+use Rattle.entry_correlations.specs.declared.Manner.{Manner}
 use Rattle.strip.specs.declared.strip.Strip.{Strip}
-use Rattle.bonds.specs.Edges.{edges, earlyEnds, lateEnds}
-use Rattle.pairset.specs.PairSet.{Pair, firsts, seconds, labelBytes}
-use Rattle.totals.specs.Calls.{Totalled, Stored, Enumerated, EnumeratedEach, Sampled}
-use Rattle.told.specs.Numbers.{Tells, told-number, told-held, told-again, told-refused}
-use Rattle.told.specs.Graphs as Graphs
-use Rattle.told.specs.Distances as Distances
+use Rattle.strip_bonds.specs.Edges.{edges, earlyEnds, lateEnds}
+use Rattle.strip_pairs.specs.PairSet.{Pair, firsts, seconds, labelBytes}
+use Rattle.totals_call.specs.Calls.{Totalled, Stored, Enumerated, EnumeratedEach, Sampled}
+use Rattle.c_values.specs.Numbers.{Tells}
+use Rattle.c_values.specs.Laws.Numbers.{told-number, told-held, told-again, told-refused}
+use Rattle.c_values.specs.Graphs as Graphs
+use Rattle.c_values.specs.Laws.Graphs as GraphsLaws
+use Rattle.c_values.specs.Distances as Distances
 use Rattle.copperhook.specs.Graphs.{Listed}
 use Rattle.copperhook.specs.Strips.{StripEdges}
 use Rattle.copperhook.specs.PairSets.{Paired}
@@ -84,12 +86,12 @@ pub kept-told : (k n floor : ℕ) (es : List Edges.Kept) {a : Made} {r : ℕ} {e
     → Listed k floor es r early early′ late late′ mag mag′ window window′ count count′
 kept-told k n floor es {window = window} {count = count} q t =
     record {
-      answer = t .number ∙ ap Graphs.numberOf (q .answer) ∙ Graphs.number-made k _;
+      answer = t .number ∙ ap Graphs.numberOf (q .answer) ∙ GraphsLaws.number-made k _;
       earlies = q .earlies;
       lates = q .lates;
       mags = q .mags;
-      windowed = t .windowed ∙ ap (λ z. Graphs.windowIn z window) (q .answer) ∙ Graphs.window-made k _ window;
-      counted = t .counted ∙ ap (λ z. Graphs.edgesIn z count) (q .answer) ∙ Graphs.edges-made k _ count;
+      windowed = t .windowed ∙ ap (λ z. Graphs.windowIn z window) (q .answer) ∙ GraphsLaws.window-made k _ window;
+      counted = t .counted ∙ ap (λ z. Graphs.edgesIn z count) (q .answer) ∙ GraphsLaws.edges-made k _ count;
     }
 
 -- ---- the distance of two vertices

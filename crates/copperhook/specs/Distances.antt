@@ -3,9 +3,9 @@ use mathlib.Core.Path.{_≡_}
 use mathlib.Core.Bool.{Bool}
 use mathlib.Core.List.{List}
 use Prim.Native.Nat.{ℕ}
-use Rattle.lattice.specs.Reached.{Distanced}
-use Rattle.lattice.specs.declared.graph.Reached.{Reached}
-use Rattle.told.specs.Distances.{Tells}
+use Rattle.graph.specs.Reached.{Distanced}
+use Rattle.graph.specs.declared.graph.Reached.{Reached}
+use Rattle.c_values.specs.Distances.{Tells}
 
 -- The number r of a call, and what it leaves in the references: the one right answer's number and values.
 pub record Told (refused : ℕ) (early late : List ℕ) (u v r : ℕ) (joined joined′ : Bool) (edges edges′ : ℕ) : Type 0 where

@@ -4,10 +4,10 @@ use mathlib.Core.List.{List}
 use Prim.Native.Nat.{ℕ}
 use lib.Ieee.{Float}
 use lib.ListN.{length}
-use Rattle.vector.specs.Front.{over}
-use Rattle.transfer.specs.Job.{windowOf}
-use Rattle.checks.specs.Edges.{Kept, earlyEnds, lateEnds, magnitudes}
-use Rattle.checks.specs.Answers.{left}
+use Rattle.list_laws.specs.Front.{over}
+use Rattle.transfer_matrix.specs.Job.{windowOf}
+use Rattle.refusals.specs.Edges.{Kept, earlyEnds, lateEnds, magnitudes}
+use Rattle.refusals.specs.Answers.{left}
 
 -- The answer r, what it leaves in the lists, the window and the number of edges; refused, all as it was.
 pub record Listed (refused floor : ℕ) (es : List Kept) (r : ℕ) (early early′ late late′ : List ℕ) (mag mag′ : List Float)

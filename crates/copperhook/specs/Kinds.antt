@@ -1,9 +1,9 @@
 -- What a name gives as numbers.
 use mathlib.Core.Bool.{Bool, true, false}
 use Prim.Native.Nat.{ℕ}
-use Rattle.kind.specs.declared.Parsed.{Parsed}
-use Rattle.kind.specs.declared.Parsed.the-variants.{Known, NoKind}
-use Rattle.numbered.specs.Kinds.{numberOf}
+use Rattle.strip.specs.declared.kinds.Parsed.{Parsed}
+use Rattle.strip.specs.declared.kinds.Parsed.the-variants.{Known, NoKind}
+use Rattle.c_values.specs.Kinds.{numberOf}
 
 abbrev pub isKnown : Parsed → Bool
 isKnown (Known kind) = true

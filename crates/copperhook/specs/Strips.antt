@@ -4,9 +4,9 @@ use mathlib.Core.List.{List}
 use Prim.Native.Nat.{ℕ}
 use lib.Ieee.{Float}
 use lib.ListN.{length}
-use Rattle.vector.specs.Front.{over}
-use Rattle.checks.specs.Answers.{left}
-use Rattle.bonds.specs.Edges.{edges, earlyEnds, lateEnds}
+use Rattle.list_laws.specs.Front.{over}
+use Rattle.refusals.specs.Answers.{left}
+use Rattle.strip_bonds.specs.Edges.{edges, earlyEnds, lateEnds}
 use Rattle.strip.specs.declared.strip.Strip.{Strip}
 
 -- The answer r of a call for a strip's edges with these magnitudes, what it leaves in the lists, and their number; refused, all as it was.

@@ -1,8 +1,8 @@
 // The pair correlations of one configuration, with the manner as a number.
 ghost use mathlib.Core.Path.{_≡_};
-ghost use Rattle.glass.specs.Correlations.{Correlated};
-ghost use Rattle.numbered.specs.Manners.{mannerNumbered};
-use numbered::manner_numbered;
+ghost use Rattle.entry_correlations.specs.Correlations.{Correlated};
+ghost use Rattle.c_values.specs.Manners.{mannerNumbered};
+use c_values::manner_numbered;
 
 // As `glass::correlations`.
 #[no_mangle]
@@ -22,7 +22,7 @@ pub extern "C" fn copperhook_correlations(
     ensures { λ r. ⌜ Correlated n floor (now (a .entry)) (now (b .entry)) (now (m .entry)) (now (us .entry)) (now (vs .entry))
         (now (factors .entry)) (mannerNumbered manner) r (now (results .entry)) (now (results .exit)) (now (work .entry)) (now (work .exit)) ⌝ }
 {
-    glass::correlations(
+    entry_correlations::correlations(
         n,
         floor,
         a,

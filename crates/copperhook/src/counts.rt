@@ -2,12 +2,12 @@
 ghost use mathlib.Core.Path.{_≡_};
 ghost use mathlib.Core.Bool.{false};
 ghost use Rattle.forest.specs.Components.{componentCount};
-ghost use Rattle.checks.specs.Edges.{kept, earlyEnds, lateEnds, windowFrom};
-ghost use Rattle.checks.specs.Request.{graphRequest};
-ghost use Rattle.checks.specs.Refusal.{refusal, ofGraph};
-ghost use Rattle.checks.specs.Answers.{left};
-ghost use Rattle.lattice.specs.Graphs.{freeCount};
-use told::tell_number;
+ghost use Rattle.refusals.specs.Edges.{windowFrom, keptEarly, keptLate};
+ghost use Rattle.refusals.specs.Request.{graphRequest};
+ghost use Rattle.refusals.specs.Refusal.{refusal, ofGraph};
+ghost use Rattle.refusals.specs.Answers.{left};
+ghost use Rattle.graph.specs.Graphs.{freeCount};
+use c_values::tell_number;
 
 // As `lattice::window`, the window in `window`; where the call is refused, that keeps what it held.
 #[no_mangle]
@@ -22,7 +22,7 @@ pub extern "C" fn copperhook_window(
     ensures { λ r. ⌜ r ≡ refusal ofGraph (graphRequest n (now (a .entry)) (now (b .entry)) (now (m .entry)) false) ⌝ }
     ensures { λ r. ⌜ now (window .exit) ≡ left r (windowFrom floor (now (a .entry)) (now (b .entry)) (now (m .entry))) (now (window .entry)) ⌝ }
 {
-    let answer = lattice::window(n, a, b, m, floor);
+    let answer = graph::window(n, a, b, m, floor);
     tell_number(answer, window)
 }
 
@@ -37,10 +37,10 @@ pub extern "C" fn copperhook_n_components(
 ) -> usize
     ensures { λ r. ⌜ r ≡ refusal ofGraph (graphRequest n (now (a .entry)) (now (b .entry)) (now (m .entry)) false) ⌝ }
     ensures { λ r. ⌜ now (count .exit) ≡ left r
-        (componentCount n (earlyEnds (kept (now (a .entry)) (now (b .entry)) (now (m .entry))))
-        (lateEnds (kept (now (a .entry)) (now (b .entry)) (now (m .entry))))) (now (count .entry)) ⌝ }
+        (componentCount n (keptEarly (now (a .entry)) (now (b .entry)) (now (m .entry)))
+        (keptLate (now (a .entry)) (now (b .entry)) (now (m .entry)))) (now (count .entry)) ⌝ }
 {
-    let answer = lattice::n_components(n, a, b, m);
+    let answer = graph::n_components(n, a, b, m);
     tell_number(answer, count)
 }
 
@@ -55,9 +55,9 @@ pub extern "C" fn copperhook_cyclomatic(
 ) -> usize
     ensures { λ r. ⌜ r ≡ refusal ofGraph (graphRequest n (now (a .entry)) (now (b .entry)) (now (m .entry)) false) ⌝ }
     ensures { λ r. ⌜ now (free .exit) ≡ left r
-        (freeCount (earlyEnds (kept (now (a .entry)) (now (b .entry)) (now (m .entry))))
-        (lateEnds (kept (now (a .entry)) (now (b .entry)) (now (m .entry))))) (now (free .entry)) ⌝ }
+        (freeCount (keptEarly (now (a .entry)) (now (b .entry)) (now (m .entry)))
+        (keptLate (now (a .entry)) (now (b .entry)) (now (m .entry)))) (now (free .entry)) ⌝ }
 {
-    let answer = lattice::cyclomatic(n, a, b, m);
+    let answer = graph::cyclomatic(n, a, b, m);
     tell_number(answer, free)
 }

@@ -1,10 +1,10 @@
 // The distance of two vertices, and whether there is one.
 ghost use mathlib.Core.Path.{_≡_};
-ghost use Rattle.checks.specs.Edges.{kept, earlyEnds, lateEnds};
-ghost use Rattle.checks.specs.Request.{distanceRequest};
-ghost use Rattle.checks.specs.Refusal.{refusal, ofDistance};
+ghost use Rattle.refusals.specs.Edges.{keptEarly, keptLate};
+ghost use Rattle.refusals.specs.Request.{distanceRequest};
+ghost use Rattle.refusals.specs.Refusal.{refusal, ofDistance};
 ghost use Rattle.copperhook.specs.Distances.{Told};
-use told::tell_distance;
+use c_values::tell_distance;
 
 // As `lattice::distance`: `joined` tells whether a walk leads from u to v, and `edges` the least number of its edges. Where the call is
 // refused both keep what they held, and where no walk leads there `edges` does.
@@ -20,9 +20,9 @@ pub extern "C" fn copperhook_distance(
     edges: &mut usize,
 ) -> usize
     ensures { λ r. ⌜ Told (refusal ofDistance (distanceRequest n (now (a .entry)) (now (b .entry)) (now (m .entry)) u v))
-        (earlyEnds (kept (now (a .entry)) (now (b .entry)) (now (m .entry)))) (lateEnds (kept (now (a .entry)) (now (b .entry)) (now (m .entry))))
+        (keptEarly (now (a .entry)) (now (b .entry)) (now (m .entry))) (keptLate (now (a .entry)) (now (b .entry)) (now (m .entry)))
         u v r (now (joined .entry)) (now (joined .exit)) (now (edges .entry)) (now (edges .exit)) ⌝ }
 {
-    let answer = lattice::distance(n, a, b, m, u, v);
+    let answer = graph::distance(n, a, b, m, u, v);
     tell_distance(answer, joined, edges)
 }

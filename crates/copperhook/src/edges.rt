@@ -1,13 +1,13 @@
 // The edges of a strip, whole or diluted, and their number through a reference.
 ghost use mathlib.Core.Path.{_≡_};
-ghost use Rattle.dilution.specs.Diluted.{dilution, dilutedRefusal, magnitudes};
-ghost use Rattle.raw_edges.specs.RawEdges.{rawRefusal};
-ghost use Rattle.bonds.specs.Edges.{edges as edgesOf, unitMagnitudes};
+ghost use Rattle.strip_dilution.specs.Diluted.{dilution, dilutedRefusal, magnitudes};
+ghost use Rattle.strip_edges.specs.RawEdges.{rawRefusal};
+ghost use Rattle.strip_bonds.specs.Edges.{edges as edgesOf, unitMagnitudes};
 ghost use lib.ListN.{length};
-ghost use Rattle.numbered.specs.Kinds.{stripNumbered};
+ghost use Rattle.c_values.specs.Kinds.{stripNumbered};
 ghost use Rattle.copperhook.specs.Strips.{StripEdges};
-use numbered::strip_numbered;
-use told::tell_number;
+use c_values::strip_numbered;
+use c_values::tell_number;
 
 // As `raw_edges::raw_edges`, how many there are in `edges`; where the call is refused, that keeps what it held.
 #[no_mangle]
@@ -25,7 +25,7 @@ pub extern "C" fn copperhook_raw_edges(
         (stripNumbered kind w l periodic) (unitMagnitudes (edgesOf (stripNumbered kind w l periodic))) r (now (early .entry)) (now (early .exit))
         (now (late .entry)) (now (late .exit)) (now (mag .entry)) (now (mag .exit)) (now (edges .entry)) (now (edges .exit)) ⌝ }
 {
-    let answer = raw_edges::raw_edges(strip_numbered(kind, w, l, periodic), early, late, mag);
+    let answer = strip_edges::raw_edges(strip_numbered(kind, w, l, periodic), early, late, mag);
     tell_number(answer, edges)
 }
 
@@ -50,7 +50,7 @@ pub extern "C" fn copperhook_diluted(
         (now (early .entry)) (now (early .exit)) (now (late .entry)) (now (late .exit)) (now (mag .entry)) (now (mag .exit))
         (now (edges .entry)) (now (edges .exit)) ⌝ }
 {
-    let answer = dilution::diluted(
+    let answer = strip_dilution::diluted(
         strip_numbered(kind, w, l, periodic),
         keep,
         low,

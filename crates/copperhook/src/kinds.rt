@@ -1,14 +1,14 @@
 // The names of kinds and boundaries. Over C a kind is a number.
 ghost use mathlib.Core.Path.{_≡_};
 ghost use lib.ListN.{length};
-ghost use Rattle.kind.specs.Names.{parsed, nameOf, boundaryOf, padded};
-ghost use Rattle.numbered.specs.Kinds.{kindNumbered};
+ghost use Rattle.strip.specs.Names.{parsed, nameOf, boundaryOf, padded};
+ghost use Rattle.c_values.specs.Kinds.{kindNumbered};
 ghost use Rattle.copperhook.specs.Kinds.{isKnown, kindOf};
-use kind::Kind;
-use kind::Parsed;
-use numbered::kind_numbered;
-use numbered::number_of;
-use numbered::strip_numbered;
+use c_values::kind_numbered;
+use c_values::number_of;
+use c_values::strip_numbered;
+use strip::Kind;
+use strip::Parsed;
 
 // As `Kind::parse`: whether the name means a kind. Its number is then in `kind`, which keeps what it held where there is none.
 #[no_mangle]

@@ -1,11 +1,11 @@
 // The pair correlations of one configuration, with the pairs as a list of records.
 ghost use mathlib.Core.Path.{_≡_};
-ghost use Rattle.glass.specs.Correlations.{Correlated};
-ghost use Rattle.records.specs.Columns.{firsts, seconds};
-ghost use Rattle.numbered.specs.Manners.{mannerNumbered};
-use between::correlations_between;
-use records::Pair;
-use records::gather;
+ghost use Rattle.entry_correlations.specs.Correlations.{Correlated};
+ghost use Rattle.c_pair_records.specs.Columns.{firsts, seconds};
+ghost use Rattle.c_values.specs.Manners.{mannerNumbered};
+use c_correlations::correlations_between;
+use c_pair_records::Pair;
+use c_pair_records::gather;
 
 // As `copperhook_correlations`, with one list of pairs where that has two lists of ends.
 #[no_mangle]

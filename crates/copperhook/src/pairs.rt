@@ -1,10 +1,10 @@
 // The standard pair set of a strip, and how many pairs it has through a reference.
 ghost use mathlib.Core.Path.{_≡_};
-ghost use Rattle.pairset.specs.PairSet.{pairSet, pairsRefusal};
-ghost use Rattle.numbered.specs.Kinds.{stripNumbered};
+ghost use Rattle.strip_pairs.specs.PairSet.{pairSet, pairsRefusal};
+ghost use Rattle.c_values.specs.Kinds.{stripNumbered};
 ghost use Rattle.copperhook.specs.PairSets.{Paired};
-use numbered::strip_numbered;
-use told::tell_number;
+use c_values::strip_numbered;
+use c_values::tell_number;
 
 // As `pairset::pairs`, how many there are in `pairs`; where the call is refused, that keeps what it held.
 #[no_mangle]
@@ -22,6 +22,6 @@ pub extern "C" fn copperhook_pairs(
         (pairSet (stripNumbered kind w l periodic)) r (now (us .entry)) (now (us .exit)) (now (vs .entry)) (now (vs .exit))
         (now (labels .entry)) (now (labels .exit)) (now (pairs .entry)) (now (pairs .exit)) ⌝ }
 {
-    let answer = pairset::pairs(strip_numbered(kind, w, l, periodic), us, vs, labels);
+    let answer = strip_pairs::pairs(strip_numbered(kind, w, l, periodic), us, vs, labels);
     tell_number(answer, pairs)
 }

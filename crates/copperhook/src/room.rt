@@ -1,12 +1,12 @@
 // The work memory that a caller is to lend, through a reference.
 ghost use mathlib.Core.Path.{_≡_};
 ghost use lib.ListN.{length};
-ghost use Rattle.transfer.specs.Room.{room as roomOf};
-ghost use Rattle.checks.specs.Edges.{kept, windowFrom};
-ghost use Rattle.checks.specs.Request.{roomRequest};
-ghost use Rattle.checks.specs.Refusal.{refusal, ofRoom};
-ghost use Rattle.checks.specs.Answers.{left};
-use told::tell_number;
+ghost use Rattle.transfer_matrix.specs.Room.{room as roomOf};
+ghost use Rattle.refusals.specs.Edges.{kept, windowFrom};
+ghost use Rattle.refusals.specs.Request.{roomRequest};
+ghost use Rattle.refusals.specs.Refusal.{refusal, ofRoom};
+ghost use Rattle.refusals.specs.Answers.{left};
+use c_values::tell_number;
 
 // As `refuse::room`, the number of doubles in `room`; where the call is refused, that keeps what it held.
 #[no_mangle]
@@ -26,6 +26,6 @@ pub extern "C" fn copperhook_room(
         (length (kept (now (a .entry)) (now (b .entry)) (now (m .entry)))) (now (us .entry)) (now (vs .entry)))
         (now (room .entry)) ⌝ }
 {
-    let answer = refuse::room(n, floor, a, b, m, us, vs);
+    let answer = job_checks::room(n, floor, a, b, m, us, vs);
     tell_number(answer, room)
 }

@@ -2,16 +2,16 @@
 ghost use mathlib.Core.Path.{_≡_};
 ghost use mathlib.Core.Bool.{false};
 ghost use Prim.Native.Nat.{_*_};
-ghost use Rattle.checks.specs.Answers.{left};
-ghost use Rattle.checks.specs.StripRequest.{stripRefusal, ofSides, ofStrip};
+ghost use Rattle.refusals.specs.Answers.{left};
+ghost use Rattle.refusals.specs.StripRequest.{stripRefusal, ofSides, ofStrip};
 ghost use Rattle.strip_window.specs.Window.{windowOf};
 ghost use Rattle.strip.specs.Requests.{stripRequest};
 ghost use Rattle.strip.specs.Vertices.{sited};
-ghost use Rattle.numbered.specs.Kinds.{stripNumbered};
-ghost use Rattle.told.specs.Vertices.{numberOf, insideOf, vertexOf};
-use numbered::strip_numbered;
-use told::tell_number;
-use told::tell_vertex;
+ghost use Rattle.c_values.specs.Kinds.{stripNumbered};
+ghost use Rattle.c_values.specs.Vertices.{numberOf, insideOf, vertexOf};
+use c_values::strip_numbered;
+use c_values::tell_number;
+use c_values::tell_vertex;
 
 // As `Strip::n`, the number of vertices in `n`; where the call is refused, that keeps what it held.
 #[no_mangle]

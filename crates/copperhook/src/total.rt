@@ -1,10 +1,10 @@
 // Totals over configurations, and every configuration's correlations, with the count through a reference.
 ghost use mathlib.Core.Path.{_≡_};
-ghost use Rattle.checks.specs.Answers.{answered};
-ghost use Rattle.totals.specs.Calls.{Enumerated, EnumeratedEach, Sampled};
-ghost use Rattle.numbered.specs.Manners.{mannerNumbered};
-use numbered::manner_numbered;
-use told::tell_number;
+ghost use Rattle.refusals.specs.Answers.{answered};
+ghost use Rattle.totals_call.specs.Calls.{Enumerated, EnumeratedEach, Sampled};
+ghost use Rattle.c_values.specs.Manners.{mannerNumbered};
+use c_values::manner_numbered;
+use c_values::tell_number;
 
 // As `exhaustive::exhaustive`, how many configurations there are in `count`; where the call is refused, that keeps what it held.
 #[no_mangle]
@@ -29,7 +29,7 @@ pub extern "C" fn copperhook_exhaustive(
         (answered r (now (count .exit))) (now (squares .entry)) (now (squares .exit)) (now (fourths .entry)) (now (fourths .exit)) (now (work .entry)) (now (work .exit)) ⌝ }
     ensures { λ r. ⌜ ((r ≡ 0 → ⊥) → now (count .exit) ≡ now (count .entry)) ⌝ }
 {
-    let answer = exhaustive::exhaustive(
+    let answer = entry_exhaustive::exhaustive(
         n,
         floor,
         a,
@@ -69,7 +69,7 @@ pub extern "C" fn copperhook_exhaustive_c(
         (answered r (now (count .exit))) (now (stored .entry)) (now (stored .exit)) (now (work .entry)) (now (work .exit)) ⌝ }
     ensures { λ r. ⌜ ((r ≡ 0 → ⊥) → now (count .exit) ≡ now (count .entry)) ⌝ }
 {
-    let answer = storing::exhaustive_c(
+    let answer = entry_exhaustive_c::exhaustive_c(
         n,
         floor,
         a,
@@ -113,7 +113,7 @@ pub extern "C" fn copperhook_sample(
         (answered r (now (count .exit))) (now (squares .entry)) (now (squares .exit)) (now (fourths .entry)) (now (fourths .exit)) (now (work .entry)) (now (work .exit)) ⌝ }
     ensures { λ r. ⌜ ((r ≡ 0 → ⊥) → now (count .exit) ≡ now (count .entry)) ⌝ }
 {
-    let answer = sampling::sample(
+    let answer = entry_sample::sample(
         n,
         floor,
         a,

@@ -6,8 +6,10 @@ use native.Mathlib.Nat.{zero-add, zero-mul, add-zero, mul-le-mul-right, mul-add-
 use native.Mathlib.Omega.{arith}
 use lib.Ieee.{Float, nan, binary64, mul}
 use lib.ListN.{length, getD, drop-of-length-le}
-use Rattle.vector.specs.Part.{put, fill-none, fill-run, fill-length}
-use Rattle.vector.specs.Tabulate.{tabulate, tabulate-length}
+use Rattle.list_laws.specs.Part.{put}
+use Rattle.list_laws.specs.Laws.Part.{fill-none, fill-run, fill-length}
+use Rattle.list_laws.specs.Tabulate.{tabulate}
+use Rattle.list_laws.specs.Laws.Tabulate.{tabulate-length}
 use Rattle.couplings.specs.Couplings.{couplingAt, allCouplings}
 
 -- edge e of beta b

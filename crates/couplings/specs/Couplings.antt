@@ -6,11 +6,11 @@ use Prim.Native.Nat.{ℕ, _*_, _/_, _%_}
 use lib.Dec.{eqb}
 use lib.Ieee.{Float, nan, binary64, mul}
 use lib.ListN.{length, getD}
-use Rattle.vector.specs.Tabulate.{tabulate}
-use Rattle.checks.specs.Edges.{kept, magnitudes}
-use Rattle.checks.specs.Request.{couplingRequest}
-use Rattle.checks.specs.Refusal.{refusal, ofCouplings}
-use Rattle.checks.specs.Answers.{left}
+use Rattle.list_laws.specs.Tabulate.{tabulate}
+use Rattle.refusals.specs.Edges.{kept, keptMagnitudes}
+use Rattle.refusals.specs.Request.{couplingRequest}
+use Rattle.refusals.specs.Refusal.{refusal, ofCouplings}
+use Rattle.refusals.specs.Answers.{left}
 
 -- A coupling is beta times magnitude, rounded once: that of beta b and edge e of so many is at b times their number + e.
 abbrev pub couplingAt : List Float → List Float → ℕ → Float
@@ -22,4 +22,4 @@ allCouplings betas mag = tabulate (couplingAt betas mag) (length betas * length 
 -- The answer r of a call, and the results after it.
 pub record Coupled (n : ℕ) (a b : List ℕ) (m betas : List Float) (r : ℕ) (results results′ : List Float) : Type 0 where
   pub answer : r ≡ refusal ofCouplings (couplingRequest n a b m betas (not (eqb (length results) (length betas * length (kept a b m)))))
-  pub coupled : results′ ≡ left r (allCouplings betas (magnitudes (kept a b m))) results
+  pub coupled : results′ ≡ left r (allCouplings betas (keptMagnitudes a b m)) results

@@ -3,10 +3,12 @@ ghost use mathlib.Core.Path.{_≡_};
 ghost use Prim.Native.Nat.{_+_, _*_, _≤_};
 ghost use lib.Ieee.{nan, binary64, mul};
 ghost use lib.ListN.{length, getD};
-ghost use Rattle.vector.specs.Part.{put};
-ghost use Rattle.vector.specs.Tabulate.{tabulate};
+ghost use Rattle.limits.specs.Limits.{mostBetas, mostEdges};
+ghost use Rattle.list_laws.specs.Part.{put};
+ghost use Rattle.list_laws.specs.Tabulate.{tabulate};
 ghost use Rattle.couplings.specs.Couplings.{allCouplings, Coupled};
-use refuse::check_couplings;
+use kept_edges::build::check_graph;
+use limits::EDGES;
 
 // The couplings of one beta to the results, from `at` on.
 fn couple_at(results: &mut [f64], at: usize, beta: f64, mag: &[f64])
@@ -23,7 +25,7 @@ fn couple_at(results: &mut [f64], at: usize, beta: f64, mag: &[f64])
 
 // The couplings of all betas, one beta after another.
 fn couple(results: &mut [f64], betas: &[f64], mag: &[f64])
-    requires { ⌜ (length (now results) ≡ length (now betas) * length (now mag)) × (length (now results) ≤ 262144) ⌝ }
+    requires { ⌜ (length (now results) ≡ length (now betas) * length (now mag)) × (length (now results) ≤ mostBetas * mostEdges) ⌝ }
     ensures { λ _. ⌜ now (results .exit) ≡ allCouplings (now (betas .entry)) (now (mag .entry)) ⌝ }
 {
     let mut b = 0usize;
@@ -33,7 +35,7 @@ fn couple(results: &mut [f64], betas: &[f64], mag: &[f64])
     }
 }
 
-// Writes beta times magnitude to `results`, for each beta and kept edge. Answers the refusal's number, 0 for accepted.
+// Writes beta times magnitude to `results`, for each beta and kept edge. Returns the refusal's number, 0 for accepted.
 pub fn couplings(
     n: usize,
     a: &[usize],
@@ -45,16 +47,18 @@ pub fn couplings(
     ensures { λ r. ⌜ Coupled n (now (a .entry)) (now (b .entry)) (now (m .entry)) (now (betas .entry)) r
         (now (results .entry)) (now (results .exit)) ⌝ }
 {
-    let mut early = [0usize; 4096];
-    let mut late = [0usize; 4096];
-    let mut mag = [0.0f64; 4096];
-    let graph = check_couplings(
+    let mut early = [0usize; EDGES];
+    let mut late = [0usize; EDGES];
+    let mut mag = [0.0f64; EDGES];
+    let none = &a[..0];
+    let graph = check_graph(
         n,
         a,
         b,
         m,
+        none,
+        none,
         betas,
-        results.len(),
         &mut early,
         &mut late,
         &mut mag,
@@ -64,6 +68,9 @@ pub fn couplings(
         return refusal;
     }
     let edges = graph.edges;
+    if results.len() != betas.len() * edges {
+        return 12;
+    }
     couple(results, betas, &mag[..edges]);
     0
 }

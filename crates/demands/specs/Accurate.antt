@@ -12,25 +12,25 @@ use lib.Ieee.Positive.{positive}
 use lib.ListN.{length, getD, length-map}
 use Rattle.fraction.specs.Fraction.{oneℚ}
 use Rattle.fraction.specs.Value.{value}
-use Rattle.transfer.specs.Configuration.{edgesWith, numbered, configured, lentAt}
-use Rattle.transfer.specs.Job.{Job, Manner, backEdges}
-use Rattle.transfer.specs.Rounded.{ieee}
-use Rattle.transfer.specs.Sweep.{Z, answer}
+use Rattle.transfer_matrix.specs.Configuration.{edgesWith, numbered, configured, lentAt}
+use Rattle.transfer_matrix.specs.Job.{Job, Manner, backEdges}
+use Rattle.transfer_matrix.specs.Rounded.{ieee}
+use Rattle.transfer_matrix.specs.Sweep.{Z, answer}
 use Rattle.exactness.specs.Exact.{rational, atValues}
 use Rattle.exactness.specs.Textbook.{textbook}
-use Rattle.checks.specs.AcceptedJob.{AcceptedJob}
-use Rattle.checks.specs.Edges.{kept, earlyEnds, lateEnds, windowFrom}
+use Rattle.refusals.specs.AcceptedJob.{AcceptedJob}
+use Rattle.refusals.specs.Edges.{kept, windowFrom, keptEarly, keptLate}
 use Rattle.accuracy.specs.Apart.{Apart}
 use Rattle.accuracy.specs.Close.{Close}
 use Rattle.accuracy.specs.Stated.{withinPowers, roundingsOf, errorBound}
-use Rattle.accuracy.specs.Bound.{correlation-close, bounded, roundings-few}
-use Rattle.checks.specs.Refusal.{refusal}
+use Rattle.accuracy.specs.Laws.Bound.{correlation-close, bounded, roundings-few}
+use Rattle.refusals.specs.Refusal.{refusal}
 use Rattle.error_bound.specs.Bound.{mostNear, mostBits, nearOne, boundOf, ofErrorBound, errorBoundRequest, factorCount, errorBoundOf}
 use Rattle.error_bound.specs.declared.answer.ErrorBound.{ErrorBound}
 use Rattle.error_bound.specs.declared.answer.ErrorBound.the-variants.{Within, Unknown, Refused}
-use Rattle.error_bound.specs.Margin.{bits-deep, bits-few, near-one-all}
-use Rattle.error_bound.specs.Near.{near-four, near-most, near-any}
-use Rattle.demands.specs.Lists.{all-made}
+use Rattle.error_bound.specs.Laws.Margin.{bits-deep, bits-few, near-one-all}
+use Rattle.error_bound.specs.Laws.Near.{near-four, near-most, near-any}
+use Rattle.demands.specs.Laws.Lists.{all-made}
 use Rattle.demands.specs.Given.{jobMade, checked-made}
 
 -- Each answer of job J is within the double `bound` of the textbook ratio.
@@ -61,7 +61,7 @@ known (suc k) n w near factors x e = let apart = ap isWithin e in absurd (omega 
 
 -- the most near edges of a vertex of a call's graph
 abbrev pub nearOf : (n floor : ℕ) → (a b : List ℕ) → List Float → ℕ
-nearOf n floor a b m = mostNear n (windowFrom floor a b m) (numbered (earlyEnds (kept a b m)) (lateEnds (kept a b m)))
+nearOf n floor a b m = mostNear n (windowFrom floor a b m) (numbered (keptEarly a b m) (keptLate a b m))
 
 -- the factors are near one, and the bound is the definition's
 pub bound-known : (n floor : ℕ) (a b : List ℕ) (m betas factors : List Float) (signed : Bool) (x : Float) → errorBoundOf n floor a b m betas factors signed ≡ Within x
@@ -75,10 +75,10 @@ bound-known n floor a b m betas factors signed x e =
 module _ (n floor : ℕ) (a b : List ℕ) (m : List Float) (us vs : List ℕ) (manner : Manner) (ok : AcceptedJob n floor a b m us vs) (factor : ℕ → Float)
     (sound : (e : ℕ) → e < length (kept a b m) → T (positive (factor e))) where
   abbrev early : List ℕ
-  early = earlyEnds (kept a b m)
+  early = keptEarly a b m
 
   abbrev late : List ℕ
-  late = lateEnds (kept a b m)
+  late = keptLate a b m
 
   abbrev window : ℕ
   window = windowFrom floor a b m
@@ -118,4 +118,4 @@ pub roundings-short : (n floor : ℕ) (a b : List ℕ) (m : List Float) (us vs :
     → roundingsOf n (windowFrom floor a b m) (nearOf n floor a b m) ≤ 2 ^ 26
 roundings-short n floor a b m us vs ok =
     le-trans (roundings-few n (windowFrom floor a b m) (nearOf n floor a b m) (ok .graph .few-vertices) (ok .narrow)
-    (near-four n (windowFrom floor a b m) (numbered (earlyEnds (kept a b m)) (lateEnds (kept a b m))) (ok .near))) (lit≤ tt)
+    (near-four n (windowFrom floor a b m) (numbered (keptEarly a b m) (keptLate a b m)) (ok .near))) (lit≤ tt)

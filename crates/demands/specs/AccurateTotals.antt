@@ -11,30 +11,32 @@ use lib.Ieee.Positive.{positive}
 use lib.ListN.{length, getD, length-map}
 use Rattle.fraction.specs.Fraction.{ℚ, oneℚ, invℚ}
 use Rattle.fraction.specs.Value.{value}
-use Rattle.rounding.specs.Under.{Under, unit}
-use Rattle.transfer.specs.Configuration.{lentAt, configured}
-use Rattle.transfer.specs.Job.{Job}
-use Rattle.transfer.specs.Rounded.{ieee}
-use Rattle.transfer.specs.Sweep.{answer}
-use Rattle.transfer.specs.Totals.{square, fourth, chunked}
+use Rattle.rounding.specs.Under.{unit}
+use Rattle.rounding.specs.Laws.Under.{Under}
+use Rattle.transfer_matrix.specs.Configuration.{lentAt, configured}
+use Rattle.transfer_matrix.specs.Job.{Job}
+use Rattle.transfer_matrix.specs.Rounded.{ieee}
+use Rattle.transfer_matrix.specs.Sweep.{answer}
+use Rattle.transfer_matrix.specs.Totals.{square, fourth, chunked}
 use Rattle.exactness.specs.Exact.{rational, atValues}
 use Rattle.exactness.specs.Textbook.{textbook}
 use Rattle.bounds.specs.Bounds.{correlation-under}
-use Rattle.checks.specs.AcceptedJob.{passes-positive}
-use Rattle.checks.specs.AcceptedTotals.{AcceptedTotals}
-use Rattle.checks.specs.Edges.{kept, windowFrom}
-use Rattle.checks.specs.Request.{signedFactors}
+use Rattle.refusals.specs.Laws.AcceptedJob.{passes-positive}
+use Rattle.refusals.specs.AcceptedTotals.{AcceptedTotals}
+use Rattle.refusals.specs.Edges.{kept, windowFrom}
+use Rattle.refusals.specs.Request.{signedFactors}
 use Rattle.accuracy.specs.Apart.{Apart}
 use Rattle.accuracy.specs.Close.{Close}
-use Rattle.accuracy.specs.Ring.{_⋆_, nat}
+use Rattle.accuracy.specs.Ring.{nat}
+use Rattle.accuracy.specs.Laws.Ring.{_⋆_}
 use Rattle.accuracy.specs.Stated.{roundingsOf, errorBound, squaresRoundings, fourthsRoundings, totalBound}
-use Rattle.accuracy.specs.Totals as T
+use Rattle.accuracy.specs.Laws.Totals as T
 use Rattle.estimate.specs.Estimates.{number, meanOf}
-use Rattle.glass.specs.Correlations.{mannerOf}
-use Rattle.glass.specs.declared.Manner.{Manner}
+use Rattle.entry_correlations.specs.Correlations.{mannerOf}
+use Rattle.entry_correlations.specs.declared.Manner.{Manner}
 use Rattle.error_bound.specs.Bound.{mostBits, errorBoundOf}
 use Rattle.error_bound.specs.declared.answer.ErrorBound.the-variants.{Within}
-use Rattle.error_bound.specs.Margin.{bits-few, near-one-all}
+use Rattle.error_bound.specs.Laws.Margin.{bits-few, near-one-all}
 use Rattle.demands.specs.Given.{lent-inside}
 use Rattle.demands.specs.OneJob.{Sound, Z-positive}
 use Rattle.demands.specs.Configurations.{early, signedJob}

@@ -7,25 +7,28 @@ use Prim.Native.Nat.{ℕ, _+_, _-_, _*_, _^_, _≤_, _<_, min, max}
 use native.Mathlib.Nat.{min-comm, max-comm}
 use lib.Ieee.{Float, nan, binary64, div}
 use lib.ListN.{length, getD}
-use Rattle.vector.specs.Tabulate.{tabulate, tabulate-at, tabulate-ext}
-use Rattle.transfer.specs.Configuration.{lentAt, edgesWith, configured}
-use Rattle.transfer.specs.Job.{Job}
-use Rattle.transfer.specs.Room.{earlier, later}
-use Rattle.transfer.specs.Rounded.{ieee}
-use Rattle.transfer.specs.Sweep as S
-use Rattle.transfer.specs.Totals.{square, fourth, enumerated, sampled}
-use Rattle.checks.specs.Edges.{windowFrom}
-use Rattle.chunks.specs.Powers.{correlationAt, pair-numbered}
-use Rattle.glass.specs.Correlations.{mannerOf, jobGiven}
-use Rattle.glass.specs.declared.Manner.{Manner}
+use Rattle.list_laws.specs.Tabulate.{tabulate}
+use Rattle.list_laws.specs.Laws.Tabulate.{tabulate-at, tabulate-ext}
+use Rattle.transfer_matrix.specs.Configuration.{lentAt, edgesWith, configured}
+use Rattle.transfer_matrix.specs.Job.{Job}
+use Rattle.transfer_matrix.specs.Room.{earlier, later}
+use Rattle.transfer_matrix.specs.Rounded.{ieee}
+use Rattle.transfer_matrix.specs.Sweep as S
+use Rattle.transfer_matrix.specs.Totals.{square, fourth, enumerated, sampled}
+use Rattle.refusals.specs.Edges.{windowFrom}
+use Rattle.totals_configuration.specs.Powers.{correlationAt}
+use Rattle.totals_configuration.specs.Laws.Powers.{pair-numbered}
+use Rattle.entry_correlations.specs.Correlations.{mannerOf, jobGiven}
+use Rattle.entry_correlations.specs.declared.Manner.{Manner}
 use Rattle.demands.specs.Configurations.{early, signedJob}
-use Rattle.demands.specs.Calls.{CorrelationsCall, Given, ExhaustiveCall, StoringCall, SampleCall, Place, number, number-inside}
+use Rattle.totals_call.specs.Given.{Given}
+use Rattle.demands.specs.Calls.{CorrelationsCall, ExhaustiveCall, StoringCall, SampleCall, Place, number, number-inside}
 use Rattle.demands.specs.Calls.{jobOf, freeOf, configurationOf, drawnOf}
 use Rattle.demands.specs.Correlations.{result-is}
 use Rattle.demands.specs.Exhaustive.{squares-are, fourths-are}
 use Rattle.demands.specs.Storing.{stored-at}
 use Rattle.demands.specs.Sampling.{sampled-squares-are, sampled-fourths-are}
-use Rattle.demands.specs.Summed.{enumerated-same, sampled-same}
+use Rattle.demands.specs.Laws.Summed.{enumerated-same, sampled-same}
 
 -- ---- one pair
 

@@ -5,11 +5,12 @@ use native.Mathlib.Nat.{mul-le-mul-right}
 use native.Mathlib.Omega.{arith}
 use lib.Ieee.{Float}
 use lib.ListN.{length}
-use Rattle.transfer.specs.Job.{Job}
-use Rattle.checks.specs.declared.Answer.the-variants.{Number}
-use Rattle.glass.specs.Correlations.{jobGiven, Correlated}
-use Rattle.glass.specs.declared.Manner.{Manner}
-use Rattle.totals.specs.Calls.{Enumerated, EnumeratedEach, Sampled}
+use Rattle.transfer_matrix.specs.Job.{Job}
+use Rattle.refusals.specs.declared.Answer.the-variants.{Number}
+use Rattle.entry_correlations.specs.Correlations.{jobGiven, Correlated}
+use Rattle.entry_correlations.specs.declared.Manner.{Manner}
+use Rattle.totals_call.specs.Given.{Given}
+use Rattle.totals_call.specs.Calls.{Enumerated, EnumeratedEach, Sampled}
 use Rattle.demands.specs.Configurations.{free, configuration, drawnConfiguration}
 
 pub record CorrelationsCall : Type 0 where
@@ -27,19 +28,6 @@ pub record CorrelationsCall : Type 0 where
   pub work : List Float
   pub work′ : List Float
   pub call : Correlated n floor a b m us vs factors manner 0 results results′ work work′
-
--- What calls for totals are given alike.
-pub record Given : Type 0 where
-  pub n : ℕ
-  pub floor : ℕ
-  pub a : List ℕ
-  pub b : List ℕ
-  pub m : List Float
-  pub us : List ℕ
-  pub vs : List ℕ
-  pub betas : List Float
-  pub factors : List Float
-  pub manner : Manner
 
 pub record ExhaustiveCall : Type 0 where
   pub given : Given

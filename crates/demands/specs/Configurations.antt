@@ -8,23 +8,26 @@ use native.Mathlib.Nat.{mod-lt, div-lt-iff-lt-mul}
 use native.Mathlib.Omega.{arith}
 use lib.Ieee.{Float}
 use lib.ListN.{length}
-use Rattle.vector.specs.Search.{some, none-at}
+use Rattle.list_laws.specs.Search.{some}
+use Rattle.list_laws.specs.Laws.Search.{none-at}
 use Rattle.forest.specs.Labels.{isTree}
-use Rattle.transfer.specs.Configuration.{enumeratedMinus}
-use Rattle.transfer.specs.Job.{Job}
-use Rattle.checks.specs.Answers.{answered}
-use Rattle.checks.specs.declared.Answer.{Answer}
-use Rattle.checks.specs.declared.Answer.the-variants.{Number, Refused}
-use Rattle.checks.specs.AcceptedTotals.{AcceptedTotals, accepted-enumeration}
-use Rattle.checks.specs.Edges.{kept, earlyEnds, lateEnds, windowFrom}
-use Rattle.checks.specs.First.{passed, checks-numbered}
-use Rattle.checks.specs.Refusal.{checks, refusal, ofEnumeration}
-use Rattle.checks.specs.Request.{enumerationRequest}
-use Rattle.lattice.specs.Graphs.{freeCount}
-use Rattle.answers.specs.Sound.{unsound}
-use Rattle.glass.specs.Correlations.{mannerOf}
-use Rattle.glass.specs.declared.Manner.{Manner}
-use Rattle.totals.specs.Jobs.{jobSigned, jobEnumerated, jobSampled, unsoundEnumeration}
+use Rattle.transfer_matrix.specs.Configuration.{enumeratedMinus}
+use Rattle.transfer_matrix.specs.Job.{Job}
+use Rattle.refusals.specs.Answers.{answered}
+use Rattle.refusals.specs.declared.Answer.{Answer}
+use Rattle.refusals.specs.declared.Answer.the-variants.{Number, Refused}
+use Rattle.refusals.specs.AcceptedTotals.{AcceptedTotals}
+use Rattle.refusals.specs.Laws.AcceptedTotals.{accepted-enumeration}
+use Rattle.refusals.specs.Edges.{kept, windowFrom, keptEarly, keptLate}
+use Rattle.refusals.specs.Key.{Key}
+use Rattle.refusals.specs.Laws.First.{passed-at}
+use Rattle.refusals.specs.Refusal.{refusal, ofEnumeration}
+use Rattle.refusals.specs.Request.{enumerationRequest}
+use Rattle.graph.specs.Graphs.{freeCount}
+use Rattle.pair_correlations.specs.Sound.{unsound}
+use Rattle.entry_correlations.specs.Correlations.{mannerOf}
+use Rattle.entry_correlations.specs.declared.Manner.{Manner}
+use Rattle.totals_call.specs.Jobs.{jobSigned, jobEnumerated, jobSampled, unsoundEnumeration}
 use Rattle.demands.specs.Given.{checked-signed}
 use Rattle.demands.specs.OneJob.{Sound}
 
@@ -60,10 +63,10 @@ module _ (betas np k : ℕ) (l : k < betas * np) where
 -- The kept edges' ends, and how many of them are free.
 module _ (a b : List ℕ) (m : List Float) where
   abbrev pub early : List ℕ
-  early = earlyEnds (kept a b m)
+  early = keptEarly a b m
 
   abbrev pub late : List ℕ
-  late = lateEnds (kept a b m)
+  late = keptLate a b m
 
   abbrev pub free : ℕ
   free = freeCount early late
@@ -110,9 +113,7 @@ module _ (n floor : ℕ) (a b : List ℕ) (m : List Float) (us vs : List ℕ) (b
 
     none-bad : bad ≡ false
     none-bad =
-        let none = passed checks ofEnumeration
-        (enumerationRequest n floor a b m us vs betas factors (free a b m) most misfit work bad) checks-numbered accepted in
-        none .1 .1 .1 .1 .1 .1 .1 .1 .1 .1 .1 .1 .0
+        passed-at ofEnumeration (enumerationRequest n floor a b m us vs betas factors (free a b m) most misfit work bad) accepted Key.partitionSums refl
 
     pub few-free : free a b m ≤ most
     few-free = enumeration-facts .1

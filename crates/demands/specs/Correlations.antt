@@ -1,5 +1,5 @@
 -- What the demands say of an accepted call of `correlations`, of the stored results and with no tolerance.
-use mathlib.Core.Path.{_≡_, sym, _∙_}
+use mathlib.Core.Path.{_≡_, refl, sym, _∙_}
 use mathlib.Core.Bool.{false}
 use mathlib.Core.List.{List, []}
 use mathlib.Core.Logic.{inl}
@@ -10,24 +10,26 @@ use lib.Ieee.{Float, nan}
 use lib.Ieee.Positive.{positive}
 use lib.ListN.{length, getD, length-map}
 use Rattle.fraction.specs.Value.{value}
-use Rattle.transfer.specs.Job.{Job}
-use Rattle.transfer.specs.Rounded.{ieee}
-use Rattle.transfer.specs.Sweep as S
+use Rattle.transfer_matrix.specs.Job.{Job}
+use Rattle.transfer_matrix.specs.Rounded.{ieee}
+use Rattle.transfer_matrix.specs.Sweep as S
 use Rattle.exactness.specs.Exact.{rational, atValues}
 use Rattle.exactness.specs.Textbook.{textbook}
 use Rattle.accuracy.specs.Apart.{Apart}
-use Rattle.checks.specs.AcceptedJob.{AcceptedCorrelations, accepted-correlations, passes-positive}
-use Rattle.checks.specs.Edges.{kept, earlyEnds}
-use Rattle.checks.specs.First.{passed, checks-numbered}
-use Rattle.checks.specs.Refusal.{checks, ofCorrelations}
-use Rattle.checks.specs.Request.{correlationRequest}
-use Rattle.answers.specs.Sound.{unsound}
-use Rattle.glass.specs.Correlations.{mannerOf, jobGiven, Correlated}
-use Rattle.glass.specs.declared.Manner.{Manner}
+use Rattle.refusals.specs.AcceptedJob.{AcceptedCorrelations}
+use Rattle.refusals.specs.Laws.AcceptedJob.{accepted-correlations, passes-positive}
+use Rattle.refusals.specs.Edges.{kept, keptEarly}
+use Rattle.refusals.specs.Key.{Key}
+use Rattle.refusals.specs.Laws.First.{passed-at}
+use Rattle.refusals.specs.Refusal.{ofCorrelations}
+use Rattle.refusals.specs.Request.{correlationRequest}
+use Rattle.pair_correlations.specs.Sound.{unsound}
+use Rattle.entry_correlations.specs.Correlations.{mannerOf, jobGiven, Correlated}
+use Rattle.entry_correlations.specs.declared.Manner.{Manner}
 use Rattle.error_bound.specs.Bound.{mostBits, errorBoundOf}
 use Rattle.error_bound.specs.declared.answer.ErrorBound.the-variants.{Within}
-use Rattle.error_bound.specs.Margin.{bits-few, near-one-all}
-use Rattle.demands.specs.Lists.{settled-at}
+use Rattle.error_bound.specs.Laws.Margin.{bits-few, near-one-all}
+use Rattle.demands.specs.Laws.Lists.{settled-at}
 use Rattle.demands.specs.Given.{checked-given}
 use Rattle.demands.specs.OneJob.{InUnit, Exact, Bounded, Sound, Z-positive, exact, bounded}
 use Rattle.demands.specs.Accurate.{nearOf, bound-known, made-close, close-within}
@@ -42,9 +44,7 @@ module _ {n floor : ℕ} {a b : List ℕ} {m : List Float} {us vs : List ℕ} {f
 
   all-sound : unsound job us vs ≡ false
   all-sound =
-      let none = passed checks ofCorrelations
-      (correlationRequest n floor a b m us vs factors (length results) (length work) (unsound job us vs)) checks-numbered (sym (call .answer) ∙ accepted) in
-      none .1 .1 .1 .1 .1 .1 .1 .1 .1 .1 .1 .0
+      passed-at ofCorrelations (correlationRequest n floor a b m us vs factors (length results) (length work) (unsound job us vs)) (sym (call .answer) ∙ accepted) Key.partitionSums refl
 
   pub result-sound : Sound job us vs
   result-sound =
@@ -82,7 +82,7 @@ module _ {n floor : ℕ} {a b : List ℕ} {m : List Float} {us vs : List ℕ} {f
       let w = job .window in
       let near = nearOf n floor a b m in
       let told = bound-known n floor a b m [] factors false bound answer in
-      let edges : length (earlyEnds (kept a b m)) ≡ length (kept a b m) = length-map (kept a b m) (λ x. x .early) in
+      let edges : length (keptEarly a b m) ≡ length (kept a b m) = length-map (kept a b m) (λ x. x .early) in
       let positive-at : (e : ℕ) → e < length (kept a b m) → T (positive (getD factors e nan)) = λ e k. passes-positive (getD factors e nan) (f .factors-pass e k) in
       rw (result-is i l, told .1)
       (close-within n floor a b m us vs (mannerOf manner) (facts .job) (λ e. getD factors e nan) positive-at

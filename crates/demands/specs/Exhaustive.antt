@@ -12,25 +12,26 @@ use Rattle.fraction.specs.Fraction.{ℚ, invℚ}
 use Rattle.fraction.specs.Value.{value}
 use Rattle.exactness.specs.Exact.{rational}
 use Rattle.accuracy.specs.Apart.{Apart}
-use Rattle.accuracy.specs.Ring.{_⋆_, nat}
+use Rattle.accuracy.specs.Ring.{nat}
+use Rattle.accuracy.specs.Laws.Ring.{_⋆_}
 use Rattle.accuracy.specs.Stated.{squaresRoundings, fourthsRoundings, totalBound}
 use Rattle.estimate.specs.Estimates.{number, meanOf}
 use Rattle.forest.specs.Labels.{isTree}
-use Rattle.transfer.specs.Configuration.{enumeratedMinus}
-use Rattle.transfer.specs.Job.{Job}
-use Rattle.transfer.specs.Rounded.{ieee}
-use Rattle.transfer.specs.Totals.{square, fourth, chunkSize, chunkCount, enumerated, enumeratedCount}
-use Rattle.checks.specs.declared.Answer.the-variants.{Number}
-use Rattle.checks.specs.AcceptedTotals.{AcceptedTotals, misfits}
-use Rattle.checks.specs.Request.{mostCounted}
+use Rattle.transfer_matrix.specs.Configuration.{enumeratedMinus}
+use Rattle.transfer_matrix.specs.Job.{Job}
+use Rattle.transfer_matrix.specs.Rounded.{ieee}
+use Rattle.transfer_matrix.specs.Totals.{square, fourth, chunkSize, chunkCount, enumerated, enumeratedCount}
+use Rattle.refusals.specs.declared.Answer.the-variants.{Number}
+use Rattle.refusals.specs.AcceptedTotals.{AcceptedTotals, misfits}
+use Rattle.refusals.specs.Request.{mostCounted}
 use Rattle.bounds.specs.Bounds.{enumerated-answers-bounded}
-use Rattle.bounds.specs.Chunks.{chunks-cover, configuration-lt}
-use Rattle.chunks.specs.Powers.{correlationAt}
-use Rattle.glass.specs.declared.Manner.{Manner}
-use Rattle.totals.specs.Calls.{Enumerated, refusedEnumeration}
+use Rattle.bounds.specs.Laws.Chunks.{chunks-cover, configuration-lt}
+use Rattle.totals_configuration.specs.Powers.{correlationAt}
+use Rattle.entry_correlations.specs.declared.Manner.{Manner}
+use Rattle.totals_call.specs.Calls.{Enumerated, refusedEnumeration}
 use Rattle.error_bound.specs.Bound.{errorBoundOf}
 use Rattle.error_bound.specs.declared.answer.ErrorBound.the-variants.{Within}
-use Rattle.demands.specs.Lists.{settled-at}
+use Rattle.demands.specs.Laws.Lists.{settled-at}
 use Rattle.demands.specs.Configurations as C
 use Rattle.demands.specs.Configurations.{accepted-number, pair-inside, beta-inside, enumeration-facts, few-free, configuration-sound}
 use Rattle.demands.specs.Accurate.{Accurate}

@@ -10,20 +10,22 @@ use lib.Ieee.{Float, nan}
 use lib.Ieee.Positive.{positive}
 use lib.ListN.{length, getD, length-map}
 use borrow.Author.Tests.{eq-eqb}
-use Rattle.vector.specs.Search.{some, none-at}
-use Rattle.vector.specs.Most.{most-above}
-use Rattle.transfer.specs.Job.{Edge, Manner, Job, longest, windowOf}
-use Rattle.transfer.specs.Configuration.{lentAt, edgesWith, configured}
-use Rattle.transfer.specs.Checked.{Kept, SameEnds, Checked}
-use Rattle.checks.specs.Edges.{kept, earlyEnds, lateEnds, windowFrom}
-use Rattle.checks.specs.Request.{sameEnds, joinedTwice, signedFactors}
-use Rattle.checks.specs.Accepted.{kept-inside}
-use Rattle.checks.specs.AcceptedJob.{AcceptedJob, AcceptedCorrelations, passes-positive}
-use Rattle.checks.specs.AcceptedTotals.{AcceptedTotals}
-use Rattle.glass.specs.Correlations.{mannerOf, jobGiven}
-use Rattle.glass.specs.declared.Manner as Given
-use Rattle.totals.specs.Jobs.{jobSigned}
-use Rattle.demands.specs.Lists.{all-made, apart-made}
+use Rattle.list_laws.specs.Search.{some}
+use Rattle.list_laws.specs.Laws.Search.{none-at}
+use Rattle.list_laws.specs.Laws.Most.{most-above}
+use Rattle.transfer_matrix.specs.Job.{Edge, Manner, Job, longest, windowOf}
+use Rattle.transfer_matrix.specs.Configuration.{lentAt, edgesWith, configured}
+use Rattle.transfer_matrix.specs.Checked.{Kept, SameEnds, Checked}
+use Rattle.refusals.specs.Edges.{kept, windowFrom, keptEarly, keptLate}
+use Rattle.refusals.specs.Request.{sameEnds, joinedTwice, signedFactors}
+use Rattle.refusals.specs.Laws.Accepted.{kept-inside}
+use Rattle.refusals.specs.AcceptedJob.{AcceptedJob, AcceptedCorrelations}
+use Rattle.refusals.specs.Laws.AcceptedJob.{passes-positive}
+use Rattle.refusals.specs.AcceptedTotals.{AcceptedTotals}
+use Rattle.entry_correlations.specs.Correlations.{mannerOf, jobGiven}
+use Rattle.entry_correlations.specs.declared.Manner as Given
+use Rattle.totals_call.specs.Jobs.{jobSigned}
+use Rattle.demands.specs.Laws.Lists.{all-made, apart-made}
 
 -- no edge is longer than the window
 reaches : (floor : ℕ) (early late : List ℕ) (e : ℕ) → e < length early → getD late e 0 - getD early e 0 ≤ windowOf floor early late
@@ -43,10 +45,10 @@ ends-differ early late h i j a b p q =
 module _ (n floor : ℕ) (a b : List ℕ) (m : List Float) (us vs : List ℕ) (manner : Manner) (ok : AcceptedJob n floor a b m us vs) (factor : ℕ → Float)
     (sound : (e : ℕ) → e < length (kept a b m) → T (positive (factor e))) where
   abbrev early : List ℕ
-  early = earlyEnds (kept a b m)
+  early = keptEarly a b m
 
   abbrev late : List ℕ
-  late = lateEnds (kept a b m)
+  late = keptLate a b m
 
   abbrev pub jobMade : Job Float
   jobMade = record { last = n - 1; window = windowFrom floor a b m; edges = edgesWith early late factor; manner = manner }
@@ -88,11 +90,11 @@ module _ (n floor : ℕ) (a b : List ℕ) (m : List Float) (us vs : List ℕ) (b
       sign-small false = omega arith
 
   pub checked-signed : (minus : ℕ → Bool) (beta : ℕ) → beta < length betas
-      → Checked (λ x. T (positive x)) (jobSigned n (windowFrom floor a b m) (earlyEnds (kept a b m)) (lateEnds (kept a b m)) factors (mannerOf manner) minus beta)
+      → Checked (λ x. T (positive x)) (jobSigned n (windowFrom floor a b m) (keptEarly a b m) (keptLate a b m) factors (mannerOf manner) minus beta)
   unfolding configured
   checked-signed minus beta l =
-      let c : length (earlyEnds (kept a b m)) ≡ length (kept a b m) = length-map (kept a b m) (λ x. x .early) in
+      let c : length (keptEarly a b m) ≡ length (kept a b m) = length-map (kept a b m) (λ x. x .early) in
       checked-made n floor a b m us vs (mannerOf manner) (ok .job)
-      (λ e. getD factors (lentAt (length (earlyEnds (kept a b m))) beta e (minus e)) nan)
-      (λ e k. passes-positive _ (ok .factors-pass (lentAt (length (earlyEnds (kept a b m))) beta e (minus e))
+      (λ e. getD factors (lentAt (length (keptEarly a b m)) beta e (minus e)) nan)
+      (λ e k. passes-positive _ (ok .factors-pass (lentAt (length (keptEarly a b m)) beta e (minus e))
       (rw c (lent-inside (length (kept a b m)) beta e (minus e) k l))))

@@ -1,7 +1,5 @@
 -- What the demands say of a call, theorem by theorem.
-pub mod Lists
 pub mod Given
-pub mod Halves
 pub mod OneJob
 pub mod Accurate
 pub mod Correlations
@@ -10,6 +8,7 @@ pub mod AccurateTotals
 pub mod Exhaustive
 pub mod Storing
 pub mod Sampling
-pub mod Summed
 pub mod Calls
 pub mod Alone
+-- and the laws of these definitions, which no reader needs to believe.
+pub mod Laws

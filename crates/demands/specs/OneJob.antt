@@ -10,23 +10,25 @@ use lib.Ieee.{Float, neg, le}
 use lib.Ieee.Positive.{positive}
 use lib.ListN.{length, getD}
 use borrow.Author.Tests.{not-false}
-use Rattle.vector.specs.Search.{none-at}
+use Rattle.list_laws.specs.Laws.Search.{none-at}
 use Rattle.rounding.specs.Sign.{abs}
 use Rattle.rounding.specs.Under.{unit}
 use Rattle.fraction.specs.Fraction.{Posℚ}
-use Rattle.transfer.specs.Job.{Job}
-use Rattle.transfer.specs.Room.{earlier, later}
-use Rattle.transfer.specs.Rounded.{ieee}
-use Rattle.transfer.specs.Sweep as S
-use Rattle.transfer.specs.Checked.{Checked}
-use Rattle.exactness.specs.Exact.{rational, atValues, exact-answer-of-doubles, literal-answer-of-doubles, partition-sum-of-doubles}
+use Rattle.transfer_matrix.specs.Job.{Job}
+use Rattle.transfer_matrix.specs.Room.{earlier, later}
+use Rattle.transfer_matrix.specs.Rounded.{ieee}
+use Rattle.transfer_matrix.specs.Sweep as S
+use Rattle.transfer_matrix.specs.Checked.{Checked}
+use Rattle.exactness.specs.Exact.{rational, atValues}
+use Rattle.exactness.specs.Laws.Exact.{exact-answer-of-doubles, literal-answer-of-doubles, partition-sum-of-doubles}
 use Rattle.exactness.specs.Literal.{literalForward, literalPropagated, literalZ, literalAnswer}
 use Rattle.exactness.specs.Textbook.{partitionSum, textbook}
 use Rattle.bounds.specs.Bounds.{Answerable, correlation-bounded, propagated-bounded, literal-correlation-bounded, literal-propagated-bounded}
-use Rattle.answers.specs.Sound.{soundly, unsound, sound-positive}
-use Rattle.halves.specs.Even.{Even}
-use Rattle.halves.specs.Odd.{Odd}
-use Rattle.demands.specs.Halves.{half-bounded}
+use Rattle.pair_correlations.specs.Sound.{soundly, unsound}
+use Rattle.pair_correlations.specs.Laws.Sound.{sound-positive}
+use Rattle.half_vectors.specs.Symmetric.{SymmetricHalf}
+use Rattle.half_vectors.specs.Antisymmetric.{AntisymmetricHalf}
+use Rattle.demands.specs.Laws.Halves.{half-bounded}
 
 -- From -1 to 1.
 pub record InUnit (x : Float) : Type 0 where
@@ -53,7 +55,7 @@ pub record Bounded (J : Job Float) (us vs : List ℕ) : Type 0 where
       → T (le (abs (S.at ieee (S.propagated ieee J (earlier us vs i) t) j)) (S.at ieee (S.forward ieee J (earlier us vs i + t)) j))
   -- and so it is of the lower halves g and f that stand for the two.
   pub half : (i : ℕ) → i < length us → (t j : ℕ) → earlier us vs i + t ≤ later us vs i → j < 2 ^ (J .window - 1)
-      → (g f : ℕ → Float) → Odd (J .window) g (S.propagated ieee J (earlier us vs i) t) → Even (J .window) f (S.forward ieee J (earlier us vs i + t))
+      → (g f : ℕ → Float) → AntisymmetricHalf (J .window) g (S.propagated ieee J (earlier us vs i) t) → SymmetricHalf (J .window) f (S.forward ieee J (earlier us vs i + t))
       → T (le (abs (g j)) (f j))
   -- Where no step is taken at vertex 0, of each pair whose Z is then finite and above zero: the same.
   pub literal-correlation : (i : ℕ) → i < length us → T (positive (literalZ ieee J (later us vs i)))

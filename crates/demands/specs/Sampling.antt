@@ -9,35 +9,39 @@ use native.Mathlib.Omega.{arith}
 use lib.Dec.{lit≤}
 use lib.Ieee.{Float, nan, binary64}
 use lib.ListN.{length, getD}
-use Rattle.vector.specs.Search.{some, none-at}
+use Rattle.list_laws.specs.Search.{some}
+use Rattle.list_laws.specs.Laws.Search.{none-at}
 use Rattle.rounding.specs.Powers.{Ordered}
 use Rattle.fraction.specs.Fraction.{ℚ, invℚ}
 use Rattle.fraction.specs.Value.{value}
 use Rattle.exactness.specs.Exact.{rational}
 use Rattle.accuracy.specs.Apart.{Apart}
-use Rattle.accuracy.specs.Ring.{_⋆_, nat}
+use Rattle.accuracy.specs.Ring.{nat}
+use Rattle.accuracy.specs.Laws.Ring.{_⋆_}
 use Rattle.accuracy.specs.Stated.{squaresRoundings, fourthsRoundings, totalBound}
 use Rattle.estimate.specs.Estimates.{number, meanOf}
-use Rattle.transfer.specs.Configuration.{sampledMinus}
-use Rattle.transfer.specs.Job.{Job}
-use Rattle.transfer.specs.Rounded.{ieee}
-use Rattle.transfer.specs.Totals.{square, fourth, sampled, sampledCount}
-use Rattle.checks.specs.declared.Answer.the-variants.{Number}
-use Rattle.checks.specs.AcceptedTotals.{AcceptedTotals, misfits, accepted-sampling}
-use Rattle.checks.specs.Edges.{windowFrom}
-use Rattle.checks.specs.First.{passed, checks-numbered}
-use Rattle.checks.specs.Refusal.{checks, ofSampling}
-use Rattle.checks.specs.Request.{samplingRequest}
-use Rattle.answers.specs.Sound.{unsound}
+use Rattle.transfer_matrix.specs.Configuration.{sampledMinus}
+use Rattle.transfer_matrix.specs.Job.{Job}
+use Rattle.transfer_matrix.specs.Rounded.{ieee}
+use Rattle.transfer_matrix.specs.Totals.{square, fourth, sampled, sampledCount}
+use Rattle.refusals.specs.declared.Answer.the-variants.{Number}
+use Rattle.refusals.specs.AcceptedTotals.{AcceptedTotals, misfits}
+use Rattle.refusals.specs.Laws.AcceptedTotals.{accepted-sampling}
+use Rattle.refusals.specs.Edges.{windowFrom}
+use Rattle.refusals.specs.Key.{Key}
+use Rattle.refusals.specs.Laws.First.{passed-at}
+use Rattle.refusals.specs.Refusal.{ofSampling}
+use Rattle.refusals.specs.Request.{samplingRequest}
+use Rattle.pair_correlations.specs.Sound.{unsound}
 use Rattle.bounds.specs.Bounds.{sampled-answers-bounded}
-use Rattle.chunks.specs.Powers.{correlationAt}
-use Rattle.glass.specs.Correlations.{mannerOf}
-use Rattle.glass.specs.declared.Manner.{Manner}
-use Rattle.totals.specs.Jobs.{unsoundSampling}
-use Rattle.totals.specs.Calls.{Sampled, refusedSampling}
+use Rattle.totals_configuration.specs.Powers.{correlationAt}
+use Rattle.entry_correlations.specs.Correlations.{mannerOf}
+use Rattle.entry_correlations.specs.declared.Manner.{Manner}
+use Rattle.totals_call.specs.Jobs.{unsoundSampling}
+use Rattle.totals_call.specs.Calls.{Sampled, refusedSampling}
 use Rattle.error_bound.specs.Bound.{errorBoundOf}
 use Rattle.error_bound.specs.declared.answer.ErrorBound.the-variants.{Within}
-use Rattle.demands.specs.Lists.{settled-at}
+use Rattle.demands.specs.Laws.Lists.{settled-at}
 use Rattle.demands.specs.Configurations as C
 use Rattle.demands.specs.Configurations.{accepted-number, pair-inside, beta-inside, signed-sound}
 use Rattle.demands.specs.Accurate.{Accurate}
@@ -66,8 +70,7 @@ module _ {n floor : ℕ} {a b : List ℕ} {m : List Float} {us vs : List ℕ} {b
 
   none-bad : bad ≡ false
   none-bad =
-      let none = passed checks ofSampling (samplingRequest n floor a b m us vs betas factors from to samples misfit (length work) bad) checks-numbered (accepted .0) in
-      none .1 .1 .1 .1 .1 .1 .1 .1 .1 .1 .1 .1 .0
+      passed-at ofSampling (samplingRequest n floor a b m us vs betas factors from to samples misfit (length work) bad) (accepted .0) Key.partitionSums refl
 
   -- the chunks by how far they are from the first
   drawn-sound : (i j beta : ℕ) → i < to - from → j < samples → beta < length betas → Sound (drawn (from + i) j beta) us vs

@@ -11,21 +11,22 @@ use lib.ListN.{length, getD}
 use lib.Pow.{pow-pos}
 use Rattle.fraction.specs.Value.{value}
 use Rattle.forest.specs.Labels.{isTree}
-use Rattle.transfer.specs.Configuration.{enumeratedMinus}
+use Rattle.transfer_matrix.specs.Configuration.{enumeratedMinus}
 use Rattle.accuracy.specs.Apart.{Apart}
-use Rattle.transfer.specs.Job.{Job}
-use Rattle.transfer.specs.Rounded.{ieee}
-use Rattle.transfer.specs.Sweep as S
-use Rattle.transfer.specs.Totals.{enumeratedCount}
-use Rattle.checks.specs.declared.Answer.the-variants.{Number}
-use Rattle.checks.specs.Request.{mostStored}
-use Rattle.chunks.specs.Powers.{correlationAt, pair-numbered}
-use Rattle.glass.specs.declared.Manner.{Manner}
-use Rattle.totals.specs.Jobs.{storedCount}
-use Rattle.totals.specs.Calls.{EnumeratedEach, refusedStoring}
+use Rattle.transfer_matrix.specs.Job.{Job}
+use Rattle.transfer_matrix.specs.Rounded.{ieee}
+use Rattle.transfer_matrix.specs.Sweep as S
+use Rattle.transfer_matrix.specs.Totals.{enumeratedCount}
+use Rattle.refusals.specs.declared.Answer.the-variants.{Number}
+use Rattle.refusals.specs.Request.{mostStored}
+use Rattle.totals_configuration.specs.Powers.{correlationAt}
+use Rattle.totals_configuration.specs.Laws.Powers.{pair-numbered}
+use Rattle.entry_correlations.specs.declared.Manner.{Manner}
+use Rattle.totals_call.specs.Jobs.{storedCount}
+use Rattle.totals_call.specs.Calls.{EnumeratedEach, refusedStoring}
 use Rattle.error_bound.specs.Bound.{errorBoundOf}
 use Rattle.error_bound.specs.declared.answer.ErrorBound.the-variants.{Within}
-use Rattle.demands.specs.Lists.{settled-at}
+use Rattle.demands.specs.Laws.Lists.{settled-at}
 use Rattle.demands.specs.Configurations as C
 use Rattle.demands.specs.Configurations.{accepted-number, pair-inside, beta-inside, enumeration-facts, configuration-sound}
 use Rattle.demands.specs.AccurateTotals.{exactly, signed-accurate}

@@ -1,10 +1,8 @@
 -- Walks in a graph, and the distance of two vertices: the least length of a walk.
 -- The edge at j joins the j-th entries of two lists, `early` and `late`.
-use mathlib.Core.Path.{_≡_, refl, ap}
+use mathlib.Core.Path.{_≡_}
 use mathlib.Core.List.{List}
 use Prim.Native.Nat.{ℕ, zero, suc, _<_}
-use native.Mathlib.Decide.{decLt}
-use native.Mathlib.Omega.{arith}
 use lib.ListN.{length, getD}
 use Rattle.distance.specs.declared.Reach.{Reach}
 use Rattle.distance.specs.declared.Reach.the-variants.{Length, NotJoined}
@@ -27,21 +25,3 @@ Walk early late (suc k) u v = (w : ℕ) × Walk early late k u w × Adjacent ear
 abbrev pub Distance : List ℕ → List ℕ → ℕ → ℕ → Reach → Type 0
 Distance early late u v (Length k) = Walk early late k u v × ((j : ℕ) → j < k → Walk early late j u v → ⊥)
 Distance early late u v NotJoined = (k : ℕ) → Walk early late k u v → ⊥
-
-module _ (early late : List ℕ) where
-  -- a vertex is at length 0 from itself
-  pub distance-same : (u : ℕ) → Distance early late u u (Length 0)
-  unfolding Walk
-  distance-same u = (refl, λ j h p. omega arith)
-
-  -- answers that are right are equal
-  pub distance-only : (u v : ℕ) (r s : Reach) → Distance early late u v r → Distance early late u v s → r ≡ s
-  distance-only u v (Length j) (Length k) p q = ap Length (same (decLt j k) (decLt k j))
-    where
-      same : Dec (j < k) → Dec (k < j) → j ≡ k
-      same (yes h) m = absurd (q .1 j h (p .0))
-      same (no n) (yes h) = absurd (p .1 k h (q .0))
-      same (no n) (no m) = omega arith
-  distance-only u v (Length j) NotJoined p q = absurd (q j (p .0))
-  distance-only u v NotJoined (Length k) p q = absurd (p k (q .0))
-  distance-only u v NotJoined NotJoined p q = refl

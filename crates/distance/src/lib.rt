@@ -5,13 +5,14 @@ ghost use Prim.Native.Nat.{_+_, _<_, _≤_};
 ghost use lib.ListN.{length, getD};
 ghost use Rattle.distance.specs.Walks.{Inside, Distance};
 ghost use Rattle.distance.specs.Lengths.{Ready, Relaxed, Swept, Settled, Lowered};
+use limits::VERTICES;
 
 pub enum Reach {
     Length(usize),
     NotJoined,
 }
 
-// Relaxes the step from a to b: one more than a's length becomes b's where that is less. Says whether it did.
+// Relaxes the step from a to b: one more than a's length becomes b's where that is less. Returns whether it did.
 fn relax(d: &mut [usize], a: usize, b: usize) -> bool
     requires { ⌜ (a < length (now d)) × (b < length (now d)) × (getD (now d) a 0 ≤ 1024) ⌝ }
     ensures { λ r. ⌜ Relaxed (now (d .entry)) a b r (now (d .exit)) ⌝ }
@@ -88,11 +89,11 @@ pub fn shortest_walk(early: &[usize], late: &[usize], u: usize, v: usize) -> Rea
     requires { ⌜ (length (now late) ≡ length (now early)) × Inside (now early) (now late) 1024 × (u < 1024) × (v < 1024) ⌝ }
     ensures { λ r. ⌜ Distance (now (early .entry)) (now (late .entry)) u v r ⌝ }
 {
-    let mut d = [1024usize; 1024];
+    let mut d = [VERTICES; VERTICES];
     d[u] = 0;
     settle(early, late, &mut d);
     let r = d[v];
-    if r == 1024 {
+    if r == VERTICES {
         return Reach::NotJoined;
     }
     Reach::Length(r)

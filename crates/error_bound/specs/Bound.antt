@@ -1,17 +1,18 @@
 -- What a call for an error bound answers, from the graph, its window and the lent factors.
 use mathlib.Core.Bool.{Bool, false, cond, not, _&&_}
-use mathlib.Core.List.{List, [], _∷_}
+use mathlib.Core.List.{List, [], _∷_, _++_}
 use Prim.Native.Nat.{ℕ, zero, suc, _+_, _*_, _-_, _/_, _^_, min}
 use lib.IntN.{pos}
 use lib.Ieee.{Float, nan, binary64, div, ofInt, ofBits, le}
 use lib.ListN.{length, getD}
-use Rattle.vector.specs.Search.{some}
-use Rattle.vector.specs.Most.{most}
-use Rattle.transfer.specs.Configuration.{numbered}
-use Rattle.transfer.specs.Job.{Edge, backEdges}
-use Rattle.checks.specs.Edges.{kept, earlyEnds, lateEnds, windowFrom}
-use Rattle.checks.specs.Request.{Request, sweepRequest, single, signedFactors}
-use Rattle.checks.specs.Refusal.{refusal}
+use Rattle.list_laws.specs.Search.{some}
+use Rattle.list_laws.specs.Most.{most}
+use Rattle.transfer_matrix.specs.Configuration.{numbered}
+use Rattle.transfer_matrix.specs.Job.{Edge, backEdges}
+use Rattle.refusals.specs.Edges.{kept, windowFrom, keptEarly, keptLate}
+use Rattle.refusals.specs.Request.{Request, sweepRequest, single, signedFactors}
+use Rattle.refusals.specs.Key.{Key}
+use Rattle.refusals.specs.Refusal.{refusal, ofGraph}
 use Rattle.accuracy.specs.Stated as Accuracy
 use Rattle.error_bound.specs.declared.answer.ErrorBound.{ErrorBound}
 use Rattle.error_bound.specs.declared.answer.ErrorBound.the-variants.{Within, Unknown, Refused}
@@ -47,8 +48,8 @@ boundOf zero n w near factors = cond (nearOne (mostBits w near) factors) (Within
 boundOf (suc k) n w near factors = Refused (suc k)
 
 -- The checks that concern it: no pair is given, and nothing is swept.
-abbrev pub ofErrorBound : List ℕ
-ofErrorBound = 1 ∷ 2 ∷ 3 ∷ 4 ∷ 5 ∷ 6 ∷ 7 ∷ 10 ∷ []
+abbrev pub ofErrorBound : List Key
+ofErrorBound = ofGraph ++ (Key.window ∷ Key.nearEdges ∷ Key.factors ∷ [])
 
 abbrev pub errorBoundRequest : (n floor : ℕ) → (a b : List ℕ) → (m betas factors : List Float) → (count : ℕ) → Request
 errorBoundRequest n floor a b m betas factors count = sweepRequest n floor a b m [] [] betas single factors count false 0 false
@@ -62,4 +63,4 @@ abbrev pub errorBoundOf : (n floor : ℕ) → (a b : List ℕ) → (m betas fact
 errorBoundOf n floor a b m betas factors signed =
     let w = windowFrom floor a b m in
     boundOf (refusal ofErrorBound (errorBoundRequest n floor a b m betas factors (factorCount signed (length betas) (length (kept a b m))))) n w
-    (mostNear n w (numbered (earlyEnds (kept a b m)) (lateEnds (kept a b m)))) factors
+    (mostNear n w (numbered (keptEarly a b m) (keptLate a b m))) factors

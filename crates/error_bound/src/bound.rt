@@ -1,12 +1,13 @@
 // The bound as a double, and whether factors are near enough to one for it to be said.
 ghost use mathlib.Core.Path.{_≡_};
 ghost use Prim.Native.Nat.{_<_, _≤_};
+ghost use Rattle.limits.specs.Limits.{mostVertices, mostWindow};
 ghost use Rattle.error_bound.specs.Bound.{errorBound, mostBits, insidePowers, nearOne};
-use sweep::pow2;
+use step_tables::pow2;
 
 // Of n vertices in the window w, with at most `near` short back edges each.
 pub fn bound_of(n: usize, w: usize, near: usize) -> f64
-    requires { ⌜ (n ≤ 1024) × (w ≤ 24) × (near ≤ 4) ⌝ }
+    requires { ⌜ (n ≤ mostVertices) × (w ≤ mostWindow) × (near ≤ 4) ⌝ }
     ensures { λ r. ⌜ r ≡ errorBound n w near ⌝ }
 {
     let roundings = 2 * (near + 5) * n + 2 * pow2(w) + 6;
@@ -15,7 +16,7 @@ pub fn bound_of(n: usize, w: usize, near: usize) -> f64
 
 // The most binary digits that factors may have: no more than 52, so that a power of two with so many is a double.
 pub fn most_bits(w: usize, near: usize) -> usize
-    requires { ⌜ (w ≤ 24) × (near ≤ 4) ⌝ }
+    requires { ⌜ (w ≤ mostWindow) × (near ≤ 4) ⌝ }
     ensures { λ r. ⌜ r ≡ mostBits w near ⌝ }
 {
     let bits = (965 - w) / ((near + 1) * (2 * w + 8));

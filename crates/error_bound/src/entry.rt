@@ -3,18 +3,20 @@ ghost use mathlib.Core.Path.{_≡_};
 ghost use mathlib.Core.Bool.{true, false, cond};
 ghost use mathlib.Core.List.{[]};
 ghost use Prim.Native.Nat.{_≤_};
-ghost use Rattle.transfer.specs.Job.{tooManyNear};
-ghost use Rattle.transfer.specs.Configuration.{numbered};
-ghost use Rattle.checks.specs.Request.{badFactorList};
-ghost use Rattle.plan.specs.Edges.{Edges};
+ghost use Rattle.limits.specs.Limits.{mostBetas, mostEdges};
+ghost use Rattle.transfer_matrix.specs.Job.{tooManyNear};
+ghost use Rattle.transfer_matrix.specs.Configuration.{numbered};
+ghost use Rattle.refusals.specs.Request.{badFactorList};
+ghost use Rattle.plan_steps.specs.Edges.{Edges};
 ghost use Rattle.error_bound.specs.Bound.{boundOf, mostNear, factorCount, errorBoundOf};
 use crate::answer::ErrorBound;
 use crate::bound::bound_of;
 use crate::bound::most_bits;
 use crate::bound::near_one;
 use crate::near::most_near;
-use lent::bad_factors;
-use refuse::check_with_betas;
+use buffer_checks::bad_factors;
+use job_checks::check_with_betas;
+use limits::EDGES;
 
 // Check 10, and the bound of a graph that 1 to 7 pass.
 fn bound_kept(
@@ -41,7 +43,7 @@ fn bound_kept(
 
 // How many factors there should be: one for each kept edge or, signed, two for each beta and kept edge.
 fn factor_count(betas: usize, edges: usize, signed: bool) -> usize
-    requires { ⌜ (betas ≤ 64) × (edges ≤ 4096) ⌝ }
+    requires { ⌜ (betas ≤ mostBetas) × (edges ≤ mostEdges) ⌝ }
     ensures { λ r. ⌜ r ≡ factorCount signed betas edges ⌝ }
 {
     if signed {
@@ -62,9 +64,9 @@ fn bound_job(
 ) -> ErrorBound
     ensures { λ r. ⌜ r ≡ errorBoundOf n floor (now (a .entry)) (now (b .entry)) (now (m .entry)) (now (betas .entry)) (now (factors .entry)) signed ⌝ }
 {
-    let mut early = [0usize; 4096];
-    let mut late = [0usize; 4096];
-    let mut mag = [0.0f64; 4096];
+    let mut early = [0usize; EDGES];
+    let mut late = [0usize; EDGES];
+    let mut mag = [0.0f64; EDGES];
     let job = check_with_betas(
         n,
         floor,

@@ -1,17 +1,15 @@
 // How many back edges shorter than the window a vertex has at most.
 ghost use mathlib.Core.Path.{_≡_};
 ghost use mathlib.Core.Bool.{false};
-ghost use Rattle.vector.specs.Most.{most};
-ghost use Rattle.transfer.specs.Job.{tooManyNear};
-ghost use Rattle.transfer.specs.Configuration.{numbered};
-ghost use Rattle.plan.specs.Edges.{Edges};
-ghost use Rattle.plan.specs.Layout.{Holds, nearCount};
+ghost use Rattle.list_laws.specs.Most.{most};
+ghost use Rattle.transfer_matrix.specs.Job.{tooManyNear};
+ghost use Rattle.transfer_matrix.specs.Configuration.{numbered};
+ghost use Rattle.plan_steps.specs.Edges.{Edges};
+ghost use Rattle.plan_steps.specs.Layout.{Holds, nearCount};
 ghost use Rattle.error_bound.specs.Bound.{mostNear};
-use plan::near_count;
-use plan::plan_edges;
-
-// The most vertices have twelve numbers each in the plan.
-const PLAN: usize = 12288;
+use limits::PLAN;
+use plan_steps::near_count;
+use plan_steps::plan_edges;
 
 // The largest number of near edges that the plan says of a vertex.
 fn most_planned(plan: &[usize], n: usize) -> usize

@@ -5,9 +5,9 @@ use mathlib.Core.Bool.{Bool, not, _&&_, _||_, cond}
 use lib.IntN.{pos}
 use lib.Dec.{ltb, eqb}
 use lib.Ieee.{Float, binary64, lt, le, ofInt, ofBits}
-use Rattle.transfer.specs.Arithmetic.{Ops}
-use Rattle.transfer.specs.Rounded.{ieee}
-use Rattle.root.specs.Sqrt.{sqrt}
+use Rattle.transfer_matrix.specs.Arithmetic.{Ops}
+use Rattle.transfer_matrix.specs.Rounded.{ieee}
+use Rattle.sqrt.specs.Sqrt.{sqrt}
 use Rattle.estimate.specs.declared.answer.MeanError.{MeanError}
 use Rattle.estimate.specs.declared.answer.Estimate.{Estimate}
 use Rattle.estimate.specs.declared.answer.Estimate.the-variants.{Estimated, TooFew, Refused}

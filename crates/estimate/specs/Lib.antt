@@ -1,4 +1,4 @@
+-- Definitions,
 pub mod Estimates
-pub mod Cases
-pub mod Counted
-pub mod Controls
+-- and the laws of these definitions, which no reader needs to believe.
+pub mod Laws

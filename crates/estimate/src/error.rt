@@ -2,9 +2,9 @@
 ghost use mathlib.Core.Path.{_≡_};
 ghost use Rattle.estimate.specs.Estimates.{atLeastZero, errorOf, meanErrorOf};
 use crate::MeanError;
-use root::sqrt;
+use sqrt::sqrt;
 
-// A variance below zero is one that rounding has made; -0.0 is none.
+// A variance below zero comes of rounding and counts as +0.0, and so does -0.0.
 fn at_least_zero(v: f64) -> f64
     ensures { λ r. ⌜ r ≡ atLeastZero v ⌝ }
 {

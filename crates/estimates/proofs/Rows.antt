@@ -6,8 +6,10 @@ use native.Mathlib.Numerals.{add-one}
 use native.Mathlib.Omega.{arith}
 use lib.Ieee.{Float, nan}
 use lib.ListN.{length, getD, set, drop-of-length-le}
-use Rattle.vector.specs.Front.{over, over-more, over-behind, over-length}
-use Rattle.vector.specs.Tabulate.{tabulate, tabulate-suc, tabulate-length}
+use Rattle.list_laws.specs.Front.{over}
+use Rattle.list_laws.specs.Laws.Front.{over-more, over-behind, over-length}
+use Rattle.list_laws.specs.Tabulate.{tabulate}
+use Rattle.list_laws.specs.Laws.Tabulate.{tabulate-suc, tabulate-length}
 
 -- f is what a row leaves where `old` stood, by its index
 module _ (f : ℕ → Float → Float) (old : List Float) where

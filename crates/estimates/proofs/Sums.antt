@@ -5,7 +5,7 @@ use mathlib.Core.List.{List}
 use Prim.Native.Nat.{ℕ}
 use lib.Ieee.{Float}
 use lib.ListN.{length}
-use Rattle.vector.specs.Search.{some}
+use Rattle.list_laws.specs.Search.{some}
 use Rattle.estimate.specs.Estimates.{number, badCount, inOrder}
 use Rattle.estimates.specs.Columns.{at, badSums}
 

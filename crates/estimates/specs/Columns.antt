@@ -6,9 +6,9 @@ use Prim.Native.Nat.{ℕ}
 use lib.Dec.{eqb}
 use lib.Ieee.{Float, nan}
 use lib.ListN.{length, getD}
-use Rattle.vector.specs.Search.{some}
-use Rattle.vector.specs.Tabulate.{tabulate}
-use Rattle.checks.specs.Answers.{left}
+use Rattle.list_laws.specs.Search.{some}
+use Rattle.list_laws.specs.Tabulate.{tabulate}
+use Rattle.refusals.specs.Answers.{left}
 use Rattle.estimate.specs.declared.answer.Estimate.{Estimate}
 use Rattle.estimate.specs.Estimates.{number, badCount, inOrder, estimateOf, meanIn, errorIn}
 

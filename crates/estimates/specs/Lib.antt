@@ -1,4 +1,4 @@
 -- The definitions that the contracts cite, and what they say of an accepted call.
 pub mod Columns
-pub mod Accepted
-pub mod Controls
+-- and the laws of these definitions, which no reader needs to believe.
+pub mod Laws

@@ -4,11 +4,11 @@ use mathlib.Core.Bool.{cond, not, Bool·beq}
 use mathlib.Core.List.{List}
 use Prim.Native.Nat.{ℕ, zero, suc, _+_, _-_, _^_, _<_, min, max}
 use lib.Dec.{ltb}
-use Rattle.transfer.specs.Arithmetic.{Ops, sum, signedSum}
-use Rattle.vector.specs.Bits.{bit}
-use Rattle.transfer.specs.Job.{Job, stepOf}
-use Rattle.transfer.specs.Sweep.{at, start, forwardStep, backwardStep, alternate}
-use Rattle.exactness.specs.Algebra.{Pos}
+use Rattle.transfer_matrix.specs.Arithmetic.{Ops, sum, signedSum}
+use Rattle.list_laws.specs.Bits.{bit}
+use Rattle.transfer_matrix.specs.Job.{Job, stepOf}
+use Rattle.transfer_matrix.specs.Sweep.{at, start, forwardStep, backwardStep, alternate}
+use Rattle.exactness.specs.Laws.Algebra.{Pos}
 
 module _ (O : Ops) (J : Job (O .K)) where
   open Ops O using (K, _⊗_, _⊘_)

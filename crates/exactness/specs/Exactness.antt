@@ -1,21 +1,21 @@
 -- In exact arithmetic the sweeps' answer is the textbook ratio: in either manner, for the ends of a pair in either order, in any window that
--- reaches every edge, and with any scales above zero. The modules below hold the proof, one idea each.
+-- reaches every edge, and with any scales above zero. specs/Laws holds the proof, one idea a file.
 use mathlib.Core.Path.{_≡_, _∙_, ap₂}
 use mathlib.Core.List.{List}
 use Prim.Native.Nat.{ℕ, suc, _≤_, _<_, min, max}
 use native.Mathlib.Omega.{arith}
 use native.Mathlib.Decide.{decLt}
 use native.Mathlib.Nat.{min-eq-left, min-eq-right, max-eq-left, max-eq-right}
-use Rattle.transfer.specs.Arithmetic.{Ops}
-use Rattle.transfer.specs.Job.{Job}
-use Rattle.transfer.specs.Checked.{Checked}
-use Rattle.transfer.specs.Sweep.{answer}
+use Rattle.transfer_matrix.specs.Arithmetic.{Ops}
+use Rattle.transfer_matrix.specs.Job.{Job}
+use Rattle.transfer_matrix.specs.Checked.{Checked}
+use Rattle.transfer_matrix.specs.Sweep.{answer}
 use Rattle.exactness.specs.Textbook.{partitionSum, textbook}
-use Rattle.exactness.specs.Settings as Settings
-use Rattle.exactness.specs.Positive as Positive
-use Rattle.exactness.specs.Pair as Pair
-use Rattle.exactness.specs.Own as Own
-use Rattle.exactness.specs.Algebra.{Laws, Pos}
+use Rattle.exactness.specs.Laws.Settings as Settings
+use Rattle.exactness.specs.Laws.Positive as Positive
+use Rattle.exactness.specs.Laws.Pair as Pair
+use Rattle.exactness.specs.Laws.Own as Own
+use Rattle.exactness.specs.Laws.Algebra.{Laws, Pos}
 use Rattle.exactness.specs.AnyScales.{Scaled, NOf, ZOf, answerOf}
 
 module _ (O : Ops) where

@@ -1,17 +1,8 @@
+-- Definitions,
 pub mod Textbook
-pub mod Algebra
-pub mod Digits
-pub mod Entries
-pub mod Step
-pub mod Spins
 pub mod AnyScales
-pub mod Chain
-pub mod Settings
-pub mod Weights
-pub mod Positive
-pub mod Pair
-pub mod Own
-pub mod Start
 pub mod Exactness
 pub mod Literal
 pub mod Exact
+-- and the laws of these definitions, which no reader needs to believe.
+pub mod Laws

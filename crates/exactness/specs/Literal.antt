@@ -2,15 +2,15 @@
 use mathlib.Core.Path.{_≡_, refl}
 use mathlib.Core.List.{List}
 use Prim.Native.Nat.{ℕ, zero, suc, _≤_}
-use Rattle.transfer.specs.Arithmetic.{Ops}
-use Rattle.transfer.specs.Job.{Job}
-use Rattle.transfer.specs.Checked.{Checked}
-use Rattle.transfer.specs.Sweep.{Swept, start, sweepForward, backward}
+use Rattle.transfer_matrix.specs.Arithmetic.{Ops}
+use Rattle.transfer_matrix.specs.Job.{Job}
+use Rattle.transfer_matrix.specs.Checked.{Checked}
+use Rattle.transfer_matrix.specs.Sweep.{Swept, start, sweepForward, backward}
 use Rattle.exactness.specs.Textbook.{textbook}
-use Rattle.exactness.specs.Positive as Positive
-use Rattle.exactness.specs.Own as Own
-use Rattle.exactness.specs.Start as Start
-use Rattle.exactness.specs.Algebra.{Laws, Pos}
+use Rattle.exactness.specs.Laws.Positive as Positive
+use Rattle.exactness.specs.Laws.Own as Own
+use Rattle.exactness.specs.Laws.Start as Start
+use Rattle.exactness.specs.Laws.Algebra.{Laws, Pos}
 use Rattle.exactness.specs.AnyScales.{Scaled, propagatedOf, ZOf, answerOf}
 use Rattle.exactness.specs.Exactness.{exactly-scaled}
 

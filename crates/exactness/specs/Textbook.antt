@@ -3,8 +3,8 @@ use mathlib.Core.Bool.{Bool, true, false, cond, Bool·beq}
 use mathlib.Core.List.{List, [], _∷_}
 use Prim.Native.Nat.{ℕ, zero, suc}
 use lib.Dec.{eqb}
-use Rattle.transfer.specs.Arithmetic.{Ops}
-use Rattle.transfer.specs.Job.{Edge, Job}
+use Rattle.transfer_matrix.specs.Arithmetic.{Ops}
+use Rattle.transfer_matrix.specs.Job.{Edge, Job}
 
 -- A spin setting: which vertices are down.
 abbrev pub Setting : Type 0

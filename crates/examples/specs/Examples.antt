@@ -7,21 +7,21 @@ use native.Mathlib.Omega.{arith}
 use lib.IntN.{pos, negsuc}
 use lib.Ieee.{Float, fin, binary64, round, ofBits, ofInt, add, sub, mul, div, neg, lt, le}
 use lib.ListN.{getD}
-use Rattle.vector.specs.Most.{most}
-use Rattle.vector.specs.Tabulate.{tabulate}
+use Rattle.list_laws.specs.Most.{most}
+use Rattle.list_laws.specs.Tabulate.{tabulate}
 use Rattle.forest.specs.Labels.{isTree, labels}
 use Rattle.distance.specs.Walks.{Distance, Walk, Adjacent, along, back}
 use Rattle.distance.specs.declared.Reach.the-variants.{Length}
-use Rattle.transfer.specs.Job.{Edge, Job, Manner, block, perElement, windowOf}
-use Rattle.transfer.specs.Sweep.{answer}
-use Rattle.transfer.specs.Room.{room}
-use Rattle.transfer.specs.Configuration.{configured, enumeratedMinus}
-use Rattle.transfer.specs.Rounded.{ieee}
-use Rattle.bonds.specs.Edges as Rules
-use Rattle.bonds.specs.Edges.{edges, earlyEnds, lateEnds, edgesBelow}
-use Rattle.bonds.specs.Square.{square, squareEdges, EdgesOfSquare, edges-of-square}
+use Rattle.transfer_matrix.specs.Job.{Edge, Job, Manner, block, perElement, windowOf}
+use Rattle.transfer_matrix.specs.Sweep.{answer}
+use Rattle.transfer_matrix.specs.Room.{room}
+use Rattle.transfer_matrix.specs.Configuration.{configured, enumeratedMinus}
+use Rattle.transfer_matrix.specs.Rounded.{ieee}
+use Rattle.strip_bonds.specs.Edges as Rules
+use Rattle.strip_bonds.specs.Edges.{edges, earlyEnds, lateEnds, edgesBelow}
+use Rattle.strip_bonds.specs.Laws.Square.{square, squareEdges, EdgesOfSquare, edges-of-square}
 use Rattle.strip_window.specs.Window as Window
-use Rattle.root.specs.Sqrt.{sqrt}
+use Rattle.sqrt.specs.Sqrt.{sqrt}
 use Rattle.estimate.specs.declared.answer.Estimate.the-variants.{Estimated, TooFew}
 use Rattle.estimate.specs.Estimates.{estimateOf}
 

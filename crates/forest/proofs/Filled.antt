@@ -7,7 +7,8 @@ use native.Mathlib.Decide.{ℕ-discrete}
 use native.Mathlib.Omega.{arith}
 use lib.ListN.{length, getD, set, length-set}
 use lib.Seq.{getD-set-same, getD-set-other}
-use Rattle.vector.specs.Tabulate.{tabulate, tabulated}
+use Rattle.list_laws.specs.Tabulate.{tabulate}
+use Rattle.list_laws.specs.Laws.Tabulate.{tabulated}
 
 -- of the list's entries, n in all, the first i are the rule's
 pub record Filled {A : Type 0} (z : A) (rule : ℕ → A) (n i : ℕ) (l : List A) : Type 0 where

@@ -7,7 +7,7 @@ use native.Mathlib.Decide.{ℕ-discrete}
 use lib.Dec.{eqb}
 use lib.ListN.{length, set, length-set}
 use borrow.Author.Tests.{eq-eqb, ne-eqb}
-use Rattle.forest.specs.Labels.{merge-same}
+use Rattle.forest.specs.Laws.Labels.{merge-same}
 use Rattle.forest.specs.Forest.{parent, climb, links, root, Forest, Kept, Found, Merged}
 use Rattle.forest.proofs.Climb.{Own, climb-more, climb-own}
 use Rattle.forest.proofs.Store.{at-x, at-other, set-inside, links-one}

@@ -3,3 +3,5 @@ pub mod Paths
 pub mod Labels
 pub mod Components
 pub mod Forest
+-- and the laws of these definitions, which no reader needs to believe.
+pub mod Laws

@@ -4,25 +4,27 @@ ghost use mathlib.Core.Path.{_≡_};
 ghost use mathlib.Core.Bool.{not};
 ghost use Prim.Native.Nat.{_+_, _-_, _≤_};
 ghost use lib.ListN.{length};
-ghost use Rattle.vector.specs.Count.{count};
-ghost use Rattle.vector.specs.Tabulate.{tabulate};
+ghost use Rattle.limits.specs.Limits.{mostVertices};
+ghost use Rattle.list_laws.specs.Count.{count};
+ghost use Rattle.list_laws.specs.Tabulate.{tabulate};
 ghost use Rattle.forest.specs.Paths.{Edges, Spans};
 ghost use Rattle.forest.specs.Labels.{labels, isTree};
 ghost use Rattle.forest.specs.Components.{componentCount};
 
 mod union_find;
 
+use limits::VERTICES;
 use union_find::find;
 use union_find::start;
 use union_find::union;
 
 // Marks the tree edges: those whose ends no path of earlier edges joins.
 pub fn mark_tree_edges(n: usize, early: &[usize], late: &[usize], tree: &mut [bool])
-    requires { ⌜ Edges n (now early) (now late) × (n ≤ 1024) × (length (now tree) ≡ length (now early)) ⌝ }
+    requires { ⌜ Edges n (now early) (now late) × (n ≤ mostVertices) × (length (now tree) ≡ length (now early)) ⌝ }
     ensures { λ _. ⌜ now (tree .exit) ≡ tabulate (isTree (now (early .entry)) (now (late .entry))) (length (now (early .entry))) ⌝ }
     ensures { λ _. ⌜ Spans (now (early .entry)) (now (late .entry)) (now (tree .exit)) ⌝ }
 {
-    let mut parents = [0usize; 1024];
+    let mut parents = [0usize; VERTICES];
     let p = &mut parents[..n];
     start(p);
     let mut e: usize = 0;
@@ -34,10 +36,10 @@ pub fn mark_tree_edges(n: usize, early: &[usize], late: &[usize], tree: &mut [bo
 
 // The number of each vertex's component: the root above the vertex when all edges have joined their ends.
 pub fn name_components(n: usize, early: &[usize], late: &[usize], out: &mut [usize])
-    requires { ⌜ Edges n (now early) (now late) × (n ≤ 1024) × (length (now out) ≡ n) ⌝ }
+    requires { ⌜ Edges n (now early) (now late) × (n ≤ mostVertices) × (length (now out) ≡ n) ⌝ }
     ensures { λ _. ⌜ now (out .exit) ≡ tabulate (labels (now (early .entry)) (now (late .entry)) (length (now (early .entry)))) n ⌝ }
 {
-    let mut parents = [0usize; 1024];
+    let mut parents = [0usize; VERTICES];
     let p = &mut parents[..n];
     start(p);
     let mut e: usize = 0;
@@ -54,10 +56,10 @@ pub fn name_components(n: usize, early: &[usize], late: &[usize], out: &mut [usi
 
 // How many components there are: a vertex whose number is its own counts for its component.
 pub fn count_components(n: usize, early: &[usize], late: &[usize]) -> usize
-    requires { ⌜ Edges n (now early) (now late) × (n ≤ 1024) ⌝ }
+    requires { ⌜ Edges n (now early) (now late) × (n ≤ mostVertices) ⌝ }
     ensures { λ r. ⌜ r ≡ componentCount n (now (early .entry)) (now (late .entry)) ⌝ }
 {
-    let mut numbers = [0usize; 1024];
+    let mut numbers = [0usize; VERTICES];
     let c = &mut numbers[..n];
     name_components(n, early, late, c);
     let mut k: usize = 0;
@@ -74,7 +76,7 @@ pub fn count_components(n: usize, early: &[usize], late: &[usize]) -> usize
 
 // The number of independent cycles, which is the number of free edges: those that are no tree edges.
 pub fn count_free_edges(n: usize, early: &[usize], late: &[usize]) -> usize
-    requires { ⌜ Edges n (now early) (now late) × (n ≤ 1024) ⌝ }
+    requires { ⌜ Edges n (now early) (now late) × (n ≤ mostVertices) ⌝ }
     ensures { λ r. ⌜ r ≡ length (now (early .entry)) + componentCount n (now (early .entry)) (now (late .entry)) - n ⌝ }
     ensures { λ r. ⌜ r ≡ count (λ e. not (isTree (now (early .entry)) (now (late .entry)) e)) (length (now (early .entry))) ⌝ }
 {

@@ -2,3 +2,5 @@
 pub mod Raw
 pub mod Fraction
 pub mod Value
+-- and the laws of these definitions, which no reader needs to believe.
+pub mod Laws

@@ -1,13 +1,18 @@
 // One call: its lists are loaded, the call is made, and what it answers and leaves in its results is compared.
-use stored::are_stored;
-use stored::at;
-use stored::length_at;
-use stored::load_doubles;
-use stored::load_numbers;
-use stored::number_at;
-use tally::Counted;
-use tally::NUMBERS;
-use tally::count;
+use replay_format::Counted;
+use replay_format::NUMBERS;
+use replay_format::Replayed;
+use replay_format::advance;
+use replay_format::are_stored;
+use replay_format::at;
+use replay_format::begin;
+use replay_format::edge_lists;
+use replay_format::finish;
+use replay_format::length_at;
+use replay_format::load_doubles;
+use replay_format::load_edges;
+use replay_format::load_numbers;
+use replay_format::number_at;
 
 // What the results hold before the call.
 const BEFORE: f64 = 9.0;
@@ -18,11 +23,7 @@ const BETAS: usize = 65;
 
 const RESULTS: usize = 1024;
 // The words that a record begins with, by their place.
-const A_COUNT: usize = 1;
-
-const B_COUNT: usize = 2;
-
-const M_COUNT: usize = 3;
+const EDGE_COUNTS: usize = 1;
 
 const BETA_COUNT: usize = 4;
 
@@ -33,11 +34,6 @@ const NUMBER: usize = 6;
 
 // the lists in the order of their lengths, then the results after the call
 const LISTS: usize = 7;
-
-struct Replayed {
-    same: bool,
-    next: usize,
-}
 
 // Loads the betas, which begin at `place`, and calls.
 fn replay_betas(
@@ -68,39 +64,24 @@ fn replay(list: &[u8], start: usize) -> Replayed {
     let mut first = [0usize; EDGES];
     let mut second = [0usize; EDGES];
     let mut third = [0.0f64; EDGES];
-    let k = length_at(list, at(start, A_COUNT), EDGES);
-    let l = length_at(list, at(start, B_COUNT), EDGES);
-    let j = length_at(list, at(start, M_COUNT), EDGES);
+    let lists = edge_lists(list, at(start, EDGE_COUNTS), at(start, LISTS), EDGES);
+    let k = lists.a;
+    let l = lists.b;
+    let j = lists.m;
     let a = &mut first[..k];
     let b = &mut second[..l];
     let m = &mut third[..j];
-    let ones = at(start, LISTS);
-    let others = at(ones, k);
-    let magnitudes = at(others, l);
-    load_numbers(list, ones, a);
-    load_numbers(list, others, b);
-    load_doubles(list, magnitudes, m);
-    replay_betas(list, start, at(magnitudes, j), a, b, m)
+    load_edges(list, lists, a, b, m);
+    replay_betas(list, start, lists.next, a, b, m)
 }
 
 // The first word is the number of calls. Those that agree are counted by their refusal's number.
 pub(crate) fn replay_all(list: &[u8], counts: &mut [usize; NUMBERS]) -> Counted {
-    let all = number_at(list, 0);
-    let mut same: usize = 0;
-    let mut p: usize = 8;
-    let mut left = all;
-    while left > 0 {
-        let r = replay(list, p);
-        if r.same {
-            same = std::num::wrapping_add_usize(same, 1);
-            count(counts, number_at(list, at(p, NUMBER)));
-        }
-        p = r.next;
-        left -= 1;
+    let mut progress = begin(list);
+    while progress.left > 0 {
+        let place = progress.place;
+        let r = replay(list, place);
+        progress = advance(progress, r, number_at(list, at(place, NUMBER)), counts);
     }
-    Counted {
-        same,
-        all,
-        left: std::num::wrapping_sub_usize(list.len(), p),
-    }
+    finish(progress, list)
 }

@@ -2,12 +2,12 @@
 // `answers couplings` of rust/oracle made it: the magnitudes are the original's, the refusals' numbers from document 01.
 mod call;
 
-use tally::NUMBERS;
+use replay_format::NUMBERS;
 
 fn report(list: &[u8]) {
     let mut counts = [0usize; NUMBERS];
     let counted = call::replay_all(list, &mut counts);
-    tally::report(counted, b" calls", &counts);
+    replay_format::report(counted, b" calls", &counts);
 }
 
 fn main() {

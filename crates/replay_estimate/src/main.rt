@@ -13,7 +13,7 @@ const ROOT: usize = 8 * 2;
 fn word(list: &[u8], at: usize, i: usize) -> u64
     requires { ⌜ i < 6 ⌝ }
 {
-    stored::word(list, std::num::wrapping_add_usize(at, i * 8))
+    replay_format::word(list, std::num::wrapping_add_usize(at, i * 8))
 }
 
 // The case, 0 for an estimate, 1 for too few or the refusal's number; the mean and the error, 0 where there is none.
@@ -27,12 +27,12 @@ fn words_of(e: Estimate) -> Told {
     match e {
         Estimate::Estimated(m) => Told {
             case: 0,
-            mean: stored::bits_of(m.mean),
-            error: stored::bits_of(m.error),
+            mean: replay_format::bits_of(m.mean),
+            error: replay_format::bits_of(m.error),
         },
         Estimate::TooFew(mean) => Told {
             case: 1,
-            mean: stored::bits_of(mean),
+            mean: replay_format::bits_of(mean),
             error: 0,
         },
         Estimate::Refused(k) => Told {
@@ -44,14 +44,15 @@ fn words_of(e: Estimate) -> Told {
 }
 
 fn replay_estimate(list: &[u8], at: usize) -> bool {
-    let squares = stored::float_of(word(list, at, 1));
-    let fourths = stored::float_of(word(list, at, 2));
+    let squares = replay_format::float_of(word(list, at, 1));
+    let fourths = replay_format::float_of(word(list, at, 2));
     let t = words_of(estimate::estimate(word(list, at, 0) as usize, squares, fourths));
     (t.case == word(list, at, 3)) & (t.mean == word(list, at, 4)) & (t.error == word(list, at, 5))
 }
 
 fn replay_root(list: &[u8], at: usize) -> bool {
-    stored::bits_of(root::sqrt(stored::float_of(word(list, at, 0)))) == word(list, at, 1)
+    replay_format::bits_of(sqrt::sqrt(replay_format::float_of(word(list, at, 0))))
+        == word(list, at, 1)
 }
 
 fn replay(size: usize, list: &[u8], at: usize) -> bool {

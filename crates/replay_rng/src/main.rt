@@ -23,7 +23,8 @@ fn replay_words(list: &[u8], at: usize, start: Rng) -> Replayed {
     let mut i: usize = 0;
     while i < WORDS {
         let drawn = rng.next_u64();
-        same = same & (drawn.word == stored::word(list, std::num::wrapping_add_usize(at, i * 8)));
+        same = same
+            & (drawn.word == replay_format::word(list, std::num::wrapping_add_usize(at, i * 8)));
         let after = drawn.rng;
         rng = after;
         i += 1;
@@ -38,8 +39,8 @@ fn replay_uniforms(list: &[u8], at: usize, start: Rng) -> Replayed {
     while i < UNIFORMS {
         let drawn = rng.uniform();
         same = same
-            & (stored::bits_of(drawn.value)
-                == stored::word(list, std::num::wrapping_add_usize(at, i * 8)));
+            & (replay_format::bits_of(drawn.value)
+                == replay_format::word(list, std::num::wrapping_add_usize(at, i * 8)));
         let after = drawn.rng;
         rng = after;
         i += 1;
@@ -48,13 +49,13 @@ fn replay_uniforms(list: &[u8], at: usize, start: Rng) -> Replayed {
 }
 
 fn generator(list: &[u8], at: usize) -> Rng {
-    let seed = stored::word(list, std::num::wrapping_add_usize(at, 8));
-    if stored::word(list, at) == 0 {
+    let seed = replay_format::word(list, std::num::wrapping_add_usize(at, 8));
+    if replay_format::word(list, at) == 0 {
         return Rng::new(seed);
     }
     Rng::stream(
         seed,
-        stored::word(list, std::num::wrapping_add_usize(at, 16)),
+        replay_format::word(list, std::num::wrapping_add_usize(at, 16)),
     )
 }
 

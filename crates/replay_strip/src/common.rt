@@ -1,7 +1,7 @@
 // What the replays share: strips from stored words, checksums, and buffers filled with guards, which a call must leave where it writes nothing.
 ghost use Prim.Native.Nat.{_≤_};
-use checks::Answer;
-use kind::Kind;
+use refusals::Answer;
+use strip::Kind;
 use strip::Strip;
 
 pub(crate) const GUARD: usize = 77;
@@ -37,7 +37,7 @@ pub(crate) fn strip_of(x: u64) -> Strip {
 pub(crate) fn word(list: &[u8], at: usize, i: usize) -> u64
     requires { ⌜ i ≤ 16 ⌝ }
 {
-    stored::word(list, std::num::wrapping_add_usize(at, i * 8))
+    replay_format::word(list, std::num::wrapping_add_usize(at, i * 8))
 }
 
 pub(crate) fn is_number(a: Answer, n: u64) -> bool {
@@ -67,7 +67,7 @@ pub(crate) fn see_edges(
     late: &[usize; 4096],
     mag: &[f64; 4096],
 ) -> Seen {
-    let mut hashed = stored::OFFSET;
+    let mut hashed = replay_format::OFFSET;
     let mut rest = true;
     let mut i: usize = 0;
     while i < 4096 {
@@ -75,8 +75,8 @@ pub(crate) fn see_edges(
         let b = late[i];
         let m = mag[i];
         if wide(i) < k {
-            hashed = stored::mix_number(stored::mix_number(hashed, a), b);
-            hashed = stored::mix(hashed, stored::bits_of(m));
+            hashed = replay_format::mix_number(replay_format::mix_number(hashed, a), b);
+            hashed = replay_format::mix(hashed, replay_format::bits_of(m));
         } else {
             rest = rest & (a == GUARD) & (b == GUARD) & (m == GUARD_MAGNITUDE);
         }

@@ -10,7 +10,7 @@ use crate::common::see_edges;
 use crate::common::strip_of;
 use crate::common::wide;
 use crate::common::word;
-use checks::Answer;
+use refusals::Answer;
 use strip::Strip;
 
 // The kept edges among the first k: how many, their checksum, and the longest.
@@ -31,7 +31,7 @@ fn longer(most: usize, a: usize, b: usize) -> usize {
 
 fn kept_of(k: usize, early: &[usize; 4096], late: &[usize; 4096], mag: &[f64; 4096]) -> Kept {
     let mut edges: usize = 0;
-    let mut hashed = stored::OFFSET;
+    let mut hashed = replay_format::OFFSET;
     let mut longest: usize = 1;
     let mut i: usize = 0;
     while i < 4096 {
@@ -40,8 +40,8 @@ fn kept_of(k: usize, early: &[usize; 4096], late: &[usize; 4096], mag: &[f64; 40
         let m = mag[i];
         if (i < k) & (m != 0.0) {
             edges += 1;
-            hashed = stored::mix_number(stored::mix_number(hashed, a), b);
-            hashed = stored::mix(hashed, stored::bits_of(m));
+            hashed = replay_format::mix_number(replay_format::mix_number(hashed, a), b);
+            hashed = replay_format::mix(hashed, replay_format::bits_of(m));
             longest = longer(longest, a, b);
         }
         i += 1;
@@ -80,7 +80,7 @@ fn lend(
 ) -> Answer
     requires { ⌜ (a ≤ length (now early)) × (b ≤ length (now late)) × (c ≤ length (now mag)) ⌝ }
 {
-    dilution::diluted(
+    strip_dilution::diluted(
         s,
         x.keep,
         x.low,
@@ -136,9 +136,9 @@ fn lengths_agree(s: Strip, x: Dilution, k: usize, hash: u64) -> bool {
 pub(crate) fn replay(list: &[u8], at: usize) -> bool {
     let s = strip_of(word(list, at, 0));
     let x = Dilution {
-        keep: stored::float_of(word(list, at, 2)),
-        low: stored::float_of(word(list, at, 3)),
-        high: stored::float_of(word(list, at, 4)),
+        keep: replay_format::float_of(word(list, at, 2)),
+        low: replay_format::float_of(word(list, at, 3)),
+        high: replay_format::float_of(word(list, at, 4)),
         seed: word(list, at, 1),
     };
     let mut early = [GUARD; 4096];

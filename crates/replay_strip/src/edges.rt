@@ -35,7 +35,7 @@ fn edges_agree(list: &[u8], at: usize, s: Strip, k: u64) -> bool {
     let mut early = [GUARD; 4096];
     let mut late = [GUARD; 4096];
     let mut mag = [GUARD_MAGNITUDE; 4096];
-    let answer = raw_edges::raw_edges(s, &mut early, &mut late, &mut mag);
+    let answer = strip_edges::raw_edges(s, &mut early, &mut late, &mut mag);
     is_number(answer, k) & ends_agree(list, at, k, &early, &late, &mag)
 }
 

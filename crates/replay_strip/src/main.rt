@@ -3,7 +3,7 @@
 mod common;
 mod dilutions;
 mod edges;
-mod refusals;
+mod refused;
 mod strips;
 
 ghost use Prim.Native.Nat.{_≤_, _<_};
@@ -23,7 +23,7 @@ fn replay(size: usize, list: &[u8], at: usize) -> bool {
     match size {
         STRIP => strips::replay(list, at),
         DILUTION => dilutions::replay(list, at),
-        _ => refusals::replay(list, at),
+        _ => refused::replay(list, at),
     }
 }
 

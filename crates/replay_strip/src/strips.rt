@@ -12,14 +12,14 @@ use crate::common::see_edges;
 use crate::common::strip_of;
 use crate::common::wide;
 use crate::common::word;
-use checks::Answer;
+use refusals::Answer;
 use strip::Strip;
 
 fn edges_agree(s: Strip, k: u64, sum: u64) -> bool {
     let mut early = [GUARD; 4096];
     let mut late = [GUARD; 4096];
     let mut mag = [GUARD_MAGNITUDE; 4096];
-    let answer = raw_edges::raw_edges(s, &mut early, &mut late, &mut mag);
+    let answer = strip_edges::raw_edges(s, &mut early, &mut late, &mut mag);
     let seen = see_edges(k, &early, &late, &mag);
     is_number(answer, k) & (seen.hash == sum) & seen.rest
 }
@@ -29,7 +29,7 @@ fn odd_agrees(s: Strip) -> bool {
     let mut early = [GUARD; 4096];
     let mut late = [GUARD; 4096];
     let mut mag = [GUARD_MAGNITUDE; 4096];
-    let answer = raw_edges::raw_edges(s, &mut early, &mut late, &mut mag);
+    let answer = strip_edges::raw_edges(s, &mut early, &mut late, &mut mag);
     let seen = see_edges(0, &early, &late, &mag);
     is_refused(answer, 16) & seen.rest & is_refused(strip_window::window(s), 16)
 }
@@ -46,7 +46,7 @@ fn lend_edges(
 ) -> Answer
     requires { ⌜ (a ≤ length (now early)) × (b ≤ length (now late)) × (c ≤ length (now mag)) ⌝ }
 {
-    raw_edges::raw_edges(s, &mut early[..a], &mut late[..b], &mut mag[..c])
+    strip_edges::raw_edges(s, &mut early[..a], &mut late[..b], &mut mag[..c])
 }
 
 // The pair set into the first a, b and c elements of three buffers.
@@ -61,7 +61,7 @@ fn lend_pairs(
 ) -> Answer
     requires { ⌜ (a ≤ length (now us)) × (b ≤ length (now vs)) × (c ≤ length (now labels)) ⌝ }
 {
-    pairset::pairs(s, &mut us[..a], &mut vs[..b], &mut labels[..c])
+    strip_pairs::pairs(s, &mut us[..a], &mut vs[..b], &mut labels[..c])
 }
 
 // Buffers for k edges, of which one is one too short: 12, and nothing is written.
@@ -101,14 +101,14 @@ fn lengths_agree(s: Strip, k: usize, sum: u64) -> bool {
 }
 
 fn see_ends(k: u64, us: &[usize; 20], vs: &[usize; 20]) -> Seen {
-    let mut hashed = stored::OFFSET;
+    let mut hashed = replay_format::OFFSET;
     let mut rest = true;
     let mut i: usize = 0;
     while i < 20 {
         let u = us[i];
         let v = vs[i];
         if wide(i) < k {
-            hashed = stored::mix_number(stored::mix_number(hashed, u), v);
+            hashed = replay_format::mix_number(replay_format::mix_number(hashed, u), v);
         } else {
             rest = rest & (u == GUARD) & (v == GUARD);
         }
@@ -130,7 +130,7 @@ fn see_labels(k: u64, ends: Seen, labels: &[u8; 320]) -> Seen {
     while i < 320 {
         let x = labels[i];
         if closed < k {
-            hashed = stored::mix(hashed, byte(x));
+            hashed = replay_format::mix(hashed, byte(x));
         } else {
             rest = rest & (x == GUARD_BYTE);
         }
@@ -144,7 +144,7 @@ fn pairs_agree(s: Strip, k: u64, sum: u64) -> bool {
     let mut us = [GUARD; 20];
     let mut vs = [GUARD; 20];
     let mut labels = [GUARD_BYTE; 320];
-    let answer = pairset::pairs(s, &mut us, &mut vs, &mut labels);
+    let answer = strip_pairs::pairs(s, &mut us, &mut vs, &mut labels);
     let seen = see_labels(k, see_ends(k, &us, &vs), &labels);
     is_number(answer, k) & (seen.hash == sum) & seen.rest
 }

@@ -1,12 +1,12 @@
 // One call, by its record's first words: it is made, and what it answers and leaves in the lent lists is compared.
-use crate::doubles::are_cleared;
-use crate::doubles::fill;
-use checks::Answer;
-use glass::Manner;
-use stored::are_stored;
-use stored::at;
-use stored::number_at;
-use stored::word;
+use entry_correlations::Manner;
+use refusals::Answer;
+use replay_format::are_cleared;
+use replay_format::are_stored;
+use replay_format::at;
+use replay_format::fill;
+use replay_format::number_at;
+use replay_format::word;
 
 // A refusal's number, told from a count.
 const REFUSED: u64 = 0x100_0000_0000;
@@ -35,8 +35,8 @@ const ANSWER: usize = 9;
 // how much of the memory is +0.0 after it
 const CLEARED: usize = 10;
 
-fn manner_of(per_element: u64) -> Manner {
-    if per_element == 1 {
+fn manner_of(elementwise: u64) -> Manner {
+    if elementwise == 1 {
         return Manner::PerElement;
     }
     Manner::Block
@@ -82,7 +82,7 @@ fn answer(
     let to = word(list, at(start, TO));
     let samples = number_at(list, at(start, SAMPLES));
     if entry == 0 {
-        return exhaustive::exhaustive(
+        return entry_exhaustive::exhaustive(
             n,
             floor,
             a,
@@ -99,7 +99,7 @@ fn answer(
         );
     }
     if entry == 1 {
-        return storing::exhaustive_c(
+        return entry_exhaustive_c::exhaustive_c(
             n,
             floor,
             a,
@@ -114,7 +114,7 @@ fn answer(
             memory,
         );
     }
-    sampling::sample(
+    entry_sample::sample(
         n,
         floor,
         a,

@@ -1,15 +1,14 @@
 // Replays the original's totals. data/totals.bin is words: the number of calls, and a record for each, which call.rt reads. `answers totals` of
 // rust/oracle made it: the results are the original's, the refusals' numbers and the room from document 01.
 mod call;
-mod doubles;
 mod record;
 
-use tally::NUMBERS;
+use replay_format::NUMBERS;
 
 fn report(list: &[u8], work: &mut [f64]) {
     let mut counts = [0usize; NUMBERS];
     let counted = record::replay_all(list, work, &mut counts);
-    tally::report(counted, b" calls", &counts);
+    replay_format::report(counted, b" calls", &counts);
 }
 
 fn read(fd: i32, list: &mut [u8], work: &mut [f64]) {

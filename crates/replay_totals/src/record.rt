@@ -2,14 +2,19 @@
 use crate::call::answers;
 use crate::call::left_as_stored;
 use crate::call::refusal_at;
-use stored::at;
-use stored::length_at;
-use stored::load_doubles;
-use stored::load_numbers;
-use stored::number_at;
-use tally::Counted;
-use tally::NUMBERS;
-use tally::count;
+use replay_format::Counted;
+use replay_format::NUMBERS;
+use replay_format::Replayed;
+use replay_format::advance;
+use replay_format::at;
+use replay_format::begin;
+use replay_format::edge_lists;
+use replay_format::finish;
+use replay_format::length_at;
+use replay_format::load_doubles;
+use replay_format::load_edges;
+use replay_format::load_numbers;
+use replay_format::two_lists;
 
 // As much as a stored call takes.
 const EDGES: usize = 128;
@@ -22,23 +27,14 @@ const FACTORS: usize = 1024;
 
 const RESULTS: usize = 4200;
 // The lengths of a record's lists, by their place behind the words that call.rt reads.
-const A_COUNT: usize = 11;
+const EDGE_COUNTS: usize = 11;
 
-const B_COUNT: usize = 12;
+const PAIR_COUNTS: usize = 14;
 
-const M_COUNT: usize = 13;
+// of the betas and the factors
+const FACTOR_COUNTS: usize = 16;
 
-const US_COUNT: usize = 14;
-
-const VS_COUNT: usize = 15;
-
-const BETA_COUNT: usize = 16;
-
-const FACTOR_COUNT: usize = 17;
-
-const FIRST_COUNT: usize = 18;
-
-const SECOND_COUNT: usize = 19;
+const RESULT_COUNTS: usize = 18;
 
 // how much work memory is lent
 const LENT: usize = 20;
@@ -46,35 +42,47 @@ const LENT: usize = 20;
 // the lists in the order of their lengths, the results as they are after the call
 const LISTS: usize = 21;
 
-struct Replayed {
-    same: bool,
-    next: usize,
-}
-
-// Lends results and work memory, and calls; the results begin at `place`.
-fn replay_results(
-    list: &[u8],
-    start: usize,
-    place: usize,
-    a: &[usize],
-    b: &[usize],
-    m: &[f64],
-    us: &[usize],
-    vs: &[usize],
-    betas: &[f64],
-    factors: &[f64],
-    work: &mut [f64],
-) -> Replayed {
+// Loads the lists of the record that begins at `start`, lends them to the call, and compares what it leaves.
+fn replay(list: &[u8], start: usize, work: &mut [f64]) -> Replayed {
+    let mut ones = [0usize; EDGES];
+    let mut others = [0usize; EDGES];
+    let mut magnitudes = [0.0f64; EDGES];
+    let mut firsts = [0usize; PAIRS];
+    let mut seconds = [0usize; PAIRS];
+    let mut temperatures = [0.0f64; BETAS];
+    let mut both = [0.0f64; FACTORS];
     let mut one = [0.0f64; RESULTS];
     let mut two = [0.0f64; RESULTS];
-    let k = length_at(list, at(start, FIRST_COUNT), RESULTS);
-    let l = length_at(list, at(start, SECOND_COUNT), RESULTS);
-    let lent = length_at(list, at(start, LENT), work.len());
-    let first = &mut one[..k];
-    let second = &mut two[..l];
-    let memory = &mut work[..lent];
-    let other = at(place, k);
-    let same = answers(
+    let edges = edge_lists(list, at(start, EDGE_COUNTS), at(start, LISTS), EDGES);
+    let pairs = two_lists(list, at(start, PAIR_COUNTS), edges.next, PAIRS, PAIRS);
+    let lent = two_lists(list, at(start, FACTOR_COUNTS), pairs.next, BETAS, FACTORS);
+    let results = two_lists(list, at(start, RESULT_COUNTS), lent.next, RESULTS, RESULTS);
+    let a_count = edges.a;
+    let b_count = edges.b;
+    let m_count = edges.m;
+    let us_count = pairs.first;
+    let vs_count = pairs.second;
+    let beta_count = lent.first;
+    let factor_count = lent.second;
+    let first_count = results.first;
+    let second_count = results.second;
+    let memory_count = length_at(list, at(start, LENT), work.len());
+    let a = &mut ones[..a_count];
+    let b = &mut others[..b_count];
+    let m = &mut magnitudes[..m_count];
+    let us = &mut firsts[..us_count];
+    let vs = &mut seconds[..vs_count];
+    let betas = &mut temperatures[..beta_count];
+    let factors = &mut both[..factor_count];
+    let first = &mut one[..first_count];
+    let second = &mut two[..second_count];
+    let memory = &mut work[..memory_count];
+    load_edges(list, edges, a, b, m);
+    load_numbers(list, edges.next, us);
+    load_numbers(list, pairs.other, vs);
+    load_doubles(list, pairs.next, betas);
+    load_doubles(list, lent.other, factors);
+    let called = answers(
         list,
         start,
         a,
@@ -89,106 +97,18 @@ fn replay_results(
         memory,
     );
     Replayed {
-        same: same & left_as_stored(list, start, place, other, first, second, memory),
-        next: at(other, l),
+        same: called & left_as_stored(list, start, lent.next, results.other, first, second, memory),
+        next: results.next,
     }
-}
-
-// Loads the betas, which begin at `place`, and the factors.
-fn replay_betas(
-    list: &[u8],
-    start: usize,
-    place: usize,
-    a: &[usize],
-    b: &[usize],
-    m: &[f64],
-    us: &[usize],
-    vs: &[usize],
-    work: &mut [f64],
-) -> Replayed {
-    let mut first = [0.0f64; BETAS];
-    let mut second = [0.0f64; FACTORS];
-    let k = length_at(list, at(start, BETA_COUNT), BETAS);
-    let l = length_at(list, at(start, FACTOR_COUNT), FACTORS);
-    let betas = &mut first[..k];
-    let factors = &mut second[..l];
-    let others = at(place, k);
-    load_doubles(list, place, betas);
-    load_doubles(list, others, factors);
-    replay_results(
-        list,
-        start,
-        at(others, l),
-        a,
-        b,
-        m,
-        us,
-        vs,
-        betas,
-        factors,
-        work,
-    )
-}
-
-// Loads the pairs, which begin at `place`.
-fn replay_pairs(
-    list: &[u8],
-    start: usize,
-    place: usize,
-    a: &[usize],
-    b: &[usize],
-    m: &[f64],
-    work: &mut [f64],
-) -> Replayed {
-    let mut first = [0usize; PAIRS];
-    let mut second = [0usize; PAIRS];
-    let k = length_at(list, at(start, US_COUNT), PAIRS);
-    let l = length_at(list, at(start, VS_COUNT), PAIRS);
-    let us = &mut first[..k];
-    let vs = &mut second[..l];
-    let others = at(place, k);
-    load_numbers(list, place, us);
-    load_numbers(list, others, vs);
-    replay_betas(list, start, at(others, l), a, b, m, us, vs, work)
-}
-
-fn replay(list: &[u8], start: usize, work: &mut [f64]) -> Replayed {
-    let mut first = [0usize; EDGES];
-    let mut second = [0usize; EDGES];
-    let mut third = [0.0f64; EDGES];
-    let k = length_at(list, at(start, A_COUNT), EDGES);
-    let l = length_at(list, at(start, B_COUNT), EDGES);
-    let j = length_at(list, at(start, M_COUNT), EDGES);
-    let a = &mut first[..k];
-    let b = &mut second[..l];
-    let m = &mut third[..j];
-    let ones = at(start, LISTS);
-    let others = at(ones, k);
-    let magnitudes = at(others, l);
-    load_numbers(list, ones, a);
-    load_numbers(list, others, b);
-    load_doubles(list, magnitudes, m);
-    replay_pairs(list, start, at(magnitudes, j), a, b, m, work)
 }
 
 // The first word is the number of calls. Those that agree are counted by their refusal's number.
 pub(crate) fn replay_all(list: &[u8], work: &mut [f64], counts: &mut [usize; NUMBERS]) -> Counted {
-    let all = number_at(list, 0);
-    let mut same: usize = 0;
-    let mut p: usize = 8;
-    let mut left = all;
-    while left > 0 {
-        let r = replay(list, p, work);
-        if r.same {
-            same = std::num::wrapping_add_usize(same, 1);
-            count(counts, refusal_at(list, p));
-        }
-        p = r.next;
-        left -= 1;
+    let mut progress = begin(list);
+    while progress.left > 0 {
+        let place = progress.place;
+        let r = replay(list, place, work);
+        progress = advance(progress, r, refusal_at(list, place), counts);
     }
-    Counted {
-        same,
-        all,
-        left: std::num::wrapping_sub_usize(list.len(), p),
-    }
+    finish(progress, list)
 }

@@ -1,6 +1,8 @@
+-- Definitions,
 pub mod Sign
 pub mod Under
 pub mod Whole
-pub mod Sums
 pub mod Powers
-pub mod Scaled
+pub mod Alike
+-- and the laws of these definitions, which no reader needs to believe.
+pub mod Laws

@@ -2,8 +2,8 @@
 use mathlib.Core.Bool.{Bool, _&&_}
 use Prim.Native.Nat.{_%_}
 use lib.Dec.{eqb}
-use Rattle.checks.specs.StripRequest.{StripRequest, Dilution, undiluted}
-use Rattle.kind.specs.Kinds.{isHoney}
+use Rattle.refusals.specs.StripRequest.{StripRequest, Dilution, undiluted}
+use Rattle.strip.specs.Kinds.{isHoney}
 use Rattle.strip.specs.declared.strip.Strip.{Strip}
 
 abbrev pub oddCylinder : Strip → Bool

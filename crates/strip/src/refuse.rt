@@ -4,8 +4,8 @@ ghost use mathlib.Core.Bool.{_||_};
 ghost use Prim.Native.Nat.{_*_};
 ghost use lib.Dec.{eqb, ltb};
 ghost use Rattle.strip.specs.Requests.{oddCylinder};
+use crate::kinds::is_honey;
 use crate::strip::Strip;
-use kind::is_honey;
 
 // 15. A side is 0, or sides multiply above 1,024; the product itself may not fit a word.
 pub fn bad_sides(w: usize, l: usize) -> bool

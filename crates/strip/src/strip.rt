@@ -2,11 +2,11 @@
 ghost use mathlib.Core.Path.{_≡_};
 ghost use Prim.Native.Nat.{_+_, _*_, _≤_};
 ghost use lib.ListN.{length};
-ghost use Rattle.kind.specs.Names.{boundaryOf, padded};
+ghost use Rattle.strip.specs.Names.{boundaryOf, padded};
 ghost use Rattle.strip.specs.Vertices.{vertex};
-use kind::Kind;
-use kind::Word;
-use kind::six;
+use crate::kinds::Kind;
+use crate::kinds::Word;
+use crate::kinds::six;
 
 pub struct Strip {
     pub kind: Kind,

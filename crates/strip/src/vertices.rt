@@ -2,15 +2,15 @@
 ghost use mathlib.Core.Path.{_≡_};
 ghost use mathlib.Core.Bool.{false};
 ghost use Prim.Native.Nat.{_*_};
-ghost use Rattle.checks.specs.Answers.{answered};
-ghost use Rattle.checks.specs.StripRequest.{stripRefusal, ofSides};
+ghost use Rattle.refusals.specs.Answers.{answered};
+ghost use Rattle.refusals.specs.StripRequest.{stripRefusal, ofSides};
 ghost use Rattle.strip.specs.Requests.{stripRequest};
 ghost use Rattle.strip.specs.Vertices.{sited};
 use crate::refuse::bad_sides;
 use crate::strip::Strip;
 use crate::strip::vertex_at;
 use crate::strip::vertex_count;
-use checks::Answer;
+use refusals::Answer;
 
 // A vertex, that the strip has none there, or the number of a refusal.
 pub enum Sited {

@@ -4,7 +4,7 @@ use mathlib.Core.Bool.{Bool, true, false, not, _&&_}
 use Prim.Native.Nat.{_+_, _-_, _≤_, _<_}
 use lib.Dec.{ltb}
 use borrow.Author.Tests.{lt-ltb, le-ltb}
-use Rattle.kind.specs.Kinds.{isHoney, isTri}
+use Rattle.strip.specs.Kinds.{isHoney, isTri}
 use Rattle.strip.specs.declared.strip.Strip.{Strip}
 use Rattle.strip_window.specs.Reach.{reach}
 

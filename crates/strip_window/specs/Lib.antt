@@ -1,4 +1,6 @@
+-- Definitions,
 pub mod Window
 pub mod Reach
-pub mod EdgeLaws
 pub mod WindowLaw
+-- and the laws of these definitions, which no reader needs to believe.
+pub mod Laws

@@ -1,9 +1,9 @@
 -- The window of a strip.
 use Prim.Native.Nat.{ℕ, _-_, max}
 use lib.ListN.{length, getD}
-use Rattle.vector.specs.Most.{most}
+use Rattle.list_laws.specs.Most.{most}
 use Rattle.strip.specs.declared.strip.Strip.{Strip}
-use Rattle.bonds.specs.Edges.{edges, earlyEnds, lateEnds}
+use Rattle.strip_bonds.specs.Edges.{edges, earlyEnds, lateEnds}
 
 -- the largest of 1 and the longest edge
 abbrev pub windowOf : Strip → ℕ

@@ -9,16 +9,18 @@ use lib.Dec.{eqb, ltb}
 use lib.ListN.{length, getD, length-append, List·getD-append, List·getD-map}
 use lib.Seq.{getD-at}
 use borrow.Author.Tests.{lt-ltb, eq-eqb, ltb-true}
-use Rattle.vector.specs.Most.{most, most-above, most-least}
-use Rattle.kind.specs.Kinds.{isHoney, isTri}
+use Rattle.list_laws.specs.Most.{most}
+use Rattle.list_laws.specs.Laws.Most.{most-above, most-least}
+use Rattle.strip.specs.Kinds.{isHoney, isTri}
 use Rattle.strip.specs.Vertices.{vertex}
-use Rattle.bonds.specs.Edges.{Edge, edge, given, brick, across, wrap, along, rising, falling, edgesBelow, edges, earlyEnds, lateEnds}
+use Rattle.strip_bonds.specs.Edges.{Edge, edge, given, brick, across, wrap, along, rising, falling, edgesBelow, edges, earlyEnds, lateEnds}
 use Rattle.strip_window.specs.Window.{windowOf}
 use Rattle.strip.specs.Requests.{oddCylinder}
 use Rattle.strip.specs.Sides.{Sides}
-use Rattle.bonds.specs.Sites.{edges-more}
-use Rattle.strip_window.specs.Reach.{reach, reach-one}
-use Rattle.strip_window.specs.EdgeLaws.{edge-near}
+use Rattle.strip_bonds.specs.Laws.Sites.{edges-more}
+use Rattle.strip_window.specs.Reach.{reach}
+use Rattle.strip_window.specs.Laws.Reach.{reach-one}
+use Rattle.strip_window.specs.Laws.EdgeLaws.{edge-near}
 use Rattle.strip.specs.declared.strip.Strip.{Strip}
 
 -- ---- an edge in the list

@@ -1,17 +1,17 @@
 // The window of a whole strip, for callers that take it as the floor of a diluted one's.
 ghost use mathlib.Core.Path.{_≡_};
 ghost use mathlib.Core.Bool.{false};
-ghost use Rattle.checks.specs.Answers.{answered};
-ghost use Rattle.checks.specs.StripRequest.{stripRefusal, ofStrip};
+ghost use Rattle.refusals.specs.Answers.{answered};
+ghost use Rattle.refusals.specs.StripRequest.{stripRefusal, ofStrip};
 ghost use Rattle.strip_window.specs.Window.{windowOf};
 ghost use Rattle.strip.specs.Requests.{stripRequest};
 ghost use Rattle.strip.specs.Sides.{Sides};
 ghost use Rattle.strip_window.specs.Reach.{reach};
-use checks::Answer;
-use kind::is_honey;
-use kind::is_tri;
+use refusals::Answer;
 use strip::Strip;
 use strip::bad_sides;
+use strip::is_honey;
+use strip::is_tri;
 use strip::odd_cylinder;
 
 fn reach(s: Strip) -> usize

@@ -3,13 +3,12 @@ use Prim.Native.Nat.{_+_, _-_, _≤_, _<_}
 use native.Mathlib.Omega.{arith}
 use lib.Ieee.{nan, binary64, mul}
 use lib.ListN.{length, getD}
-use Rattle.vector.specs.Tabulate.{tabulate}
-use Rattle.vector.specs.Part.{put, fill-none, fill-one, fill-length}
+use Rattle.list_laws.specs.Tabulate.{tabulate}
+use Rattle.list_laws.specs.Part.{put}
+use Rattle.list_laws.specs.Laws.Part.{fill-none, fill-one, fill-length}
 use borrow.Author.Needs.{needs}
 use Rattle.couplings.proofs.couple_at.Statement.{statement}
 use Rattle.couplings.proofs.couple_at.Tie as tie
-use Rattle.couplings.proofs.couple_at.Reads as reads
-use Rattle.couplings.proofs.couple_at.Lts as lts
 
 abbrev Inv-loop : tie.InvT-loop
 Inv-loop results₀ at beta mag e₀ results e = (e ≤ length mag) × (results ≡ put results₀ at (tabulate (λ i. mul binary64 beta (getD mag i nan)) e))
@@ -17,27 +16,9 @@ Inv-loop results₀ at beta mag e₀ results e = (e ≤ length mag) × (results 
 abbrev μ-loop : tie.MeasureT-loop
 μ-loop results₀ at beta mag e₀ results e = length mag - e
 
--- src/lib.rt:18:5
 loop-holds : tie.Need-loop-holds Inv-loop μ-loop
 loop-holds c = (omega arith, fill-none _ _ _)
 
--- src/lib.rt:19:34
-mul-results : tie.Need-mul-results Inv-loop μ-loop
-mul-results c = search needs
-
--- src/lib.rt:19:34
-shared-slice-read-results : tie.Need-shared-slice-read-results Inv-loop μ-loop
-shared-slice-read-results c = search needs
-
--- src/lib.rt:19:17
-add-results : tie.Need-add-results Inv-loop μ-loop
-add-results c = search needs
-
--- src/lib.rt:19:9
-mul-results-2 : tie.Need-mul-results-2 Inv-loop μ-loop
-mul-results-2 c = search needs
-
--- src/lib.rt:19:9
 slice-write-results : tie.Need-slice-write-results Inv-loop μ-loop
 slice-write-results c =
     let i = c .before .before .loop in
@@ -45,29 +26,18 @@ slice-write-results c =
     let l = fill-length (a .results .now) (a .at) (λ j. mul binary64 (a .beta) (getD (a .mag .now) j nan)) (i .e) (omega arith) in
     omega (arith, ap length (i .inv .1))
 
--- src/lib.rt:20:9
-add-e : tie.Need-add-e Inv-loop μ-loop
-add-e c = search needs
-
--- src/lib.rt:18:5
-loop-less : tie.Need-loop-less Inv-loop μ-loop
-loop-less c = search needs
-
--- src/lib.rt:18:5
 loop-again : tie.Need-loop-again Inv-loop μ-loop
 loop-again c =
     let a = c .before .before .before .args in
     let b : a .at + c .before .before .loop .e < length (a .results .now) = omega arith in
     (omega arith, rw (c .before .before .loop .inv .1) (fill-one _ _ _ _ _ b refl))
 
--- src/lib.rt:12:1
 same-length : tie.Need-same-length Inv-loop μ-loop
 same-length c =
     let a = c .before .before .args in
     ap length (c .before .loop .inv .1)
     ∙ fill-length (a .results .now) (a .at) (λ j. mul binary64 (a .beta) (getD (a .mag .now) j nan)) (c .before .loop .e) (omega arith)
 
--- src/lib.rt:12:1
 returns : tie.Need-returns Inv-loop μ-loop
 returns c =
     let a = c .before .before .args in
@@ -78,16 +48,5 @@ pub couple-at-spec : {M : Type 1} → statement M
 couple-at-spec =
     tie.close
     (tie.spec
-    Inv-loop
-    μ-loop
-    loop-holds
-    mul-results
-    shared-slice-read-results
-    add-results
-    mul-results-2
-    slice-write-results
-    add-e
-    loop-less
-    loop-again
-    same-length
-    returns)
+    Inv-loop μ-loop loop-holds (λ c. search needs) (λ c. search needs) (λ c. search needs) (λ c. search needs) slice-write-results
+    (λ c. search needs) (λ c. search needs) loop-again same-length returns)

@@ -5,18 +5,6 @@ use Rattle.distance.proofs.Relaxation.{first-ready, edge-swept}
 use Rattle.distance.proofs.relax_edge.Statement.{statement}
 use Rattle.distance.proofs.relax_edge.Tie as tie
 
-mul-a : tie.Need-mul-a
-mul-a c = search needs
-
-shared-slice-read-a : tie.Need-shared-slice-read-a
-shared-slice-read-a c = search needs
-
-mul-b : tie.Need-mul-b
-mul-b c = search needs
-
-shared-slice-read-b : tie.Need-shared-slice-read-b
-shared-slice-read-b c = search needs
-
 relax-requires : tie.Need-relax-requires
 relax-requires c κs =
     let s = c .before .before .before .before .before .before in
@@ -30,9 +18,6 @@ relax-requires-2 c κs =
     let e = R .inside _ (s .pre .1) in
     omega (arith, R .top _ (e .0), R .top _ (e .1))
 
-same-length : tie.Need-same-length
-same-length c = search needs
-
 returns : tie.Need-returns
 returns c =
     let s = c .before .before .before .before .before .before .before .before .before .before .before .before .before in
@@ -43,11 +28,5 @@ pub relax-edge-spec : {M : Type 1} → statement M
 relax-edge-spec =
     tie.close
     (tie.spec
-    mul-a
-    shared-slice-read-a
-    mul-b
-    shared-slice-read-b
-    relax-requires
-    relax-requires-2
-    same-length
+    (λ c. search needs) (λ c. search needs) (λ c. search needs) (λ c. search needs) relax-requires relax-requires-2 (λ c. search needs)
     returns)

@@ -63,14 +63,4 @@ pub settle-spec : {M : Type 1} → statement M
 settle-spec =
     tie.close
     (tie.spec
-    Inv-loop
-    μ-loop
-    loop-holds
-    sweep-up-requires
-    same-length
-    returns
-    sweep-down-requires
-    same-length-2
-    returns-2
-    loop-less
-    loop-again)
+    Inv-loop μ-loop loop-holds sweep-up-requires same-length returns sweep-down-requires same-length-2 returns-2 loop-less loop-again)

@@ -5,25 +5,10 @@ use Rattle.distance.proofs.Distances.{only-ready, far-not-joined, known
 use Rattle.distance.proofs.shortest_walk.Statement.{statement}
 use Rattle.distance.proofs.shortest_walk.Tie as tie
 
-mul-d : tie.Need-mul-d
-mul-d c = search needs
-
-array-write-d : tie.Need-array-write-d
-array-write-d c = search needs
-
-slice-aggregate-settle : tie.Need-slice-aggregate-settle
-slice-aggregate-settle c = search needs
-
 settle-requires : tie.Need-settle-requires
 settle-requires c κs =
     let s = c .before .before .before in
     only-ready 1024 _ (s .pre .2) _ _ (omega arith) (s .pre .0) (s .pre .1)
-
-mul-r : tie.Need-mul-r
-mul-r c = search needs
-
-array-read-r : tie.Need-array-read-r
-array-read-r c = search needs
 
 returns : tie.Need-returns
 returns c =
@@ -41,11 +26,4 @@ pub shortest-walk-spec : {M : Type 1} → statement M
 shortest-walk-spec =
     tie.close
     (tie.spec
-    mul-d
-    array-write-d
-    slice-aggregate-settle
-    settle-requires
-    mul-r
-    array-read-r
-    returns
-    returns-2)
+    (λ c. search needs) (λ c. search needs) (λ c. search needs) settle-requires (λ c. search needs) (λ c. search needs) returns returns-2)

@@ -17,16 +17,10 @@ abbrev μ-loop : tie.MeasureT-loop
 loop-holds : tie.Need-loop-holds Inv-loop μ-loop
 loop-holds c = (calm (settled-none _ _), omega arith)
 
-sub-i : tie.Need-sub-i Inv-loop μ-loop
-sub-i c = omega arith
-
 relax-edge-requires : tie.Need-relax-edge-requires Inv-loop μ-loop
 relax-edge-requires c κs =
     let l = steps-lowered (c .before .before .loop .inv .0) in
     (ready-on (c .before .before .before .before .before .before .pre) l, omega arith)
-
-loop-less : tie.Need-loop-less Inv-loop μ-loop
-loop-less c = omega arith
 
 loop-again : tie.Need-loop-again Inv-loop μ-loop
 loop-again c =
@@ -43,12 +37,4 @@ pub sweep-down-spec : {M : Type 1} → statement M
 sweep-down-spec =
     tie.close
     (tie.spec
-    Inv-loop
-    μ-loop
-    loop-holds
-    sub-i
-    relax-edge-requires
-    loop-less
-    loop-again
-    same-length
-    returns)
+    Inv-loop μ-loop loop-holds (λ c. omega arith) relax-edge-requires (λ c. omega arith) loop-again same-length returns)

@@ -22,12 +22,6 @@ relax-edge-requires c κs =
     let l = steps-lowered (c .before .before .loop .inv .0) in
     (ready-on (c .before .before .before .before .before .before .pre) l, omega arith)
 
-add-i : tie.Need-add-i Inv-loop μ-loop
-add-i c = omega arith
-
-loop-less : tie.Need-loop-less Inv-loop μ-loop
-loop-less c = omega arith
-
 loop-again : tie.Need-loop-again Inv-loop μ-loop
 loop-again c =
     let l = c .before .before .before .before .before .loop in
@@ -45,12 +39,4 @@ pub sweep-up-spec : {M : Type 1} → statement M
 sweep-up-spec =
     tie.close
     (tie.spec
-    Inv-loop
-    μ-loop
-    loop-holds
-    relax-edge-requires
-    add-i
-    loop-less
-    loop-again
-    same-length
-    returns)
+    Inv-loop μ-loop loop-holds relax-edge-requires (λ c. omega arith) (λ c. omega arith) loop-again same-length returns)

@@ -1,12 +1,12 @@
 -- Each `return` is a law of Cases.
 use mathlib.Core.Path.{_≡_, sym, _∙_}
 use mathlib.Core.Bool.{true, false}
-use Rattle.rounding.specs.Scaled.{castable}
+use Rattle.rounding.specs.Laws.Scaled.{castable}
 use borrow.Author.Needs.{needs}
 use borrow.Author.Tests.{not-true, not-false}
 use Rattle.estimate.specs.Estimates.{number, badCount, inOrder}
-use Rattle.estimate.specs.Counted.{few-enough}
-use Rattle.estimate.specs.Cases.{refused-count, refused-order, too-few, enough}
+use Rattle.estimate.specs.Laws.Counted.{few-enough}
+use Rattle.estimate.specs.Laws.Cases.{refused-count, refused-order, too-few, enough}
 use Rattle.estimate.proofs.estimate.Statement.{statement}
 use Rattle.estimate.proofs.estimate.Tie as tie
 
@@ -17,9 +17,6 @@ ordered : (c : tie.Else2)
     → let s = c .before .before .before .before .before .args in inOrder (number (s .count)) (s .squares) (s .fourths) ≡ true
 ordered c = sym (c .before .in-order .ensures) ∙ not-false _ (c .if2 .left)
 
-bad-count-requires : tie.Need-bad-count-requires
-bad-count-requires c κs = search needs
-
 returns : tie.Need-returns
 returns c =
     let s = c .before .before .args in
@@ -27,9 +24,6 @@ returns c =
 
 int-to-float-n : tie.Need-int-to-float-n
 int-to-float-n c = castable (few-enough (c .before .before .before .args .count) (counted (c .before)))
-
-in-order-requires : tie.Need-in-order-requires
-in-order-requires c κs = search needs
 
 returns-2 : tie.Need-returns-2
 returns-2 c =
@@ -43,9 +37,6 @@ returns-3 c =
     let s = e .before .before .args in
     too-few (s .count) (s .squares) (s .fourths) (counted e) (ordered (c .before)) (c .if3 .taken)
 
-mean-error-requires : tie.Need-mean-error-requires
-mean-error-requires c κs = search needs
-
 returns-4 : tie.Need-returns-4
 returns-4 c =
     let e = c .before .before .before .before .before in
@@ -56,11 +47,4 @@ pub estimate-spec : {M : Type 1} → statement M
 estimate-spec =
     tie.close
     (tie.spec
-    bad-count-requires
-    returns
-    int-to-float-n
-    in-order-requires
-    returns-2
-    returns-3
-    mean-error-requires
-    returns-4)
+    (λ c κs. search needs) returns int-to-float-n (λ c κs. search needs) returns-2 returns-3 (λ c κs. search needs) returns-4)

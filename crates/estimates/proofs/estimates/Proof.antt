@@ -2,8 +2,8 @@
 use mathlib.Core.Path.{sym, _∙_}
 use lib.ListN.{length}
 use borrow.Author.Needs.{needs}
-use Rattle.checks.specs.Answers.{left-alone}
-use Rattle.estimates.specs.Accepted.{fitting}
+use Rattle.refusals.specs.Laws.Answers.{left-alone}
+use Rattle.estimates.specs.Laws.Accepted.{fitting}
 use Rattle.estimates.proofs.estimates.Statement.{statement}
 use Rattle.estimates.proofs.estimates.Tie as tie
 

@@ -6,7 +6,7 @@ use native.Mathlib.Omega.{arith}
 use lib.Ieee.{Float, nan}
 use lib.ListN.{length, getD, set}
 use borrow.Author.Needs.{needs}
-use Rattle.vector.specs.Tabulate.{tabulate}
+use Rattle.list_laws.specs.Tabulate.{tabulate}
 use Rattle.estimate.specs.declared.answer.Estimate.{Estimate}
 use Rattle.estimate.specs.Estimates.{meanIn, errorIn}
 use Rattle.estimates.specs.Columns.{estimateAt}
@@ -39,21 +39,6 @@ module _ (s : tie.Start Inv-loop μ-loop) (i : ℕ) (v : List Float) (h : i ≤ 
 loop-holds : tie.Need-loop-holds Inv-loop μ-loop
 loop-holds c = (omega arith, no-rows _ _, no-rows _ _)
 
-mul-estimate : tie.Need-mul-estimate Inv-loop μ-loop
-mul-estimate c = search needs
-
-shared-slice-read-estimate : tie.Need-shared-slice-read-estimate Inv-loop μ-loop
-shared-slice-read-estimate c = search needs
-
-mul-estimate-2 : tie.Need-mul-estimate-2 Inv-loop μ-loop
-mul-estimate-2 c = search needs
-
-shared-slice-read-estimate-2 : tie.Need-shared-slice-read-estimate-2 Inv-loop μ-loop
-shared-slice-read-estimate-2 c = search needs
-
-estimate-requires : tie.Need-estimate-requires Inv-loop μ-loop
-estimate-requires c κs = search needs
-
 put-estimate-requires : tie.Need-put-estimate-requires Inv-loop μ-loop
 put-estimate-requires c κs =
     let s = c .before .before .before .before .before .before .before .before .before .before .before in
@@ -61,12 +46,6 @@ put-estimate-requires c κs =
     let m = means-long s (l .i) (l .means) (l .inv .0) (l .inv .1) in
     let e = errors-long s (l .i) (l .errors) (l .inv .0) (l .inv .2) in
     (omega arith, omega arith)
-
-add-i : tie.Need-add-i Inv-loop μ-loop
-add-i c = search needs
-
-loop-less : tie.Need-loop-less Inv-loop μ-loop
-loop-less c = search needs
 
 loop-again : tie.Need-loop-again Inv-loop μ-loop
 loop-again c =
@@ -101,18 +80,5 @@ pub fill-columns-spec : {M : Type 1} → statement M
 fill-columns-spec =
     tie.close
     (tie.spec
-    Inv-loop
-    μ-loop
-    loop-holds
-    mul-estimate
-    shared-slice-read-estimate
-    mul-estimate-2
-    shared-slice-read-estimate-2
-    estimate-requires
-    put-estimate-requires
-    add-i
-    loop-less
-    loop-again
-    same-length
-    same-length-2
-    returns)
+    Inv-loop μ-loop loop-holds (λ c. search needs) (λ c. search needs) (λ c. search needs) (λ c. search needs) (λ c κs. search needs)
+    put-estimate-requires (λ c. search needs) (λ c. search needs) loop-again same-length same-length-2 returns)

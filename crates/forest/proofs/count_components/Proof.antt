@@ -7,8 +7,10 @@ use native.Mathlib.Omega.{arith}
 use lib.Dec.{eqb}
 use lib.Seq.{length-take-le}
 use lib.ListN.{length, getD}
-use Rattle.vector.specs.Tabulate.{tabulate, tabulate-length, tabulate-at}
-use Rattle.vector.specs.Count.{count, count-zero, count-hit, count-miss}
+use Rattle.list_laws.specs.Tabulate.{tabulate}
+use Rattle.list_laws.specs.Laws.Tabulate.{tabulate-length, tabulate-at}
+use Rattle.list_laws.specs.Count.{count}
+use Rattle.list_laws.specs.Laws.Count.{count-zero, count-hit, count-miss}
 use Rattle.forest.specs.Labels.{labels}
 use Rattle.forest.specs.Components.{stands, componentCount}
 use Rattle.forest.proofs.count_components.Statement.{statement}
@@ -28,9 +30,6 @@ Inv-loop n early late c k₀ v₀ k v =
 abbrev μ-loop : tie.MeasureT-loop
 μ-loop n early late c k₀ v₀ k v = n - v
 
-array-borrow-prefix-numbers : tie.Need-array-borrow-prefix-numbers Inv-loop μ-loop
-array-borrow-prefix-numbers c = omega arith
-
 slice-aggregate-c : tie.Need-slice-aggregate-c Inv-loop μ-loop
 slice-aggregate-c c = sym (length-take-le _ _ (omega arith))
 
@@ -40,29 +39,14 @@ name-components-requires c κs = let s = c .before .before .before .before in (s
 loop-holds : tie.Need-loop-holds Inv-loop μ-loop
 loop-holds c = (c .before .before .name-components .ensures, sym (count-zero _), omega arith, omega arith)
 
-mul-own : tie.Need-mul-own Inv-loop μ-loop
-mul-own c = omega arith
-
 slice-read-own : tie.Need-slice-read-own Inv-loop μ-loop
 slice-read-own c = omega (arith, numbers-length _ _ (c .before .before .loop .inv .0))
-
-add-v : tie.Need-add-v Inv-loop μ-loop
-add-v c = omega arith
-
-add-k : tie.Need-add-k Inv-loop μ-loop
-add-k c = omega arith
-
-loop-less : tie.Need-loop-less Inv-loop μ-loop
-loop-less c = omega arith
 
 loop-again : tie.Need-loop-again Inv-loop μ-loop
 loop-again c =
     let l = c .before .before .before .loop in
     let own = own-number _ _ (l .v) (l .inv .0) (omega arith) (c .if1 .taken) in
     (l .inv .0, ap (λ (x : ℕ). x + 1) (l .inv .1) ∙ sym (count-hit _ _ own), omega arith, omega arith)
-
-loop-less-2 : tie.Need-loop-less-2 Inv-loop μ-loop
-loop-less-2 c = omega arith
 
 loop-again-2 : tie.Need-loop-again-2 Inv-loop μ-loop
 loop-again-2 c =
@@ -82,18 +66,5 @@ pub count-components-spec : {M : Type 1} → statement M
 count-components-spec =
     tie.close
     (tie.spec
-    Inv-loop
-    μ-loop
-    array-borrow-prefix-numbers
-    slice-aggregate-c
-    name-components-requires
-    loop-holds
-    mul-own
-    slice-read-own
-    add-v
-    add-k
-    loop-less
-    loop-again
-    loop-less-2
-    loop-again-2
-    returns)
+    Inv-loop μ-loop (λ c. omega arith) slice-aggregate-c name-components-requires loop-holds (λ c. omega arith) slice-read-own
+    (λ c. omega arith) (λ c. omega arith) (λ c. omega arith) loop-again (λ c. omega arith) loop-again-2 returns)

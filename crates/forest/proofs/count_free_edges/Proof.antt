@@ -1,7 +1,7 @@
 -- Each tree edge makes of two components one, so the edges and the components are at least as many as the vertices.
 use native.Mathlib.Omega.{arith}
 use borrow.Author.Needs.{needs}
-use Rattle.forest.specs.Components.{trees-and-components, enough-edges, free-edges}
+use Rattle.forest.specs.Laws.Components.{trees-and-components, enough-edges, free-edges}
 use Rattle.forest.proofs.count_free_edges.Statement.{statement}
 use Rattle.forest.proofs.count_free_edges.Tie as tie
 

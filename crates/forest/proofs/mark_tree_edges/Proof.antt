@@ -5,7 +5,8 @@ use Prim.Native.Nat.{_-_}
 use native.Mathlib.Omega.{arith}
 use lib.Seq.{length-take-le}
 use lib.ListN.{length}
-use Rattle.forest.specs.Labels.{isTree, trees-span}
+use Rattle.forest.specs.Labels.{isTree}
+use Rattle.forest.specs.Laws.Labels.{trees-span}
 use Rattle.forest.proofs.Growth.{Labelled, labelled-none, union-takes, union-tree, union-labels}
 use Rattle.forest.proofs.Filled.{Filled, filled-none, filled-more, filled-all}
 use Rattle.forest.proofs.mark_tree_edges.Statement.{statement}
@@ -17,14 +18,8 @@ Inv-loop n early late tree₀ p₀ e₀ tree p e = Labelled n early late e p × 
 abbrev μ-loop : tie.MeasureT-loop
 μ-loop n early late tree₀ p₀ e₀ tree p e = length early - e
 
-array-borrow-prefix-parents : tie.Need-array-borrow-prefix-parents Inv-loop μ-loop
-array-borrow-prefix-parents c = omega arith
-
 slice-aggregate-p : tie.Need-slice-aggregate-p Inv-loop μ-loop
 slice-aggregate-p c = sym (length-take-le _ _ (omega arith))
-
-start-requires : tie.Need-start-requires Inv-loop μ-loop
-start-requires c κs = omega arith
 
 loop-holds : tie.Need-loop-holds Inv-loop μ-loop
 loop-holds c =
@@ -32,32 +27,11 @@ loop-holds c =
     let s = c .before .before .before .before .before .before .before .before in
     (labelled-none (begun .kept .0 ∙ length-take-le _ _ (omega arith)) (begun .ensures), filled-none _ (s .pre .2))
 
-mul-union : tie.Need-mul-union Inv-loop μ-loop
-mul-union c = omega arith
-
-shared-slice-read-union : tie.Need-shared-slice-read-union Inv-loop μ-loop
-shared-slice-read-union c = omega arith
-
-mul-union-2 : tie.Need-mul-union-2 Inv-loop μ-loop
-mul-union-2 c = omega arith
-
-shared-slice-read-union-2 : tie.Need-shared-slice-read-union-2 Inv-loop μ-loop
-shared-slice-read-union-2 c = omega arith
-
 union-requires : tie.Need-union-requires Inv-loop μ-loop
 union-requires c κs =
     let l = c .before .before .before .before in
     let s = l .before .before .before .before .before .before .before .before .before in
     union-takes (l .loop .inv .0) (s .pre .0) (omega arith)
-
-slice-write-tree : tie.Need-slice-write-tree Inv-loop μ-loop
-slice-write-tree c = omega arith
-
-add-e : tie.Need-add-e Inv-loop μ-loop
-add-e c = omega arith
-
-loop-less : tie.Need-loop-less Inv-loop μ-loop
-loop-less c = omega arith
 
 loop-again : tie.Need-loop-again Inv-loop μ-loop
 loop-again c =
@@ -66,9 +40,6 @@ loop-again c =
     let L = l .loop .inv .0 in
     let M = c .before .before .union .ensures in
     (union-labels L (s .pre .0) (omega arith) M, filled-more (l .loop .inv .1) (omega arith) (union-tree L (s .pre .0) (omega arith) M))
-
-same-length : tie.Need-same-length Inv-loop μ-loop
-same-length c = omega arith
 
 returns : tie.Need-returns Inv-loop μ-loop
 returns c =
@@ -79,20 +50,6 @@ pub mark-tree-edges-spec : {M : Type 1} → statement M
 mark-tree-edges-spec =
     tie.close
     (tie.spec
-    Inv-loop
-    μ-loop
-    array-borrow-prefix-parents
-    slice-aggregate-p
-    start-requires
-    loop-holds
-    mul-union
-    shared-slice-read-union
-    mul-union-2
-    shared-slice-read-union-2
-    union-requires
-    slice-write-tree
-    add-e
-    loop-less
-    loop-again
-    same-length
-    returns)
+    Inv-loop μ-loop (λ c. omega arith) slice-aggregate-p (λ c κs. omega arith) loop-holds (λ c. omega arith) (λ c. omega arith)
+    (λ c. omega arith) (λ c. omega arith) union-requires (λ c. omega arith) (λ c. omega arith) (λ c. omega arith) loop-again
+    (λ c. omega arith) returns)

@@ -29,37 +29,16 @@ array-borrow-prefix-parents c = omega arith
 slice-aggregate-p : tie.Need-slice-aggregate-p Inv-loop μ-loop Inv-loop2 μ-loop2
 slice-aggregate-p c = sym (length-take-le _ _ (omega arith))
 
-start-requires : tie.Need-start-requires Inv-loop μ-loop Inv-loop2 μ-loop2
-start-requires c κs = omega arith
-
 loop-holds : tie.Need-loop-holds Inv-loop μ-loop Inv-loop2 μ-loop2
 loop-holds c =
     let s = c .before .before .start in
     (labelled-none (s .kept .0 ∙ length-take-le _ _ (omega arith)) (s .ensures), omega arith)
-
-mul-union : tie.Need-mul-union Inv-loop μ-loop Inv-loop2 μ-loop2
-mul-union c = omega arith
-
-shared-slice-read-union : tie.Need-shared-slice-read-union Inv-loop μ-loop Inv-loop2 μ-loop2
-shared-slice-read-union c = omega arith
-
-mul-union-2 : tie.Need-mul-union-2 Inv-loop μ-loop Inv-loop2 μ-loop2
-mul-union-2 c = omega arith
-
-shared-slice-read-union-2 : tie.Need-shared-slice-read-union-2 Inv-loop μ-loop Inv-loop2 μ-loop2
-shared-slice-read-union-2 c = omega arith
 
 union-requires : tie.Need-union-requires Inv-loop μ-loop Inv-loop2 μ-loop2
 union-requires c κs =
     let l = c .before .before .before .before in
     let s = l .before .before .before .before .before .before .before .before .before in
     union-takes (l .loop .inv .0) (s .pre .0) (omega arith)
-
-add-e : tie.Need-add-e Inv-loop μ-loop Inv-loop2 μ-loop2
-add-e c = omega arith
-
-loop-less : tie.Need-loop-less Inv-loop μ-loop Inv-loop2 μ-loop2
-loop-less c = omega arith
 
 loop-again : tie.Need-loop-again Inv-loop μ-loop Inv-loop2 μ-loop2
 loop-again c =
@@ -76,26 +55,11 @@ loop2-holds c =
 find-requires : tie.Need-find-requires Inv-loop μ-loop Inv-loop2 μ-loop2
 find-requires c κs = let L = c .before .before .loop2 .inv .0 in (L .forest, rw (L .len) (omega arith))
 
-mul-out : tie.Need-mul-out Inv-loop μ-loop Inv-loop2 μ-loop2
-mul-out c = omega arith
-
-slice-write-out : tie.Need-slice-write-out Inv-loop μ-loop Inv-loop2 μ-loop2
-slice-write-out c = omega arith
-
-add-v : tie.Need-add-v Inv-loop μ-loop Inv-loop2 μ-loop2
-add-v c = omega arith
-
-loop2-less : tie.Need-loop2-less Inv-loop μ-loop Inv-loop2 μ-loop2
-loop2-less c = omega arith
-
 loop2-again : tie.Need-loop2-again Inv-loop μ-loop Inv-loop2 μ-loop2
 loop2-again c =
     let l = c .before .before .before .before .before .loop2 in
     let F = c .before .before .find .ensures in
     (found-keeps (l .inv .0) F, filled-more (l .inv .1) (omega arith) (found-label (l .inv .0) (omega arith) F))
-
-same-length : tie.Need-same-length Inv-loop μ-loop Inv-loop2 μ-loop2
-same-length c = omega arith
 
 returns : tie.Need-returns Inv-loop μ-loop Inv-loop2 μ-loop2
 returns c = filled-all (c .before .before .loop2 .inv .1) (c .before .loop2-test .left)
@@ -104,28 +68,6 @@ pub name-components-spec : {M : Type 1} → statement M
 name-components-spec =
     tie.close
     (tie.spec
-    Inv-loop
-    μ-loop
-    Inv-loop2
-    μ-loop2
-    array-borrow-prefix-parents
-    slice-aggregate-p
-    start-requires
-    loop-holds
-    mul-union
-    shared-slice-read-union
-    mul-union-2
-    shared-slice-read-union-2
-    union-requires
-    add-e
-    loop-less
-    loop-again
-    loop2-holds
-    find-requires
-    mul-out
-    slice-write-out
-    add-v
-    loop2-less
-    loop2-again
-    same-length
-    returns)
+    Inv-loop μ-loop Inv-loop2 μ-loop2 array-borrow-prefix-parents slice-aggregate-p (λ c κs. omega arith) loop-holds (λ c. omega arith)
+    (λ c. omega arith) (λ c. omega arith) (λ c. omega arith) union-requires (λ c. omega arith) (λ c. omega arith) loop-again loop2-holds
+    find-requires (λ c. omega arith) (λ c. omega arith) (λ c. omega arith) (λ c. omega arith) loop2-again (λ c. omega arith) returns)

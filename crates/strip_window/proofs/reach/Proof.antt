@@ -1,13 +1,10 @@
 -- The reach, as its tests come out.
 use Rattle.strip_window.proofs.Reaching.{reach-rising, reach-along, reach-round, reach-short}
-use Rattle.strip.specs.Sides.{sides-narrow}
+use Rattle.strip.specs.Laws.Sides.{sides-narrow}
 use native.Mathlib.Omega.{arith}
 use borrow.Author.Needs.{needs}
 use Rattle.strip_window.proofs.reach.Statement.{statement}
 use Rattle.strip_window.proofs.reach.Tie as tie
-
-is-tri-requires : tie.Need-is-tri-requires
-is-tri-requires c κs = search needs
 
 add-result : tie.Need-add-result
 add-result c = omega (arith, sides-narrow (c .before .before .before .before .before .pre))
@@ -17,12 +14,6 @@ returns c = reach-rising _ (c .before .before .is-tri .ensures) (c .before .befo
 
 returns-2 : tie.Need-returns-2
 returns-2 c = reach-along _ (c .before .before .is-tri .ensures) (c .before .before .before .if1 .taken) (c .if2 .left)
-
-is-honey-requires : tie.Need-is-honey-requires
-is-honey-requires c κs = search needs
-
-sub-result : tie.Need-sub-result
-sub-result c = search needs
 
 returns-3 : tie.Need-returns-3
 returns-3 c = reach-round _ (c .before .before .is-honey .ensures) (c .before .before .before .if1 .left) (c .if3 .taken)
@@ -34,11 +25,4 @@ pub reach-spec : {M : Type 1} → statement M
 reach-spec =
     tie.close
     (tie.spec
-    is-tri-requires
-    add-result
-    returns
-    returns-2
-    is-honey-requires
-    sub-result
-    returns-3
-    returns-4)
+    (λ c κs. search needs) add-result returns returns-2 (λ c κs. search needs) (λ c. search needs) returns-3 returns-4)

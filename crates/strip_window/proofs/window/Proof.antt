@@ -1,10 +1,10 @@
 -- The checks in order; the window is the reach.
 use native.Mathlib.Omega.{arith}
 use mathlib.Core.Path.{refl, sym, _∙_}
-use Rattle.strip.specs.Sides.{sides-passed}
+use Rattle.strip.specs.Laws.Sides.{sides-passed}
 use Rattle.strip_window.specs.WindowLaw.{window-is}
-use Rattle.checks.specs.First.{here, past, told}
-use Rattle.checks.specs.Answers.{refused-is, number-is}
+use Rattle.refusals.specs.Laws.First.{here, past, told}
+use Rattle.refusals.specs.Laws.Answers.{refused-is, number-is}
 use borrow.Author.Needs.{needs}
 use Rattle.strip_window.proofs.window.Statement.{statement}
 use Rattle.strip_window.proofs.window.Tie as tie

@@ -1,8 +1,8 @@
 -- Each sweep leaves what the other kept.
 use mathlib.Core.Path.{_∙_}
 use borrow.Author.Needs.{needs}
-use Rattle.vertex.specs.Ready.{tail-factors}
-use Rattle.sweeps.proofs.Frames.{since-forward, since-backward}
+use Rattle.vertex_step.specs.Laws.Ready.{tail-factors}
+use Rattle.sweep_places.proofs.Frames.{since-forward, since-backward}
 use Rattle.sweeps.proofs.sweep.Statement.{statement}
 use Rattle.sweeps.proofs.sweep.Tie as tie
 

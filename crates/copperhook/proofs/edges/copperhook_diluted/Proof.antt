@@ -1,30 +1,12 @@
 -- What the answer that was told says, for the strip that the numbers name.
 use lib.ListN.{length}
-use Rattle.bonds.specs.Edges.{edges}
-use Rattle.dilution.specs.Diluted.{dilution, magnitudes, dilutedRefusal}
-use Rattle.numbered.specs.Kinds.{stripNumbered}
+use Rattle.strip_bonds.specs.Edges.{edges}
+use Rattle.strip_dilution.specs.Diluted.{dilution, magnitudes, dilutedRefusal}
+use Rattle.c_values.specs.Kinds.{stripNumbered}
 use Rattle.copperhook.proofs.Told.{edges-told}
 use borrow.Author.Needs.{needs}
 use Rattle.copperhook.proofs.edges.copperhook_diluted.Statement.{statement}
 use Rattle.copperhook.proofs.edges.copperhook_diluted.Tie as tie
-
-strip-numbered-requires : tie.Need-strip-numbered-requires
-strip-numbered-requires c κs = search needs
-
-diluted-requires : tie.Need-diluted-requires
-diluted-requires c κs = search needs
-
-tell-number-requires : tie.Need-tell-number-requires
-tell-number-requires c κs = search needs
-
-same-length : tie.Need-same-length
-same-length c = search needs
-
-same-length-2 : tie.Need-same-length-2
-same-length-2 c = search needs
-
-same-length-3 : tie.Need-same-length-3
-same-length-3 c = search needs
 
 returns : tie.Need-returns
 returns c =
@@ -38,10 +20,5 @@ pub copperhook-diluted-spec : {M : Type 1} → statement M
 copperhook-diluted-spec =
     tie.close
     (tie.spec
-    strip-numbered-requires
-    diluted-requires
-    tell-number-requires
-    same-length
-    same-length-2
-    same-length-3
+    (λ c κs. search needs) (λ c κs. search needs) (λ c κs. search needs) (λ c. search needs) (λ c. search needs) (λ c. search needs)
     returns)

@@ -1,29 +1,11 @@
 -- What the answer that was told says, for the strip that the numbers name.
-use Rattle.bonds.specs.Edges.{edges, unitMagnitudes}
-use Rattle.raw_edges.specs.RawEdges.{rawRefusal}
-use Rattle.numbered.specs.Kinds.{stripNumbered}
+use Rattle.strip_bonds.specs.Edges.{edges, unitMagnitudes}
+use Rattle.strip_edges.specs.RawEdges.{rawRefusal}
+use Rattle.c_values.specs.Kinds.{stripNumbered}
 use Rattle.copperhook.proofs.Told.{edges-told}
 use borrow.Author.Needs.{needs}
 use Rattle.copperhook.proofs.edges.copperhook_raw_edges.Statement.{statement}
 use Rattle.copperhook.proofs.edges.copperhook_raw_edges.Tie as tie
-
-strip-numbered-requires : tie.Need-strip-numbered-requires
-strip-numbered-requires c κs = search needs
-
-raw-edges-requires : tie.Need-raw-edges-requires
-raw-edges-requires c κs = search needs
-
-tell-number-requires : tie.Need-tell-number-requires
-tell-number-requires c κs = search needs
-
-same-length : tie.Need-same-length
-same-length c = search needs
-
-same-length-2 : tie.Need-same-length-2
-same-length-2 c = search needs
-
-same-length-3 : tie.Need-same-length-3
-same-length-3 c = search needs
 
 returns : tie.Need-returns
 returns c =
@@ -37,10 +19,5 @@ pub copperhook-raw-edges-spec : {M : Type 1} → statement M
 copperhook-raw-edges-spec =
     tie.close
     (tie.spec
-    strip-numbered-requires
-    raw-edges-requires
-    tell-number-requires
-    same-length
-    same-length-2
-    same-length-3
+    (λ c κs. search needs) (λ c κs. search needs) (λ c κs. search needs) (λ c. search needs) (λ c. search needs) (λ c. search needs)
     returns)

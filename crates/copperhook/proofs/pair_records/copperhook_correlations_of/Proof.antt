@@ -38,24 +38,24 @@ use denote.Triple.Table.{entered, cited}
 use denote.Triple.Walked.{says, Stay, Stays, stay-dropped, gave-slice, walkOf, Silent, Goes, goes-dropped, goes-gave-slice, Walks, ends-at, walked, walk-meets}
 use denote.Exit.{yes}
 use denote.Triple.Clauses.{ensured, lasts, Lasts}
-use Rattle.records.specs.Columns.{firsts, seconds, firstEnds, secondEnds, mostCopied, gathered}
-use Rattle.records.specs.Held.{few-held}
-use Rattle.records.specs.Uncopied.{answered}
-use Rattle.records.specs.declared.Pair.{Pair}
-use Rattle.records.specs.declared.Ends.{Ends}
-use Rattle.records.proofs.Pair as P
-use Rattle.records.proofs.Ends as E
-use Rattle.records.proofs.Ends.Laws as E′
-use Rattle.records.proofs.gather as gather
-use Rattle.records.proofs.gather.Symbol as gather-def
-use Rattle.records.proofs.gather.Symbol.{name as #records·gather}
-use Rattle.records.proofs.gather.Met as gather-thm
-use Rattle.glass.specs.Correlations.{Correlated}
-use Rattle.numbered.specs.Manners.{mannerNumbered}
-use Rattle.between.proofs.correlations_between as between
-use Rattle.between.proofs.correlations_between.Symbol as between-def
-use Rattle.between.proofs.correlations_between.Symbol.{name as #between·between}
-use Rattle.between.proofs.correlations_between.Met as between-thm
+use Rattle.c_pair_records.specs.Columns.{firsts, seconds, firstEnds, secondEnds, mostCopied, gathered}
+use Rattle.c_pair_records.specs.Laws.Held.{few-held}
+use Rattle.c_pair_records.specs.Laws.Uncopied.{answered}
+use Rattle.c_pair_records.specs.declared.Pair.{Pair}
+use Rattle.c_pair_records.specs.declared.Ends.{Ends}
+use Rattle.c_pair_records.proofs.Pair as P
+use Rattle.c_pair_records.proofs.Ends as E
+use Rattle.c_pair_records.proofs.Ends.Laws as E′
+use Rattle.c_pair_records.proofs.gather as gather
+use Rattle.c_pair_records.proofs.gather.Symbol as gather-def
+use Rattle.c_pair_records.proofs.gather.Symbol.{name as #c-pair-records·gather}
+use Rattle.c_pair_records.proofs.gather.Met as gather-thm
+use Rattle.entry_correlations.specs.Correlations.{Correlated}
+use Rattle.c_values.specs.Manners.{mannerNumbered}
+use Rattle.c_correlations.proofs.correlations_between as between
+use Rattle.c_correlations.proofs.correlations_between.Symbol as between-def
+use Rattle.c_correlations.proofs.correlations_between.Symbol.{name as #c-correlations·between}
+use Rattle.c_correlations.proofs.correlations_between.Met as between-thm
 use Rattle.copperhook.proofs.pair_records.copperhook_correlations_of.Key.{name as #copperhook·of}
 use Rattle.copperhook.proofs.pair_records.copperhook_correlations_of as f
 use Rattle.copperhook.proofs.pair_records.copperhook_correlations_of.Statement as stated
@@ -236,8 +236,8 @@ module _ {M : Type 1} (𝓤 : URA M) (H : Heap 𝓤) (A : Atoms 𝓤) (W : Given
       nothing ! $ fjoin ! $ nothing ! $ fjoin ! $
       frame ! $ done !
 
-  module _ (C : Calls 𝓤 H) (Λ : Loops 𝓤 H) (fm : FmC 𝓤 H (W .laws) C) (known-gather : Triple 𝓤 (C #records·gather) (Gather 𝓤 H A mem run))
-      (known-between : Triple 𝓤 (C #between·between) (Between 𝓤 H A mem run))
+  module _ (C : Calls 𝓤 H) (Λ : Loops 𝓤 H) (fm : FmC 𝓤 H (W .laws) C) (known-gather : Triple 𝓤 (C #c-pair-records·gather) (Gather 𝓤 H A mem run))
+      (known-between : Triple 𝓤 (C #c-correlations·between) (Between 𝓤 H A mem run))
       (gn : n < 2 ^ 64) (gf : floor < 2 ^ 64) (gm : manner < 2 ^ 64) (ra : Room usize (length (now a))) (rb : Room usize (length (now b)))
       (rm : Room f64 (length (now m))) (rp : Room P.the-row (length (now pairs)))
       (rf : Room f64 (length (now factors))) (rr : Room f64 (length (now results))) (rw′ : Room f64 (length (now work))) where
@@ -319,8 +319,8 @@ module _ {M : Type 1} (𝓤 : URA M) (H : Heap 𝓤) (A : Atoms 𝓤) (W : Given
         (now pairs) e g d) lr lw))))))))))))))))))))))))))))
 
 module _ {M : Type 1} (𝓤 : URA M) (H : Heap 𝓤) (A : Atoms 𝓤) (W : Given 𝓤 H A) (mem : Memory → SProp 𝓤) (run : Routine → Fun 𝓤) (𝓣 : Tables 𝓤 H)
-    (known-gather : Triple 𝓤 (𝓣 .C #records·gather) (Gather 𝓤 H A mem run))
-    (known-between : Triple 𝓤 (𝓣 .C #between·between) (Between 𝓤 H A mem run)) where
+    (known-gather : Triple 𝓤 (𝓣 .C #c-pair-records·gather) (Gather 𝓤 H A mem run))
+    (known-between : Triple 𝓤 (𝓣 .C #c-correlations·between) (Between 𝓤 H A mem run)) where
   abbrev body : Fun 𝓤
   body = WpFn 𝓤 H (𝓣 .C) (𝓣 .Λ) code.function
 
@@ -399,6 +399,6 @@ copperhook-correlations-of-spec 𝓤 H 𝓜 𝓖 𝓡 =
     entered 𝓤 H (tripleOf 𝓤 H (𝓖 .A) f.signature (f.spec 𝓤 H (𝓖 .A) (𝓜 .mem) (𝓡 .run)))
     (tables 𝓤 H 𝓜 𝓡 code.env .C) (tables 𝓤 H 𝓜 𝓡 code.env .Λ) #copperhook·of code.function (code.unfolded 𝓤 H 𝓜 𝓡)
     (meets 𝓤 H (𝓖 .A) (givenOf 𝓤 H 𝓜 𝓖) (𝓜 .mem) (𝓡 .run) (tablesOf 𝓤 H 𝓜 (tables 𝓤 H 𝓜 𝓡 code.env))
-    (cited 𝓤 H (Gather 𝓤 H (𝓖 .A) (𝓜 .mem) (𝓡 .run)) 𝓜 𝓡 code.env #records·gather gather-def.routine code.calls-records·gather
+    (cited 𝓤 H (Gather 𝓤 H (𝓖 .A) (𝓜 .mem) (𝓡 .run)) 𝓜 𝓡 code.env #c-pair-records·gather gather-def.routine code.calls-c-pair-records·gather
     (gather-thm.met 𝓤 H 𝓜 𝓖 𝓡))
-    (cited 𝓤 H (Between 𝓤 H (𝓖 .A) (𝓜 .mem) (𝓡 .run)) 𝓜 𝓡 code.env #between·between between-def.routine code.calls-between·correlations-between (between-thm.met 𝓤 H 𝓜 𝓖 𝓡)))
+    (cited 𝓤 H (Between 𝓤 H (𝓖 .A) (𝓜 .mem) (𝓡 .run)) 𝓜 𝓡 code.env #c-correlations·between between-def.routine code.calls-c-correlations·correlations-between (between-thm.met 𝓤 H 𝓜 𝓖 𝓡)))

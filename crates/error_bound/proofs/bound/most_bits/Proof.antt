@@ -3,7 +3,7 @@ use mathlib.Core.Path.{sym}
 use Prim.Native.Nat.{_+_, _*_, _-_, _/_, _≤_}
 use native.Mathlib.Omega.{arith}
 use native.Mathlib.Nat.{min-eq-left, min-eq-right}
-use Rattle.error_bound.specs.Margin.{divisor-small}
+use Rattle.error_bound.specs.Laws.Margin.{divisor-small}
 use borrow.Author.Needs.{needs}
 use Rattle.error_bound.proofs.bound.most_bits.Statement.{statement}
 use Rattle.error_bound.proofs.bound.most_bits.Tie as tie

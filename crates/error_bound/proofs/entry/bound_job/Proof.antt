@@ -1,75 +1,38 @@
 -- A job that 1 to 7 pass, then its factors and the bound.
 use native.Mathlib.Omega.{arith}
-use Rattle.kept.specs.Fronts.{front-early, front-late, early-part, late-part, early-fits, late-fits}
-use Rattle.error_bound.specs.Parts.{refused, answered}
+use Rattle.kept_edges.specs.Laws.Fronts.{front-early, front-late, early-part, late-part, early-fits, late-fits}
+use Rattle.error_bound.specs.Laws.Parts.{refused, answered}
 use borrow.Author.Needs.{needs}
 use Rattle.error_bound.proofs.entry.bound_job.Statement.{statement}
 use Rattle.error_bound.proofs.entry.bound_job.Tie as tie
-use Rattle.error_bound.proofs.entry.bound_job.Reads as reads
-use Rattle.error_bound.proofs.entry.bound_job.Lts as lts
-use Rattle.error_bound.proofs.entry.bound_kept.Reads as bound-kept-reads
-use Rattle.error_bound.proofs.entry.factor_count.Reads as factor-count-reads
-use Rattle.refuse.proofs.check_with_betas.Reads as check-with-betas-reads
 
--- src/entry.rt:74:9
-slice-aggregate-check-with-betas : tie.Need-slice-aggregate-check-with-betas
-slice-aggregate-check-with-betas c = search needs
-
--- src/entry.rt:75:9
-slice-aggregate-check-with-betas-2 : tie.Need-slice-aggregate-check-with-betas-2
-slice-aggregate-check-with-betas-2 c = search needs
-
--- src/entry.rt:77:9
-slice-aggregate-check-with-betas-3 : tie.Need-slice-aggregate-check-with-betas-3
-slice-aggregate-check-with-betas-3 c = search needs
-
--- src/entry.rt:78:9
-slice-aggregate-check-with-betas-4 : tie.Need-slice-aggregate-check-with-betas-4
-slice-aggregate-check-with-betas-4 c = search needs
-
--- src/entry.rt:79:9
-slice-aggregate-check-with-betas-5 : tie.Need-slice-aggregate-check-with-betas-5
-slice-aggregate-check-with-betas-5 c = search needs
-
--- src/entry.rt:68:9
-check-with-betas-requires : tie.Need-check-with-betas-requires
-check-with-betas-requires c κs = search needs
-
--- src/entry.rt:83:9
 returns : tie.Need-returns
 returns c =
     let x = c .before .before .before .before .before .before .before .before .before .before .before .before .before .before .before .args in
     refused (x .n) (x .floor) (x .a .now) (x .b .now) (x .m .now) (x .betas .now) (x .factors .now) (x .signed) (c .before .before .before .before .check-with-betas .ensures .refusal) (λ z. omega arith)
 
--- src/entry.rt:87:9
 factor-count-requires : tie.Need-factor-count-requires
 factor-count-requires c κs =
     let j = c .before .before .before .before .check-with-betas .ensures in
     (j .betas-pass (omega arith) .few, j .ready (omega arith) .few-edges)
 
--- src/entry.rt:88:22
 array-share-prefix-early : tie.Need-array-share-prefix-early
 array-share-prefix-early c = early-fits (c .before .before .before .before .before .check-with-betas .ensures .ready (omega arith) .written)
 
--- src/entry.rt:88:22
 slice-aggregate-bound-kept : tie.Need-slice-aggregate-bound-kept
 slice-aggregate-bound-kept c = early-part (c .before .before .before .before .before .before .check-with-betas .ensures .ready (omega arith) .written)
 
--- src/entry.rt:88:39
 array-share-prefix-late : tie.Need-array-share-prefix-late
 array-share-prefix-late c = late-fits (c .before .before .before .before .before .before .check-with-betas .ensures .ready (omega arith) .written)
 
--- src/entry.rt:88:39
 slice-aggregate-bound-kept-2 : tie.Need-slice-aggregate-bound-kept-2
 slice-aggregate-bound-kept-2 c = late-part (c .before .before .before .before .before .before .before .check-with-betas .ensures .ready (omega arith) .written)
 
--- src/entry.rt:88:5
 bound-kept-requires : tie.Need-bound-kept-requires
 bound-kept-requires c κs =
     let g = c .before .before .before .before .before .before .before .check-with-betas .ensures .ready (omega arith) in
     rw (front-early (g .written), front-late (g .written)) (g .edges, g .near)
 
--- src/entry.rt:53:1
 returns-2 : tie.Need-returns-2
 returns-2 c =
     let j = c .before .before .before .before .before .before .before .before .check-with-betas .ensures in
@@ -81,17 +44,6 @@ pub bound-job-spec : {M : Type 1} → statement M
 bound-job-spec =
     tie.close
     (tie.spec
-    slice-aggregate-check-with-betas
-    slice-aggregate-check-with-betas-2
-    slice-aggregate-check-with-betas-3
-    slice-aggregate-check-with-betas-4
-    slice-aggregate-check-with-betas-5
-    check-with-betas-requires
-    returns
-    factor-count-requires
-    array-share-prefix-early
-    slice-aggregate-bound-kept
-    array-share-prefix-late
-    slice-aggregate-bound-kept-2
-    bound-kept-requires
-    returns-2)
+    (λ c. search needs) (λ c. search needs) (λ c. search needs) (λ c. search needs) (λ c. search needs) (λ c κs. search needs) returns
+    factor-count-requires array-share-prefix-early slice-aggregate-bound-kept array-share-prefix-late slice-aggregate-bound-kept-2
+    bound-kept-requires returns-2)

@@ -9,19 +9,15 @@ use Rattle.error_bound.proofs.entry.factor_count.Tie as tie
 use Rattle.error_bound.proofs.entry.factor_count.Reads as reads
 use Rattle.error_bound.proofs.entry.factor_count.Lts as lts
 
--- src/entry.rt:48:21
 mul-result : tie.Need-mul-result
 mul-result c = let q : c .before .args .betas * c .before .args .edges ≤ 64 * 4096 = mul-le-mul (c .before .pre .0) (c .before .pre .1) in record { fits = omega arith }
 
--- src/entry.rt:48:16
 mul-result-2 : tie.Need-mul-result-2
 mul-result-2 c = let q : c .before .args .betas * c .before .args .edges ≤ 64 * 4096 = mul-le-mul (c .before .pre .0) (c .before .pre .1) in record { fits = omega arith }
 
--- src/entry.rt:48:9
 returns : tie.Need-returns
 returns c = let e = c .if1 .taken in rw e
 
--- src/entry.rt:43:1
 returns-2 : tie.Need-returns-2
 returns-2 c = let e = c .if1 .left in rw e
 

@@ -3,15 +3,12 @@ use mathlib.Core.Path.{_≡_, sym, _∙_}
 use Prim.Native.Nat.{_-_, _≤_}
 use native.Mathlib.Nat.{max-eq-left, max-eq-right}
 use native.Mathlib.Omega.{arith}
-use Rattle.vector.specs.Most as M
-use Rattle.vector.specs.Most.{most-more, most-zero}
-use Rattle.plan.specs.Layout.{nearCount}
+use Rattle.list_laws.specs.Most as M
+use Rattle.list_laws.specs.Laws.Most.{most-more, most-zero}
+use Rattle.plan_steps.specs.Layout.{nearCount}
 use borrow.Author.Needs.{needs}
 use Rattle.error_bound.proofs.near.most_planned.Statement.{statement}
 use Rattle.error_bound.proofs.near.most_planned.Tie as tie
-use Rattle.error_bound.proofs.near.most_planned.Reads as reads
-use Rattle.error_bound.proofs.near.most_planned.Lts as lts
-use Rattle.plan.proofs.near_count.Reads as near-count-reads
 
 abbrev Inv-loop : tie.InvT-loop
 Inv-loop plan n near₀ t₀ near t = (near ≡ M.most (nearCount plan) t) × (t ≤ n)
@@ -19,23 +16,9 @@ Inv-loop plan n near₀ t₀ near t = (near ≡ M.most (nearCount plan) t) × (t
 abbrev μ-loop : tie.MeasureT-loop
 μ-loop plan n near₀ t₀ near t = n - t
 
--- src/near.rt:23:5
 loop-holds : tie.Need-loop-holds Inv-loop μ-loop
 loop-holds c = (sym (most-zero _), omega arith)
 
--- src/near.rt:24:13
-near-count-requires : tie.Need-near-count-requires Inv-loop μ-loop
-near-count-requires c κs = search needs
-
--- src/near.rt:25:9
-add-t : tie.Need-add-t Inv-loop μ-loop
-add-t c = search needs
-
--- src/near.rt:23:5
-loop-less : tie.Need-loop-less Inv-loop μ-loop
-loop-less c = search needs
-
--- src/near.rt:23:5
 loop-again : tie.Need-loop-again Inv-loop μ-loop
 loop-again c =
     let l = c .before .before .before .loop in
@@ -43,11 +26,6 @@ loop-again c =
     let h = c .if1 .taken in
     (most-more (nearCount (c .before .before .before .before .before .args .plan .now)) (l .t) (l .near) (c .before .near-count .result) (l .inv .0) (e ∙ sym (max-eq-right (omega arith))), omega arith)
 
--- src/near.rt:23:5
-loop-less-2 : tie.Need-loop-less-2 Inv-loop μ-loop
-loop-less-2 c = search needs
-
--- src/near.rt:23:5
 loop-again-2 : tie.Need-loop-again-2 Inv-loop μ-loop
 loop-again-2 c =
     let l = c .before .before .before .loop in
@@ -55,7 +33,6 @@ loop-again-2 c =
     let h = c .if1 .left in
     (most-more (nearCount (c .before .before .before .before .before .args .plan .now)) (l .t) (l .near) (l .near) (l .inv .0) (sym (max-eq-left (omega arith))), omega arith)
 
--- src/near.rt:17:1
 returns : tie.Need-returns Inv-loop μ-loop
 returns c = let e : c .before .loop .t ≡ c .before .before .before .args .n = omega arith in rw (← e) (c .before .loop .inv .0)
 
@@ -63,13 +40,5 @@ pub most-planned-spec : {M : Type 1} → statement M
 most-planned-spec =
     tie.close
     (tie.spec
-    Inv-loop
-    μ-loop
-    loop-holds
-    near-count-requires
-    add-t
-    loop-less
-    loop-again
-    loop-less-2
-    loop-again-2
+    Inv-loop μ-loop loop-holds (λ c κs. search needs) (λ c. search needs) (λ c. search needs) loop-again (λ c. search needs) loop-again-2
     returns)

@@ -1,7 +1,7 @@
 -- The definition in the code's own operations.
 use mathlib.Core.Path.{ap, _∙_}
 use lib.Ieee.{Float, binary64, div}
-use Rattle.root.specs.Sqrt.{sqrt}
+use Rattle.sqrt.specs.Sqrt.{sqrt}
 use borrow.Author.Needs.{needs}
 use Rattle.estimate.proofs.error.error_of.Statement.{statement}
 use Rattle.estimate.proofs.error.error_of.Tie as tie

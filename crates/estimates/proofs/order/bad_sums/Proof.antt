@@ -1,14 +1,15 @@
 -- A search for a place out of order, once the count is known to be a double.
 use mathlib.Core.Path.{_≡_, sym, ap, _∙_}
-use mathlib.Core.Bool.{Bool, false, not}
+use mathlib.Core.Bool.{false, not}
 use Prim.Native.Nat.{_-_, _≤_}
 use native.Mathlib.Omega.{arith}
 use lib.ListN.{length}
 use borrow.Author.Needs.{needs}
-use Rattle.rounding.specs.Scaled.{castable}
-use Rattle.vector.specs.Search.{some, start, hit, miss, none}
+use Rattle.rounding.specs.Laws.Scaled.{castable}
+use Rattle.list_laws.specs.Search.{some}
+use Rattle.list_laws.specs.Laws.Search.{start, hit, miss, none}
 use Rattle.estimate.specs.Estimates.{badCount}
-use Rattle.estimate.specs.Counted.{few-enough}
+use Rattle.estimate.specs.Laws.Counted.{few-enough}
 use Rattle.estimates.proofs.Sums.{disordered, of-count, of-places}
 use Rattle.estimates.proofs.order.bad_sums.Statement.{statement}
 use Rattle.estimates.proofs.order.bad_sums.Tie as tie
@@ -22,9 +23,6 @@ abbrev μ-loop : tie.MeasureT-loop
 counted : (c : tie.Else1 Inv-loop μ-loop) → badCount (c .before .before .before .before .args .count) ≡ false
 counted c = sym (c .before .bad-count .ensures) ∙ c .if1 .left
 
-bad-count-requires : tie.Need-bad-count-requires Inv-loop μ-loop
-bad-count-requires c κs = search needs
-
 returns : tie.Need-returns Inv-loop μ-loop
 returns c = let a = c .before .before .before .before .args in of-count (a .count) (a .squares .now) (a .fourths .now) (sym (c .before .bad-count .ensures) ∙ c .if1 .taken)
 
@@ -34,33 +32,12 @@ int-to-float-n c = castable (few-enough (c .before .before .before .before .befo
 loop-holds : tie.Need-loop-holds Inv-loop μ-loop
 loop-holds c = (omega arith, start _)
 
-mul-in-order : tie.Need-mul-in-order Inv-loop μ-loop
-mul-in-order c = search needs
-
-shared-slice-read-in-order : tie.Need-shared-slice-read-in-order Inv-loop μ-loop
-shared-slice-read-in-order c = search needs
-
-mul-in-order-2 : tie.Need-mul-in-order-2 Inv-loop μ-loop
-mul-in-order-2 c = search needs
-
-shared-slice-read-in-order-2 : tie.Need-shared-slice-read-in-order-2 Inv-loop μ-loop
-shared-slice-read-in-order-2 c = search needs
-
-in-order-requires : tie.Need-in-order-requires Inv-loop μ-loop
-in-order-requires c κs = search needs
-
 returns-2 : tie.Need-returns-2 Inv-loop μ-loop
 returns-2 c =
     let a = c .before .before .before .before .before .before .before .before .before .before .before .args in
     of-places (a .count) (a .squares .now) (a .fourths .now) (counted (c .before .before .before .before .before .before .before)) _
     (hit (disordered (a .count) (a .squares .now) (a .fourths .now)) (length (a .squares .now)) (c .before .before .before .before .before .loop .i) (omega arith) _
     (ap not (c .before .in-order .ensures)) (c .if2 .taken))
-
-add-i : tie.Need-add-i Inv-loop μ-loop
-add-i c = search needs
-
-loop-less : tie.Need-loop-less Inv-loop μ-loop
-loop-less c = search needs
 
 loop-again : tie.Need-loop-again Inv-loop μ-loop
 loop-again c =
@@ -81,19 +58,5 @@ pub bad-sums-spec : {M : Type 1} → statement M
 bad-sums-spec =
     tie.close
     (tie.spec
-    Inv-loop
-    μ-loop
-    bad-count-requires
-    returns
-    int-to-float-n
-    loop-holds
-    mul-in-order
-    shared-slice-read-in-order
-    mul-in-order-2
-    shared-slice-read-in-order-2
-    in-order-requires
-    returns-2
-    add-i
-    loop-less
-    loop-again
-    returns-3)
+    Inv-loop μ-loop (λ c κs. search needs) returns int-to-float-n loop-holds (λ c. search needs) (λ c. search needs) (λ c. search needs)
+    (λ c. search needs) (λ c κs. search needs) returns-2 (λ c. search needs) (λ c. search needs) loop-again returns-3)

@@ -16,23 +16,11 @@ abbrev μ-loop : tie.MeasureT-loop
 loop-holds : tie.Need-loop-holds Inv-loop μ-loop
 loop-holds c = record { kept = kept-refl (c .pre .0); below = c .pre .1; same = refl }
 
-mul-y : tie.Need-mul-y Inv-loop μ-loop
-mul-y c = omega arith
-
-slice-read-y : tie.Need-slice-read-y Inv-loop μ-loop
-slice-read-y c = omega arith
-
 mul-z : tie.Need-mul-z Inv-loop μ-loop
 mul-z c = omega (arith, parent-inside (c .before .before .loop .inv))
 
 slice-read-z : tie.Need-slice-read-z Inv-loop μ-loop
 slice-read-z c = parent-inside (c .before .before .before .loop .inv)
-
-mul-p : tie.Need-mul-p Inv-loop μ-loop
-mul-p c = omega arith
-
-slice-write-p : tie.Need-slice-write-p Inv-loop μ-loop
-slice-write-p c = omega arith
 
 loop-again : tie.Need-loop-again Inv-loop μ-loop
 loop-again c = turn (c .before .before .before .loop .inv) (c .before .if1 .left)
@@ -50,16 +38,5 @@ pub find-spec : {M : Type 1} → statement M
 find-spec =
     tie.close
     (tie.spec
-    Inv-loop
-    μ-loop
-    loop-holds
-    mul-y
-    slice-read-y
-    mul-z
-    slice-read-z
-    mul-p
-    slice-write-p
-    loop-less
-    loop-again
-    same-length
-    returns)
+    Inv-loop μ-loop loop-holds (λ c. omega arith) (λ c. omega arith) mul-z slice-read-z (λ c. omega arith) (λ c. omega arith) loop-less
+    loop-again same-length returns)

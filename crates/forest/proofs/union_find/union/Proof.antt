@@ -4,26 +4,11 @@ use Rattle.forest.proofs.Hang.{one-set, two-sets}
 use Rattle.forest.proofs.union_find.union.Statement.{statement}
 use Rattle.forest.proofs.union_find.union.Tie as tie
 
-find-requires : tie.Need-find-requires
-find-requires c κs = search needs
-
-find-requires-2 : tie.Need-find-requires-2
-find-requires-2 c κs = search needs
-
-same-length : tie.Need-same-length
-same-length c = search needs
-
 returns : tie.Need-returns
 returns c =
     let s = c .before .before .before .before .before .before .before .before .before .before in
     let f = c .before .before .before in
     one-set (s .pre .1) (s .pre .2) (f .before .before .before .before .find .ensures) (f .find2 .ensures) (c .if1 .taken)
-
-mul-p : tie.Need-mul-p
-mul-p c = search needs
-
-slice-write-p : tie.Need-slice-write-p
-slice-write-p c = search needs
 
 returns-2 : tie.Need-returns-2
 returns-2 c =
@@ -38,11 +23,5 @@ pub union-spec : {M : Type 1} → statement M
 union-spec =
     tie.close
     (tie.spec
-    find-requires
-    find-requires-2
-    same-length
-    returns
-    mul-p
-    slice-write-p
-    same-length-2
+    (λ c κs. search needs) (λ c κs. search needs) (λ c. search needs) returns (λ c. search needs) (λ c. search needs) same-length-2
     returns-2)

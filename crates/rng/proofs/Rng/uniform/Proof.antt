@@ -2,8 +2,9 @@
 use native.Mathlib.Omega.{arith}
 use Prim.Native.Nat.{_/_, _^_}
 use mathlib.Core.Path.{ap}
-use Rattle.rounding.specs.Scaled.{times-ulp, castable}
-use Rattle.rng.specs.Uniform.{unit, unit-exact, top-lt}
+use Rattle.rounding.specs.Laws.Scaled.{times-ulp, castable}
+use Rattle.rng.specs.Uniform.{unit}
+use Rattle.rng.specs.Laws.Uniform.{unit-exact, top-lt}
 use borrow.Author.Needs.{needs}
 use Rattle.rng.proofs.Rng.uniform.Statement.{statement}
 use Rattle.rng.proofs.Rng.uniform.Tie as tie

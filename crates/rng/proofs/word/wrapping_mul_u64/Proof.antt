@@ -11,17 +11,8 @@ mul-mid c = record { fits = digits-fit (search needs) (search needs) }
 mul-mid-2 : tie.Need-mul-mid-2
 mul-mid-2 c = record { fits = digits-fit (search needs) (search needs) }
 
-add-mid : tie.Need-add-mid
-add-mid c = search needs
-
 mul-wrapping-add-u64 : tie.Need-mul-wrapping-add-u64
 mul-wrapping-add-u64 c = record { fits = digits-fit (search needs) (search needs) }
-
-mul-wrapping-add-u64-2 : tie.Need-mul-wrapping-add-u64-2
-mul-wrapping-add-u64-2 c = search needs
-
-wrapping-add-u64-requires : tie.Need-wrapping-add-u64-requires
-wrapping-add-u64-requires c κs = search needs
 
 returns : tie.Need-returns
 returns c = c .wrapping-add-u64 .ensures ∙ by-halves (c .before .args .a) (c .before .args .b)
@@ -30,10 +21,4 @@ pub wrapping-mul-u64-spec : {M : Type 1} → statement M
 wrapping-mul-u64-spec =
     tie.close
     (tie.spec
-    mul-mid
-    mul-mid-2
-    add-mid
-    mul-wrapping-add-u64
-    mul-wrapping-add-u64-2
-    wrapping-add-u64-requires
-    returns)
+    mul-mid mul-mid-2 (λ c. search needs) mul-wrapping-add-u64 (λ c. search needs) (λ c κs. search needs) returns)

@@ -1,8 +1,8 @@
 use native.Mathlib.Omega.{arith}
 use mathlib.Core.Path.{refl}
-use Rattle.checks.specs.First.{here, past, told}
-use Rattle.strip.specs.Sides.{sides-passed}
-use Rattle.checks.specs.Answers.{refused-is, number-is}
+use Rattle.refusals.specs.Laws.First.{here, past, told}
+use Rattle.strip.specs.Laws.Sides.{sides-passed}
+use Rattle.refusals.specs.Laws.Answers.{refused-is, number-is}
 use borrow.Author.Needs.{needs}
 use Rattle.strip.proofs.strip.Strip.n.Statement.{statement}
 use Rattle.strip.proofs.strip.Strip.n.Tie as tie
@@ -11,19 +11,15 @@ use Rattle.strip.proofs.strip.Strip.n.Lts as lts
 use Rattle.strip.proofs.refuse.bad_sides.Reads as bad-sides-reads
 use Rattle.strip.proofs.strip.vertex_count.Reads as vertex-count-reads
 
--- src/vertices.rt:27:12
 bad-sides-requires : tie.Need-bad-sides-requires
 bad-sides-requires c κs = search needs
 
--- src/vertices.rt:28:13
 returns : tie.Need-returns
 returns c = refused-is _ _ _ (here _ _ _ (told (c .before .bad-sides .ensures) (c .if1 .taken))) (λ z. omega arith)
 
--- src/vertices.rt:30:24
 vertex-count-requires : tie.Need-vertex-count-requires
 vertex-count-requires c κs = sides-passed _ _ (told (c .before .bad-sides .ensures) (c .if1 .left)) .few
 
--- src/vertices.rt:24:5
 returns-2 : tie.Need-returns-2
 returns-2 c = number-is 0 _ _ _ (past _ _ _ _ (told (c .before .before .bad-sides .ensures) (c .before .if1 .left)) refl) refl (c .vertex-count .ensures)
 

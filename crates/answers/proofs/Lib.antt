@@ -1,6 +1,0 @@
--- Laws that the proofs share.
-mod Propagation
-mod PairLaws
-mod Turns
-mod Answering
-mod Two

@@ -1,4 +1,0 @@
-pub mod Edges
-pub mod Square
-pub mod Bonds
-pub mod Sites

@@ -1,0 +1,24 @@
+// An estimate through references.
+ghost use Rattle.c_values.specs.Estimated.{Tells};
+use estimate::Estimate;
+
+// `enough` tells whether there are two configurations or more. Then `mean` and `error` are written, for one only `mean`; where the call is
+// refused, all keep what they held.
+pub fn tell_estimate(answer: Estimate, enough: &mut bool, mean: &mut f64, error: &mut f64) -> usize
+    ensures { λ r. ⌜ Tells answer r (now (enough .entry)) (now (enough .exit)) (now (mean .entry)) (now (mean .exit)) (now (error .entry)) (now (error .exit)) ⌝ }
+{
+    match answer {
+        Estimate::Estimated(e) => {
+            *enough = true;
+            *mean = e.mean;
+            *error = e.error;
+            0
+        }
+        Estimate::TooFew(alone) => {
+            *enough = false;
+            *mean = alone;
+            0
+        }
+        Estimate::Refused(number) => number,
+    }
+}

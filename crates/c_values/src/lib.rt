@@ -1,0 +1,20 @@
+// What the numbers of a call over C name: a kind, a strip and a manner.
+mod bounds;
+mod distances;
+mod estimates;
+mod graphs;
+mod kinds;
+mod manners;
+mod numbers;
+mod vertices;
+
+pub use bounds::tell_bound;
+pub use distances::tell_distance;
+pub use estimates::tell_estimate;
+pub use graphs::tell_graph;
+pub use kinds::kind_numbered;
+pub use kinds::number_of;
+pub use kinds::strip_numbered;
+pub use manners::manner_numbered;
+pub use numbers::tell_number;
+pub use vertices::tell_vertex;

@@ -1,0 +1,56 @@
+// A graph's kept edges, as they are or turned, and its window and their number through references.
+ghost use mathlib.Core.Path.{_≡_};
+ghost use lib.ListN.{length};
+ghost use Rattle.refusals.specs.Edges.{kept};
+ghost use Rattle.refusals.specs.Request.{graphRequest};
+ghost use Rattle.refusals.specs.Refusal.{refusal, ofGraphWithBuffers};
+ghost use Rattle.graph_edges.specs.Graphs.{tooShort, rotate};
+ghost use Rattle.copperhook.specs.Graphs.{Listed};
+use c_values::tell_graph;
+use graph_edges::Graph;
+
+// As `Graph::new`; where the call is refused, `window` and `edges` keep what they held.
+#[no_mangle]
+pub extern "C" fn copperhook_graph(
+    n: usize,
+    floor: usize,
+    a: &[usize],
+    b: &[usize],
+    m: &[f64],
+    early: &mut [usize],
+    late: &mut [usize],
+    mag: &mut [f64],
+    window: &mut usize,
+    edges: &mut usize,
+) -> usize
+    ensures { λ r. ⌜ Listed (refusal ofGraphWithBuffers (graphRequest n (now (a .entry)) (now (b .entry)) (now (m .entry))
+        (tooShort (length (kept (now (a .entry)) (now (b .entry)) (now (m .entry)))) (now (early .entry)) (now (late .entry)) (now (mag .entry)))))
+        floor (kept (now (a .entry)) (now (b .entry)) (now (m .entry))) r (now (early .entry)) (now (early .exit)) (now (late .entry))
+        (now (late .exit)) (now (mag .entry)) (now (mag .exit)) (now (window .entry)) (now (window .exit)) (now (edges .entry)) (now (edges .exit)) ⌝ }
+{
+    let answer = Graph::new(n, floor, a, b, m, early, late, mag);
+    tell_graph(answer, window, edges)
+}
+
+// As `Graph::rotated`; where the call is refused, `window` and `edges` keep what they held.
+#[no_mangle]
+pub extern "C" fn copperhook_rotated(
+    n: usize,
+    floor: usize,
+    a: &[usize],
+    b: &[usize],
+    m: &[f64],
+    early: &mut [usize],
+    late: &mut [usize],
+    mag: &mut [f64],
+    window: &mut usize,
+    edges: &mut usize,
+) -> usize
+    ensures { λ r. ⌜ Listed (refusal ofGraphWithBuffers (graphRequest n (now (a .entry)) (now (b .entry)) (now (m .entry))
+        (tooShort (length (kept (now (a .entry)) (now (b .entry)) (now (m .entry)))) (now (early .entry)) (now (late .entry)) (now (mag .entry)))))
+        floor (rotate n (kept (now (a .entry)) (now (b .entry)) (now (m .entry)))) r (now (early .entry)) (now (early .exit)) (now (late .entry))
+        (now (late .exit)) (now (mag .entry)) (now (mag .exit)) (now (window .entry)) (now (window .exit)) (now (edges .entry)) (now (edges .exit)) ⌝ }
+{
+    let answer = Graph::rotated(n, floor, a, b, m, early, late, mag);
+    tell_graph(answer, window, edges)
+}

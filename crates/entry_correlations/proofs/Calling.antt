@@ -1,0 +1,130 @@
+-- A call's answer and lists, from what its checks answered and what the job said.
+use mathlib.Core.Path.{_≡_, refl, sym, ap, _∙_, subst}
+use mathlib.Core.Bool.{Bool, true, false, cond, not, _||_}
+use mathlib.Core.List.{List}
+use Prim.Native.Nat.{ℕ, zero, suc, _≤_, _<_}
+use native.Mathlib.Omega.{arith}
+use lib.Dec.{eqb}
+use lib.Ieee.{Float, nan}
+use lib.ListN.{length, getD, take, length-map}
+use borrow.Author.Tests.{ne-eqb}
+use Rattle.list_laws.specs.Front.{over}
+use Rattle.transfer_matrix.specs.Job as Job
+use Rattle.transfer_matrix.specs.Job.{Job, block, perElement}
+use Rattle.transfer_matrix.specs.Configuration.{jobOf}
+use Rattle.transfer_matrix.specs.Room.{room}
+use Rattle.transfer_matrix.specs.Rounded.{ieee}
+use Rattle.transfer_matrix.specs.Sweep as S
+use Rattle.refusals.specs.Edges.{kept, windowFrom, keptEarly, keptLate}
+use Rattle.refusals.specs.Request.{roomRequest, correlationRequest}
+use Rattle.refusals.specs.Refusal.{checks, refusal, ofRoom, ofLists, ofCorrelations}
+use Rattle.refusals.specs.Laws.Later.{orElse, is-among}
+use Rattle.refusals.specs.AcceptedJob.{listsRefusal}
+use Rattle.refusals.specs.Laws.AcceptedJob.{correlations-in-parts, accepted-lists}
+use Rattle.kept_edges.specs.Laws.Fronts.{front-early, front-late}
+use Rattle.job_checks.specs.Checked.{ReadyJob}
+use Rattle.job_checks.specs.Laws.Plannable.{edge-count, plannable}
+use Rattle.pair_correlations.specs.Sound.{unsound}
+use Rattle.job_run.specs.Zeros.{zeros}
+use Rattle.job_run.specs.Passed.{Passed, Finished}
+use Rattle.entry_correlations.specs.Correlations.{mannerOf, jobGiven, settled, cleared, Correlated}
+use Rattle.entry_correlations.specs.Laws.Settling.{settled-not, cleared-not, not-14}
+use Rattle.entry_correlations.specs.declared.Manner.{Manner}
+
+module _ (n floor : ℕ) (a b : List ℕ) (m : List Float) (us vs : List ℕ) (factors : List Float) (manner : Manner) (results work : List Float) where
+  abbrev job : Job Float
+  job = jobGiven n floor a b m factors manner
+
+  abbrev early-refusal : ℕ
+  early-refusal = refusal ofRoom (roomRequest n floor a b m us vs)
+
+  abbrev lists-refusal : ℕ
+  lists-refusal = listsRefusal n (windowFrom floor a b m) (length (kept a b m)) us vs factors (length results) (length work)
+
+  whole : refusal ofCorrelations (correlationRequest n floor a b m us vs factors (length results) (length work) (unsound job us vs))
+      ≡ orElse early-refusal (orElse lists-refusal (cond (unsound job us vs) 14 0))
+  whole = correlations-in-parts n floor a b m us vs factors (length results) (length work) (unsound job us vs)
+
+  -- refused by one of 1 to 8
+  pub refused-early : (r : ℕ) → r ≡ early-refusal → (r ≡ 0 → ⊥) → Correlated n floor a b m us vs factors manner r results results work work
+  refused-early r e z =
+      let q = not-14 ofRoom early-refusal refl (is-among ofRoom (roomRequest n floor a b m us vs) checks) in
+      record {
+        answer = go early-refusal e ∙ sym whole;
+        answers = settled-not r _ results z (λ p. q (sym e ∙ p));
+        memory = cleared-not r _ work z (λ p. q (sym e ∙ p));
+      }
+    where
+      go : (k : ℕ) → r ≡ k → r ≡ orElse k (orElse lists-refusal (cond (unsound job us vs) 14 0))
+      go zero p = absurd (z p)
+      go (suc k) p = p
+
+  -- by 10, 12 or 13
+  pub refused-lists : (r : ℕ) → 0 ≡ early-refusal → r ≡ lists-refusal → (r ≡ 0 → ⊥)
+      → Correlated n floor a b m us vs factors manner r results results work work
+  refused-lists r o e z =
+      let q = not-14 ofLists lists-refusal refl
+      (is-among ofLists (correlationRequest n floor a b m us vs factors (length results) (length work) false) checks) in
+      record {
+        answer = go lists-refusal e ∙ ap (λ (k : ℕ). orElse k (orElse lists-refusal (cond (unsound job us vs) 14 0))) o ∙ sym whole;
+        answers = settled-not r _ results z (λ p. q (sym e ∙ p));
+        memory = cleared-not r _ work z (λ p. q (sym e ∙ p));
+      }
+    where
+      go : (k : ℕ) → r ≡ k → r ≡ orElse k (cond (unsound job us vs) 14 0)
+      go zero p = absurd (z p)
+      go (suc k) p = p
+
+  -- by none of these: the job was finished
+  module _ (o : 0 ≡ early-refusal) (e : 0 ≡ lists-refusal) (results′ work′ : List Float) (fits : length results ≡ length us) where
+    late : (t : Bool) → unsound job us vs ≡ t → cond t 14 0 ≡ refusal ofCorrelations
+        (correlationRequest n floor a b m us vs factors (length results) (length work) (unsound job us vs))
+    late t p =
+        sym (ap (λ (x : Bool). cond x 14 0) p) ∙ ap (λ (k : ℕ). orElse k (cond (unsound job us vs) 14 0)) e
+        ∙ ap (λ (k : ℕ). orElse k (orElse lists-refusal (cond (unsound job us vs) 14 0))) o ∙ sym whole
+
+    turned : (s u : Bool) → s ≡ not u → u ≡ not s
+    turned true true p = p
+    turned true false p = refl
+    turned false true p = refl
+    turned false false p = p
+
+    pub accepted : Finished job n (length (kept a b m)) us vs true results′ work work′
+        → Correlated n floor a b m us vs factors manner 0 results results′ work work′
+    unfolding settled cleared
+    accepted g = record { answer = late false (turned true _ (g .told)); answers = g .answers; memory = g .memory }
+
+    pub refused-14 : Finished job n (length (kept a b m)) us vs false results′ work work′
+        → Correlated n floor a b m us vs factors manner 14 results results′ work work′
+    unfolding settled cleared
+    refused-14 g =
+        record { answer = late true (turned false _ (g .told)); answers = g .answers ∙ ap zeros (sym fits); memory = g .memory }
+
+-- ---- a job that passed the checks
+
+module _ {n floor : ℕ} {a b : List ℕ} {m : List Float} {us vs : List ℕ} {k w : ℕ} {early early′ late late′ : List ℕ} {mag mag′ : List Float}
+    (g : ReadyJob n floor a b m us vs k w early early′ late late′ mag mag′) where
+  pub lists-of : (factors : List Float) (results work : ℕ)
+      → listsRefusal n w k us vs factors results work ≡ listsRefusal n (windowFrom floor a b m) (length (kept a b m)) us vs factors results work
+  lists-of factors results work = rw (g .window, g .written .edges)
+
+  pub passed-of : (factors : List Float) (results work : ℕ) → listsRefusal n w k us vs factors results work ≡ 0
+      → Passed n w (take k early′) (take k late′) us vs factors results work
+  passed-of factors results work z =
+      let l = accepted-lists n w k us vs factors results work z in
+      rw (front-early (g .written))
+      record { job = rw (← front-early (g .written)) (plannable g work (l .enough)); factored = l .factor-count ∙ g .written .edges ∙ sym (edge-count g); fitting = l .fitting }
+
+  pub finished-of : (factors : List Float) (manner : Manner) (each sound : Bool) (results work work′ : List Float)
+      → cond each perElement block ≡ mannerOf manner
+      → Finished (jobOf nan n w (take k early′) (take k late′) factors (cond each perElement block)) n (length (take k early′)) us vs sound results work work′
+      → Finished (jobGiven n floor a b m factors manner) n (length (kept a b m)) us vs sound results work work′
+  finished-of factors manner each sound results work work′ e f =
+      let p : Finished (jobOf nan n w (keptEarly a b m) (keptLate a b m) factors (cond each perElement block))
+      n (length (keptEarly a b m)) us vs sound results work work′ = rw (← front-early (g .written), ← front-late (g .written)) f in
+      let q = subst (λ (v : ℕ). Finished (jobOf nan n v (keptEarly a b m) (keptLate a b m) factors (cond each perElement block))
+      n (length (keptEarly a b m)) us vs sound results work work′) (g .window) p in
+      let s = subst (λ (c : ℕ). Finished (jobOf nan n (windowFrom floor a b m) (keptEarly a b m) (keptLate a b m) factors (cond each perElement block))
+      n c us vs sound results work work′) (edge-count g) q in
+      subst (λ (x : Job.Manner). Finished (jobOf nan n (windowFrom floor a b m) (keptEarly a b m) (keptLate a b m) factors x)
+      n (length (kept a b m)) us vs sound results work work′) e s

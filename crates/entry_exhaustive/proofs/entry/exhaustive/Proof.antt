@@ -1,0 +1,178 @@
+-- The checks, then the chunks of all configurations.
+use mathlib.Core.Path.{_≡_, ap, _∙_}
+use mathlib.Core.Bool.{Bool, false}
+use Prim.Native.Nat.{ℕ, _^_, _≤_}
+use native.Mathlib.Omega.{arith}
+use lib.ListN.{length, take}
+use Rattle.transfer_matrix.specs.Rounded.{ieee}
+use Rattle.transfer_matrix.specs.Totals.{square, fourth}
+use Rattle.refusals.specs.AcceptedTotals.{misfits}
+use Rattle.refusals.specs.Request.{mostCounted}
+use Rattle.kept_edges.specs.Laws.Fronts.{early-part, late-part, early-fits, late-fits}
+use Rattle.entry_correlations.specs.Correlations.{mannerOf}
+use Rattle.totals_call.specs.Given.{Given, early, late, free, window, end, sums}
+use Rattle.totals_call.specs.Calls.{unsoundAll, totalsOfAll}
+use Rattle.totals_call.specs.Finished.{Passed, Finished}
+use Rattle.totals_call.specs.Laws.Refusing.{listsOfAll, allParts}
+use Rattle.totals_call.specs.Laws.Calling.{refused-early, refused-lists, all-added, refused-14}
+use Rattle.totals_call.specs.Laws.Entering.{few-products, fits-both, joined, all-lists, all-passed, all-numbered, all-are, free-is, free-kept, totals-kept}
+use borrow.Author.Needs.{needs}
+use Rattle.entry_exhaustive.proofs.entry.exhaustive.Statement.{statement}
+use Rattle.entry_exhaustive.proofs.entry.exhaustive.Tie as tie
+
+abbrev given : tie.Start → Given
+given s = let a = s .args in record {
+  n = a .n;
+  floor = a .floor;
+  a = a .a .now;
+  b = a .b .now;
+  m = a .m .now;
+  us = a .us .now;
+  vs = a .vs .now;
+  betas = a .betas .now;
+  factors = a .factors .now;
+  manner = a .manner;
+}
+
+abbrev misfit : tie.Start → Bool
+misfit s = misfits (sums (given s)) (length (s .args .squares .now)) (length (s .args .fourths .now))
+
+-- the free edges of the kept edges were counted
+counted : (c : tie.After-count-free-edges) → c .count-free-edges .result ≡ free (given (c .before .before .before .before .before .before .before .before .before .before .before .before .before .before .before .before .before .before .before .before .before))
+counted c = free-kept (c .before .before .before .before .before .before .before .check-with-betas .ensures .ready (c .before .before .before .if1 .left)) _ (c .count-free-edges .ensures .1)
+
+-- the lists were checked
+listed : (c : tie.After-check-enumeration) → c .check-enumeration .result ≡ listsOfAll (given (c .before .before .before .before .before .before .before .before .before .before .before .before .before .before .before .before .before .before .before .before .before .before)) (misfit (c .before .before .before .before .before .before .before .before .before .before .before .before .before .before .before .before .before .before .before .before .before .before)) (length (c .before .before .before .before .before .before .before .before .before .before .before .before .before .before .before .before .before .before .before .before .before .before .args .work .now)) mostCounted
+listed c =
+    let a = c .before .before .before .before .before .before .before .before .before .before .before .before .before .before .before .before .before .before .before .before .before .before .args in
+    all-lists (c .before .before .before .before .before .before .before .before .check-with-betas .ensures .ready (c .before .before .before .before .if1 .left)) (length (a .betas .now)) (a .factors .now) _ _ mostCounted (misfit (c .before .before .before .before .before .before .before .before .before .before .before .before .before .before .before .before .before .before .before .before .before .before)) (length (a .work .now)) _ (counted (c .before)) (c .check-enumeration .ensures)
+
+-- and none refused
+passed : (c : tie.Else2)
+    → let a = c .before .before .before .before .before .before .before .before .before .before .before .before .before .before .before .before .before .before .before .before .before .before .before .args in
+    let k = c .before .before .before .before .before .before .before .before .before .check-with-betas in
+    let free = c .before .before .count-free-edges .result in
+    Passed (a .n) (k .result .window) (take (k .result .edges) (k .last .1 .1 .1 .1 .1 .1 .1 .1 .0)) (take (k .result .edges) (k .last .1 .1 .1 .1 .1 .1 .1 .1 .1 .0)) (a .us .now) (a .vs .now) (length (a .factors .now)) (length (a .betas .now)) (length (a .work .now))
+    × (misfit (c .before .before .before .before .before .before .before .before .before .before .before .before .before .before .before .before .before .before .before .before .before .before .before) ≡ false) × (free ≤ 34)
+passed c =
+    let a = c .before .before .before .before .before .before .before .before .before .before .before .before .before .before .before .before .before .before .before .before .before .before .before .args in
+    let k = c .before .before .before .before .before .before .before .before .before .check-with-betas .ensures in
+    let v = c .before .before .before .before .before .if1 .left in
+    all-passed (k .ready v) (length (a .betas .now)) (a .factors .now) _ mostCounted (misfit (c .before .before .before .before .before .before .before .before .before .before .before .before .before .before .before .before .before .before .before .before .before .before .before)) (length (a .work .now)) _ (k .betas-pass v .few) (c .before .check-enumeration .ensures) (c .if2 .left)
+
+fitting : (c : tie.Else2)
+    → (length (c .before .before .before .before .before .before .before .before .before .before .before .before .before .before .before .before .before .before .before .before .before .before .before .args .squares .now) ≡ sums (given (c .before .before .before .before .before .before .before .before .before .before .before .before .before .before .before .before .before .before .before .before .before .before .before))) × (length (c .before .before .before .before .before .before .before .before .before .before .before .before .before .before .before .before .before .before .before .before .before .before .before .args .fourths .now) ≡ sums (given (c .before .before .before .before .before .before .before .before .before .before .before .before .before .before .before .before .before .before .before .before .before .before .before)))
+fitting c = fits-both (sums (given (c .before .before .before .before .before .before .before .before .before .before .before .before .before .before .before .before .before .before .before .before .before .before .before))) (length (c .before .before .before .before .before .before .before .before .before .before .before .before .before .before .before .before .before .before .before .before .before .before .before .args .squares .now)) (length (c .before .before .before .before .before .before .before .before .before .before .before .before .before .before .before .before .before .before .before .before .before .before .before .args .fourths .now)) (passed c .1)
+
+-- what was found of all configurations
+found : (c : tie.After-total-job)
+    → let s = c .before .before .before .before .before .before .before .before .before .before .before .before .before .before .before .before .before .before .before .before .before .before .before .before .before .before .before .before .before .before .before in
+    let t = c .total-job in
+    Finished (unsoundAll (given s)) (totalsOfAll (given s) (square ieee)) (totalsOfAll (given s) (fourth ieee)) (sums (given s)) (end (given s)) (t .result) (t .last .1 .1 .1 .1 .1 .1 .1 .1 .1 .1 .0) (t .last .1 .1 .1 .1 .1 .1 .1 .1 .1 .1 .1 .0) (s .args .work .now) (t .last .1 .1 .1 .1 .1 .1 .1 .1 .1 .1 .1 .1 .0)
+found c =
+    let a = c .before .before .before .before .before .before .before .before .before .before .before .before .before .before .before .before .before .before .before .before .before .before .before .before .before .before .before .before .before .before .before .args in
+    let g = given (c .before .before .before .before .before .before .before .before .before .before .before .before .before .before .before .before .before .before .before .before .before .before .before .before .before .before .before .before .before .before .before) in
+    let chunks = c .before .before .before .before .before .before .all-chunks in
+    all-are (a .n) (window g) (early g) (late g) (a .factors .now) (mannerOf (a .manner)) (a .us .now) (a .vs .now) (length (a .betas .now)) _ _ (counted (c .before .before .before .before .before .before .before .before .before .before)) (chunks .result) (chunks .ensures)
+    (totals-kept (c .before .before .before .before .before .before .before .before .before .before .before .before .before .before .before .before .before .check-with-betas .ensures .ready (c .before .before .before .before .before .before .before .before .before .before .before .before .before .if1 .left)) (length (a .betas .now)) (a .factors .now) (c .before .before .before .before .before .before .before .is-elementwise .ensures) (chunks .result) (c .total-job .ensures))
+
+returns : tie.Need-returns
+returns c =
+    let s = c .before .before .before .before .before .before .before .before .before .before .before .before .before .before .before .before .before .before in
+    let k = c .before .before .before .before .check-with-betas in
+    record { call = refused-early (allParts (given s) (misfit s) (length (s .args .work .now)) mostCounted) (k .result .refusal) (k .ensures .refusal) (c .if1 .taken) }
+
+array-share-prefix-early : tie.Need-array-share-prefix-early
+array-share-prefix-early c = early-fits (c .before .before .before .before .check-with-betas .ensures .ready (c .if1 .left) .written)
+
+slice-aggregate-count-free-edges : tie.Need-slice-aggregate-count-free-edges
+slice-aggregate-count-free-edges c = early-part (c .before .before .before .before .before .check-with-betas .ensures .ready (c .before .if1 .left) .written)
+
+array-share-prefix-late : tie.Need-array-share-prefix-late
+array-share-prefix-late c = late-fits (c .before .before .before .before .before .check-with-betas .ensures .ready (c .before .if1 .left) .written)
+
+slice-aggregate-count-free-edges-2 : tie.Need-slice-aggregate-count-free-edges-2
+slice-aggregate-count-free-edges-2 c = late-part (c .before .before .before .before .before .before .check-with-betas .ensures .ready (c .before .before .if1 .left) .written)
+
+count-free-edges-requires : tie.Need-count-free-edges-requires
+count-free-edges-requires c κs = let g = c .before .before .before .before .before .before .check-with-betas .ensures .ready (c .before .before .if1 .left) in (joined g, g .edges .few)
+
+mul-check-enumeration : tie.Need-mul-check-enumeration
+mul-check-enumeration c =
+    let j = c .before .before .before .before .before .before .before .check-with-betas .ensures in
+    omega (arith, few-products _ _ (j .betas-pass (c .before .before .before .if1 .left) .few) (j .ready (c .before .before .before .if1 .left) .passed .few-pairs))
+
+check-enumeration-requires : tie.Need-check-enumeration-requires
+check-enumeration-requires c κs =
+    let j = c .before .before .before .before .before .before .before .check-with-betas .ensures in
+    let g = j .ready (c .before .before .before .if1 .left) in
+    (g .pairs, g .edges .few, g .edges .narrow, g .few-edges, j .betas-pass (c .before .before .before .if1 .left) .few)
+
+returns-2 : tie.Need-returns-2
+returns-2 c =
+    let s = c .before .before .before .before .before .before .before .before .before .before .before .before .before .before .before .before .before .before .before .before .before .before .before in
+    record { call = refused-lists (allParts (given s) (misfit s) (length (s .args .work .now)) mostCounted) (c .before .before .before .before .before .before .before .before .before .check-with-betas .ensures .refusal) (c .before .before .before .before .before .if1 .left) (c .before .check-enumeration .result) (listed (c .before)) (c .if2 .taken) }
+
+all-chunks-requires : tie.Need-all-chunks-requires
+all-chunks-requires c κs = omega (arith, passed (c .before) .2)
+
+array-share-prefix-early-2 : tie.Need-array-share-prefix-early-2
+array-share-prefix-early-2 c = early-fits (c .before .before .before .before .before .before .before .before .before .before .before .check-with-betas .ensures .ready (c .before .before .before .before .before .before .before .if1 .left) .written)
+
+slice-aggregate-total-job : tie.Need-slice-aggregate-total-job
+slice-aggregate-total-job c = early-part (c .before .before .before .before .before .before .before .before .before .before .before .before .check-with-betas .ensures .ready (c .before .before .before .before .before .before .before .before .if1 .left) .written)
+
+array-share-prefix-late-2 : tie.Need-array-share-prefix-late-2
+array-share-prefix-late-2 c = late-fits (c .before .before .before .before .before .before .before .before .before .before .before .before .check-with-betas .ensures .ready (c .before .before .before .before .before .before .before .before .if1 .left) .written)
+
+slice-aggregate-total-job-2 : tie.Need-slice-aggregate-total-job-2
+slice-aggregate-total-job-2 c = late-part (c .before .before .before .before .before .before .before .before .before .before .before .before .before .check-with-betas .ensures .ready (c .before .before .before .before .before .before .before .before .before .if1 .left) .written)
+
+total-job-requires : tie.Need-total-job-requires
+total-job-requires c κs =
+    let p = passed (c .before .before .before .before .before .before .before) in
+    let q = fitting (c .before .before .before .before .before .before .before) in
+    let f = c .before .before .before .before .before .before .before .before .before .count-free-edges in
+    (p .0, all-numbered _ (f .result) _ (c .before .before .before .before .before .all-chunks .ensures) (p .2) (free-is (c .before .before .before .before .before .before .before .before .before .before .before .before .before .before .before .before .check-with-betas .ensures .ready (c .before .before .before .before .before .before .before .before .before .before .before .before .if1 .left)) _ (f .ensures .1)), q .0, q .1)
+
+pow2-requires : tie.Need-pow2-requires
+pow2-requires c κs = omega (arith, passed (c .before .before .before .before .before .before .before .before .before .before .before .before .before .before .before) .2)
+
+same-length : tie.Need-same-length
+same-length c = c .before .before .before .before .before .before .before .before .total-job .kept .1 .1 .1 .1 .1 .1 .1 .1 .1 .1 .0
+
+same-length-2 : tie.Need-same-length-2
+same-length-2 c = c .before .before .before .before .before .before .before .before .total-job .kept .1 .1 .1 .1 .1 .1 .1 .1 .1 .1 .1 .0
+
+same-length-3 : tie.Need-same-length-3
+same-length-3 c = c .before .before .before .before .before .before .before .before .total-job .kept .1 .1 .1 .1 .1 .1 .1 .1 .1 .1 .1 .1 .0
+
+returns-3 : tie.Need-returns-3
+returns-3 c =
+    let s = c .before .before .before .before .before .before .before .before .before .before .before .before .before .before .before .before .before .before .before .before .before .before .before .before .before .before .before .before .before .before .before .before .before .before .before .before .before .before .before in
+    record { call = all-added (allParts (given s) (misfit s) (length (s .args .work .now)) mostCounted) (c .before .before .before .before .before .before .before .before .before .before .before .before .before .before .before .before .before .before .before .before .before .before .before .before .before .check-with-betas .ensures .refusal) (c .before .before .before .before .before .before .before .before .before .before .before .before .before .before .before .before .before .before .before .before .before .if1 .left) (listed (c .before .before .before .before .before .before .before .before .before .before .before .before .before .before .before .before .before)) (c .before .before .before .before .before .before .before .before .before .before .before .before .before .before .before .before .if2 .left) (found (c .before .before .before .before .before .before .before .before)) (c .before .if3 .taken) (c .pow2 .result) (c .pow2 .ensures ∙ ap (λ (i : ℕ). 2 ^ i) (counted (c .before .before .before .before .before .before .before .before .before .before .before .before .before .before .before .before .before .before))) }
+
+same-length-4 : tie.Need-same-length-4
+same-length-4 c = c .before .before .before .before .before .before .before .total-job .kept .1 .1 .1 .1 .1 .1 .1 .1 .1 .1 .0
+
+same-length-5 : tie.Need-same-length-5
+same-length-5 c = c .before .before .before .before .before .before .before .total-job .kept .1 .1 .1 .1 .1 .1 .1 .1 .1 .1 .1 .0
+
+same-length-6 : tie.Need-same-length-6
+same-length-6 c = c .before .before .before .before .before .before .before .total-job .kept .1 .1 .1 .1 .1 .1 .1 .1 .1 .1 .1 .1 .0
+
+returns-4 : tie.Need-returns-4
+returns-4 c =
+    let s = c .before .before .before .before .before .before .before .before .before .before .before .before .before .before .before .before .before .before .before .before .before .before .before .before .before .before .before .before .before .before .before .before .before .before .before .before .before .before in
+    let q = fitting (c .before .before .before .before .before .before .before .before .before .before .before .before .before .before .before) in
+    record { call = refused-14 (allParts (given s) (misfit s) (length (s .args .work .now)) mostCounted) (c .before .before .before .before .before .before .before .before .before .before .before .before .before .before .before .before .before .before .before .before .before .before .before .before .check-with-betas .ensures .refusal) (c .before .before .before .before .before .before .before .before .before .before .before .before .before .before .before .before .before .before .before .before .if1 .left) (listed (c .before .before .before .before .before .before .before .before .before .before .before .before .before .before .before .before)) (c .before .before .before .before .before .before .before .before .before .before .before .before .before .before .before .if2 .left) (found (c .before .before .before .before .before .before .before)) (c .if3 .left) (q .0) (q .1) }
+
+pub exhaustive-spec : {M : Type 1} → statement M
+exhaustive-spec =
+    tie.close
+    (tie.spec
+    (λ c. search needs) (λ c. search needs) (λ c. search needs) (λ c κs. search needs) returns array-share-prefix-early
+    slice-aggregate-count-free-edges array-share-prefix-late slice-aggregate-count-free-edges-2 count-free-edges-requires
+    mul-check-enumeration check-enumeration-requires returns-2 (λ c κs. search needs) all-chunks-requires array-share-prefix-early-2
+    slice-aggregate-total-job array-share-prefix-late-2 slice-aggregate-total-job-2 total-job-requires pow2-requires same-length
+    same-length-2 same-length-3 returns-3 same-length-4 same-length-5 same-length-6 returns-4)

@@ -1,0 +1,97 @@
+// The totals of all configurations, for callers.
+ghost use Rattle.totals_call.specs.Calls.{Enumerated};
+use buffer_checks::check_enumeration;
+use entry_correlations::Manner;
+use entry_correlations::is_elementwise;
+use forest::count_free_edges;
+use job_checks::check_with_betas;
+use limits::COUNTED;
+use limits::EDGES;
+use refusals::Answer;
+use step_tables::pow2;
+use totals_chunks::all_chunks;
+use totals_job::total_job;
+
+// Writes the sums of the squares and of the fourth powers of every correlation, over all configurations, for each beta and pair. Two
+// factors are lent for each beta and kept edge. Returns the count of configurations, or the refusal.
+pub fn exhaustive(
+    n: usize,
+    floor: usize,
+    a: &[usize],
+    b: &[usize],
+    m: &[f64],
+    us: &[usize],
+    vs: &[usize],
+    betas: &[f64],
+    factors: &[f64],
+    manner: Manner,
+    squares: &mut [f64],
+    fourths: &mut [f64],
+    work: &mut [f64],
+) -> Answer
+    ensures { λ r. ⌜ Enumerated n floor (now (a .entry)) (now (b .entry)) (now (m .entry)) (now (us .entry)) (now (vs .entry))
+        (now (betas .entry)) (now (factors .entry)) manner r (now (squares .entry)) (now (squares .exit))
+        (now (fourths .entry)) (now (fourths .exit)) (now (work .entry)) (now (work .exit)) ⌝ }
+{
+    let mut early = [0usize; EDGES];
+    let mut late = [0usize; EDGES];
+    let mut mag = [0.0f64; EDGES];
+    let job = check_with_betas(
+        n,
+        floor,
+        a,
+        b,
+        m,
+        us,
+        vs,
+        betas,
+        &mut early,
+        &mut late,
+        &mut mag,
+    );
+    let refused = job.refusal;
+    if refused != 0 {
+        return Answer::Refused(refused);
+    }
+    let w = job.window;
+    let edges = job.edges;
+    let free = count_free_edges(n, &early[..edges], &late[..edges]);
+    let unfit = check_enumeration(
+        n,
+        w,
+        edges,
+        us,
+        vs,
+        betas.len(),
+        factors,
+        free,
+        COUNTED,
+        betas.len() * us.len(),
+        squares.len(),
+        fourths.len(),
+        work.len(),
+    );
+    if unfit != 0 {
+        return Answer::Refused(unfit);
+    }
+    let elementwise = is_elementwise(manner);
+    let chunks = all_chunks(free);
+    if total_job(
+        n,
+        w,
+        elementwise,
+        &early[..edges],
+        &late[..edges],
+        us,
+        vs,
+        factors,
+        betas.len(),
+        chunks,
+        squares,
+        fourths,
+        work,
+    ) {
+        return Answer::Number(pow2(free));
+    }
+    Answer::Refused(14)
+}

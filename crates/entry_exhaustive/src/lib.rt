@@ -1,0 +1,4 @@
+// The totals of all configurations.
+mod entry;
+
+pub use entry::exhaustive;

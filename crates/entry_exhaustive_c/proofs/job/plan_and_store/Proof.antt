@@ -1,0 +1,93 @@
+-- The job is planned, its tree edges are marked, and what was stored is cleared where some Z is not finite and above zero.
+use mathlib.Core.Path.{refl, sym, ap, _∙_}
+use Prim.Native.Nat.{_≤_}
+use native.Mathlib.Omega.{arith}
+use lib.ListN.{length}
+use lib.Seq.{length-take-le}
+use Rattle.plan_steps.specs.Layout.{Holds}
+use Rattle.job_run.specs.Zeros.{zeros}
+use Rattle.totals_call.specs.Jobs.{jobEnumerated}
+use Rattle.totals_call.specs.Finished.{stepping}
+use Rattle.totals_call.specs.Laws.Signing.{numbered-plan}
+use Rattle.totals_call.specs.Laws.Entering.{joins}
+use Rattle.totals_call.specs.Laws.Staging.{enough-factors, staged, enumerates, room-fits, finished, cleared-stored}
+use borrow.Author.Needs.{needs}
+use Rattle.entry_exhaustive_c.proofs.job.plan_and_store.Statement.{statement}
+use Rattle.entry_exhaustive_c.proofs.job.plan_and_store.Tie as tie
+
+make-plan-requires : tie.Need-make-plan-requires
+make-plan-requires c κs = let p = c .before .before .before .before .before .before .before .before .before .before .before .before .before .pre in (p .0 .job .edges, p .0 .job .few-edges, p .0 .job .pairs, p .3, p .0 .job .few-near)
+
+order-pairs-requires : tie.Need-order-pairs-requires
+order-pairs-requires c κs = let p = c .before .before .before .before .before .before .before .before .before .before .before .before .before .before .before .before .before .pre in (p .0 .job .pairs, p .0 .job .edges .few, p .4)
+
+mark-tree-edges-requires : tie.Need-mark-tree-edges-requires
+mark-tree-edges-requires c κs = let p = c .before .before .before .before .before .before .before .before .before .before .before .before .before .before .before .before .before .before .before .before .before .pre in (joins (p .0 .job .edges), p .0 .job .edges .few, p .5 .marked)
+
+-- the room lies in the work memory
+fits : (c : tie.After-make-plan) → c .make-plan .result .room ≤ length (c .before .before .before .before .before .before .before .before .before .before .before .before .before .before .args .work .now)
+fits c = room-fits (c .before .before .before .before .before .before .before .before .before .before .before .before .before .before .pre .0) (c .make-plan .ensures)
+
+slice-relend-prefix-room : tie.Need-slice-relend-prefix-room
+slice-relend-prefix-room c = fits (c .before .before .before .before .before .before .before .before .before .before)
+
+slice-aggregate-room : tie.Need-slice-aggregate-room
+slice-aggregate-room c = sym (length-take-le _ (c .before .before .before .before .before .before .before .before .before .before .before .before .before .before .before .before .before .before .before .before .before .before .before .before .before .args .work .now) (fits (c .before .before .before .before .before .before .before .before .before .before .before)))
+
+stored-correlations-requires : tie.Need-stored-correlations-requires
+stored-correlations-requires c κs =
+    let s = c .before .before .before .before .before .before .before .before .before .before .before .before .before .before .before .before .before .before .before .before .before .before .before .before .before .before .before .before .before .before .before .before in
+    let p = s .pre in
+    let m = c .before .before .before .before .before .before .before .before .before .before .before .before .before .before .before .before .before .before .make-plan in
+    let o = c .before .before .before .before .before .before .before .before .before .before .before .before .before .before .order-pairs in
+    let t = c .before .before .before .before .before .before .before .before .before .before .mark-tree-edges in
+    let holds : Holds (m .last .0) (s .args .n) = omega (arith, p .3, m .kept .0) in
+    let long = t .kept .1 .1 .1 .0 ∙ p .5 .marked in (
+      staged (p .0) (m .ensures) (o .last .0) _ _ (length (s .args .c .now)) (s .args .elementwise) holds (o .ensures) long (length-take-le _ (s .args .work .now) (fits (c .before .before .before .before .before .before .before .before .before .before .before .before .before .before .before .before .before .before))) (p .6),
+      enough-factors (p .0) _ long,
+      enumerates (s .args .early .now) (s .args .late .now) (t .last .1 .1 .1 .0) _ (s .args .free) (t .ensures .0) (p .5 .signed) (p .1) (p .2),
+      p .2,
+      p .7,
+    )
+
+same-length : tie.Need-same-length
+same-length c = c .before .before .before .before .before .before .before .before .before .before .before .before .before .before .before .before .before .before .before .before .before .before .before .before .before .before .before .before .before .before .before .before .before .before .make-plan .kept .0
+
+same-length-2 : tie.Need-same-length-2
+same-length-2 c = c .before .before .before .before .before .before .before .before .before .before .before .before .before .before .before .before .before .before .before .before .before .before .before .before .before .before .before .before .before .before .order-pairs .kept .0
+
+same-length-3 : tie.Need-same-length-3
+same-length-3 c = c .before .before .before .before .before .before .before .before .before .before .before .before .before .before .before .before .before .before .before .before .before .before .before .before .before .before .mark-tree-edges .kept .1 .1 .1 .0
+
+same-length-4 : tie.Need-same-length-4
+same-length-4 c = c .before .before .before .before .before .before .before .before .before .before .before .before .before .before .before .stored-correlations .kept .1 .1 .1 .1 .1 .1 .1 .1 .1 .0
+
+same-length-5 : tie.Need-same-length-5
+same-length-5 c = c .before .before .before .before .before .before .before .before .before .before .before .before .before .before .before .stored-correlations .kept .1 .1 .1 .1 .1 .1 .1 .1 .1 .1 .1 .0
+
+same-length-6 : tie.Need-same-length-6
+same-length-6 c = c .before .before .clear-unsound .kept .1 .0 ∙ c .before .before .before .before .before .before .before .before .before .before .before .before .before .before .before .stored-correlations .kept .1 .1 .1 .1 .1 .1 .1 .1 .1 .1 .1 .1 .0
+
+returns : tie.Need-returns
+returns c =
+    let s = c .before .before .before .before .before .before .before .before .before .before .before .before .before .before .before .before .before .before .before .before .before .before .before .before .before .before .before .before .before .before .before .before .before .before .before .before .before .before .before .before .before .before .before .before .before .before .before .before in
+    let a = s .args in
+    let p = s .pre in
+    let m = c .before .before .before .before .before .before .before .before .before .before .before .before .before .before .before .before .before .before .before .before .before .before .before .before .before .before .before .before .before .before .before .before .before .before .make-plan in
+    let f = c .before .before .before .before .before .before .before .before .before .before .before .before .before .before .before .before .before .before .before .before .before .before .before .before .before .before .mark-tree-edges in
+    let t = c .before .before .before .before .before .before .before .before .before .before .before .before .before .before .before .stored-correlations in
+    let zero = c .before .before .before .before .before .before .clear in
+    let x = c .before .before .clear-unsound in
+    let of = numbered-plan (m .last .0) (a .early .now) (a .late .now) (a .us .now) (a .vs .now) (a .n) (a .w) _ _ _ _ (m .ensures) (p .0 .job .some) (a .factors .now) (a .elementwise) (f .last .1 .1 .1 .0) (a .betas) (f .ensures .0) in
+    let J = jobEnumerated (a .n) (a .w) (a .early .now) (a .late .now) (a .factors .now) (stepping (a .elementwise)) in
+    let said = t .ensures J of in
+    let g = cleared-stored J (a .us .now) (a .vs .now) (a .betas) (t .result) (t .last .1 .1 .1 .1 .1 .1 .1 .1 .1 .1 .1 .1 .0) (x .last .1 .0) (a .free) _ (p .1) (said .0) (x .ensures) (said .1) (t .kept .1 .1 .1 .1 .1 .1 .1 .1 .1 .1 .1 .1 .0 ∙ p .7) in
+    finished (p .0) (m .ensures) _ _ _ _ (t .result) _ _ (a .work .now) (zero .last .0) refl (zero .ensures ∙ ap zeros (t .kept .0)) g g
+
+pub plan-and-store-spec : {M : Type 1} → statement M
+plan-and-store-spec =
+    tie.close
+    (tie.spec
+    make-plan-requires order-pairs-requires mark-tree-edges-requires slice-relend-prefix-room slice-aggregate-room
+    stored-correlations-requires (λ c κs. search needs) (λ c κs. search needs) same-length same-length-2 same-length-3 same-length-4
+    same-length-5 same-length-6 (λ c. search needs) returns)

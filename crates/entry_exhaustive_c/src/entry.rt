@@ -1,0 +1,106 @@
+// The correlations of all configurations, for callers.
+ghost use mathlib.Core.Path.{_≡_};
+ghost use Prim.Native.Nat.{_*_, _^_, _≤_};
+ghost use Rattle.limits.specs.Limits.{mostStored};
+ghost use Rattle.totals_call.specs.Calls.{EnumeratedEach};
+use crate::job::store_job;
+use buffer_checks::check_enumeration;
+use entry_correlations::Manner;
+use entry_correlations::is_elementwise;
+use forest::count_free_edges;
+use job_checks::check_with_betas;
+use limits::EDGES;
+use limits::STORED;
+use refusals::Answer;
+use step_tables::pow2;
+
+// How many correlations there are, where the free edges are few enough.
+fn stored_count(sums: usize, free: usize) -> usize
+    requires { ⌜ sums ≤ 16384 ⌝ }
+    ensures { λ r. ⌜ (free ≤ mostStored → r ≡ sums * 2 ^ free) ⌝ }
+{
+    if STORED < free {
+        return 0;
+    }
+    sums * pow2(free)
+}
+
+// Writes every correlation to `stored`: that of a beta, a pair and a configuration at (beta times pairs + pair) times the configurations +
+// the configuration. Two factors are lent for each beta and kept edge. Returns the count of configurations, or the refusal.
+pub fn exhaustive_c(
+    n: usize,
+    floor: usize,
+    a: &[usize],
+    b: &[usize],
+    m: &[f64],
+    us: &[usize],
+    vs: &[usize],
+    betas: &[f64],
+    factors: &[f64],
+    manner: Manner,
+    stored: &mut [f64],
+    work: &mut [f64],
+) -> Answer
+    ensures { λ r. ⌜ EnumeratedEach n floor (now (a .entry)) (now (b .entry)) (now (m .entry)) (now (us .entry)) (now (vs .entry))
+        (now (betas .entry)) (now (factors .entry)) manner r (now (stored .entry)) (now (stored .exit)) (now (work .entry)) (now (work .exit)) ⌝ }
+{
+    let mut early = [0usize; EDGES];
+    let mut late = [0usize; EDGES];
+    let mut mag = [0.0f64; EDGES];
+    let job = check_with_betas(
+        n,
+        floor,
+        a,
+        b,
+        m,
+        us,
+        vs,
+        betas,
+        &mut early,
+        &mut late,
+        &mut mag,
+    );
+    let refused = job.refusal;
+    if refused != 0 {
+        return Answer::Refused(refused);
+    }
+    let w = job.window;
+    let edges = job.edges;
+    let free = count_free_edges(n, &early[..edges], &late[..edges]);
+    let unfit = check_enumeration(
+        n,
+        w,
+        edges,
+        us,
+        vs,
+        betas.len(),
+        factors,
+        free,
+        STORED,
+        stored_count(betas.len() * us.len(), free),
+        stored.len(),
+        stored.len(),
+        work.len(),
+    );
+    if unfit != 0 {
+        return Answer::Refused(unfit);
+    }
+    let elementwise = is_elementwise(manner);
+    if store_job(
+        n,
+        w,
+        elementwise,
+        &early[..edges],
+        &late[..edges],
+        us,
+        vs,
+        factors,
+        betas.len(),
+        free,
+        stored,
+        work,
+    ) {
+        return Answer::Number(pow2(free));
+    }
+    Answer::Refused(14)
+}

@@ -1,0 +1,106 @@
+// The totals of drawn configurations, for callers.
+ghost use Rattle.totals_call.specs.Calls.{Sampled};
+use buffer_checks::check_sampling;
+use entry_correlations::Manner;
+use entry_correlations::is_elementwise;
+use job_checks::check_with_betas;
+use limits::EDGES;
+use refusals::Answer;
+use totals_chunks::Chunks;
+use totals_job::total_job;
+use totals_sums::sampled_count;
+
+// Writes the sums of the squares and of the fourth powers of every correlation, over the samples of the chunks from `from` up to, and
+// without, `to`, for each beta and pair. Two factors are lent for each beta and kept edge. Returns the count of configurations, or the
+// refusal.
+pub fn sample(
+    n: usize,
+    floor: usize,
+    a: &[usize],
+    b: &[usize],
+    m: &[f64],
+    us: &[usize],
+    vs: &[usize],
+    betas: &[f64],
+    factors: &[f64],
+    manner: Manner,
+    seed: u64,
+    from: u64,
+    to: u64,
+    samples: usize,
+    squares: &mut [f64],
+    fourths: &mut [f64],
+    work: &mut [f64],
+) -> Answer
+    ensures { λ r. ⌜ Sampled n floor (now (a .entry)) (now (b .entry)) (now (m .entry)) (now (us .entry)) (now (vs .entry))
+        (now (betas .entry)) (now (factors .entry)) manner seed from to samples r (now (squares .entry)) (now (squares .exit))
+        (now (fourths .entry)) (now (fourths .exit)) (now (work .entry)) (now (work .exit)) ⌝ }
+{
+    let mut early = [0usize; EDGES];
+    let mut late = [0usize; EDGES];
+    let mut mag = [0.0f64; EDGES];
+    let job = check_with_betas(
+        n,
+        floor,
+        a,
+        b,
+        m,
+        us,
+        vs,
+        betas,
+        &mut early,
+        &mut late,
+        &mut mag,
+    );
+    let refused = job.refusal;
+    if refused != 0 {
+        return Answer::Refused(refused);
+    }
+    let w = job.window;
+    let edges = job.edges;
+    let unfit = check_sampling(
+        n,
+        w,
+        edges,
+        us,
+        vs,
+        betas.len(),
+        factors,
+        from as usize,
+        to as usize,
+        samples,
+        betas.len() * us.len(),
+        squares.len(),
+        fourths.len(),
+        work.len(),
+    );
+    if unfit != 0 {
+        return Answer::Refused(unfit);
+    }
+    let elementwise = is_elementwise(manner);
+    let chunks = Chunks {
+        drawn: true,
+        seed,
+        first: from,
+        end: to,
+        size: samples,
+    };
+    if total_job(
+        n,
+        w,
+        elementwise,
+        &early[..edges],
+        &late[..edges],
+        us,
+        vs,
+        factors,
+        betas.len(),
+        chunks,
+        squares,
+        fourths,
+        work,
+    ) {
+        return Answer::Number(sampled_count(from, to, samples));
+    }
+    Answer::Refused(14)
+}

@@ -1,0 +1,4 @@
+// The totals of drawn configurations.
+mod entry;
+
+pub use entry::sample;

@@ -1,0 +1,4 @@
+-- What is proved of the definitions.
+pub mod Margin
+pub mod Near
+pub mod Parts

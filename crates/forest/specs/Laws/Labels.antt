@@ -1,0 +1,162 @@
+-- Laws of what specs/Labels defines.
+use mathlib.Core.Path.{_≡_, refl, sym, ap, _∙_, subst}
+use mathlib.Core.Bool.{true, false, cond, not, true≢false}
+use mathlib.Core.List.{List}
+use mathlib.Core.Logic.{_⊎_, inl, inr}
+use Prim.Native.Nat.{ℕ, zero, suc, _≤_, _<_}
+use native.Mathlib.Nat.{le-refl, not-suc-le-zero}
+use native.Mathlib.Decide.{ℕ-discrete}
+use native.Mathlib.Omega.{arith}
+use lib.Dec.{eqb}
+use lib.ListN.{length, getD}
+use borrow.Author.Tests.{eq-eqb, ne-eqb, eqb-true, not-false}
+use Rattle.list_laws.specs.Tabulate.{tabulate}
+use Rattle.list_laws.specs.Laws.Tabulate.{tabulate-length, tabulate-at}
+use Rattle.forest.specs.Paths.{end, Edges, Link, Joined, stay, along, Closes, Spans}
+use Rattle.forest.specs.Labels.{merge, labels, isTree}
+
+-- ---- one merge
+module _ (f : ℕ → ℕ) (a b : ℕ) where
+  merge-cong : (u v : ℕ) → f u ≡ f v → merge f a b u ≡ merge f a b v
+  merge-cong u v e = ap (λ (x : ℕ). cond (eqb x (f a)) (f b) x) e
+
+  pub merge-in : (v : ℕ) → f v ≡ f a → merge f a b v ≡ f b
+  merge-in v e = rw (eq-eqb (f v) (f a) e)
+
+  pub merge-out : (v : ℕ) → (f v ≡ f a → ⊥) → merge f a b v ≡ f v
+  merge-out v n = rw (ne-eqb (f v) (f a) n)
+
+  merge-late : merge f a b b ≡ f b
+  merge-late = go (ℕ-discrete (f b) (f a))
+    where
+      go : Dec (f b ≡ f a) → merge f a b b ≡ f b
+      go (yes e) = merge-in b e
+      go (no n) = merge-out b n
+
+  pub merge-same : f a ≡ f b → (v : ℕ) → merge f a b v ≡ f v
+  merge-same e v = go (ℕ-discrete (f v) (f a))
+    where
+      go : Dec (f v ≡ f a) → merge f a b v ≡ f v
+      go (yes q) = merge-in v q ∙ sym e ∙ sym q
+      go (no n) = merge-out v n
+
+  merge-below : (n : ℕ) → f b < n → (v : ℕ) → f v < n → merge f a b v < n
+  merge-below n l v h = go (ℕ-discrete (f v) (f a))
+    where
+      go : Dec (f v ≡ f a) → merge f a b v < n
+      go (yes e) = rw (eq-eqb (f v) (f a) e) l
+      go (no m) = rw (ne-eqb (f v) (f a) m) h
+
+  -- where every label is its own, a merge leaves it so
+  merge-own : ((v : ℕ) → f (f v) ≡ f v) → (v : ℕ) → merge f a b (merge f a b v) ≡ merge f a b v
+  merge-own own v = go (ℕ-discrete (f v) (f a))
+    where
+      go : Dec (f v ≡ f a) → merge f a b (merge f a b v) ≡ merge f a b v
+      go (yes e) = ap (λ (x : ℕ). merge f a b x) (merge-in v e) ∙ merge-cong (f b) b (own b) ∙ merge-late ∙ sym (merge-in v e)
+      go (no n) = ap (λ (x : ℕ). merge f a b x) (merge-out v n) ∙ merge-cong (f v) v (own v)
+
+module _ (early late : List ℕ) where
+  -- ---- paths
+
+  onto : {i u v w : ℕ} → Joined early late i u v → Joined early late i v w → Joined early late i u w
+  onto stay q = q
+  onto (along s p) q = along s (onto p q)
+
+  more : {i u v : ℕ} → Joined early late i u v → Joined early late (suc i) u v
+  more stay = stay
+  more (along s p) = along (s .0, omega (arith, s .1), s .2) (more p)
+
+  flip : {i u v : ℕ} → Link early late i u v → Link early late i v u
+  flip s = (s .0, s .1, go (s .2))
+    where
+      go : {A B C D : Type 0} → (A × B) ⊎ (C × D) → (D × C) ⊎ (B × A)
+      go (inl x) = inr (x .1, x .0)
+      go (inr y) = inl (y .1, y .0)
+
+  last : (i : ℕ) → Link early late (suc i) (end early i) (end late i)
+  last i = (i, le-refl (suc i), inl (refl, refl))
+
+  -- ---- one label, one path
+
+  label-in : (i v : ℕ) → labels early late i v ≡ labels early late i (end early i)
+      → labels early late (suc i) v ≡ labels early late i (end late i)
+  unfolding labels
+  label-in i v e = merge-in (labels early late i) (end early i) (end late i) v e
+
+  label-out : (i v : ℕ) → (labels early late i v ≡ labels early late i (end early i) → ⊥)
+      → labels early late (suc i) v ≡ labels early late i v
+  unfolding labels
+  label-out i v n = merge-out (labels early late i) (end early i) (end late i) v n
+
+  -- the ends of an edge have one label after it
+  edge-labels : (i e : ℕ) → e < i → labels early late i (end early e) ≡ labels early late i (end late e)
+  unfolding labels
+  edge-labels zero e h = absurd (not-suc-le-zero h)
+  edge-labels (suc i) e h = go (edge-labels i e) (ℕ-discrete e i)
+    where
+      go : (e < i → labels early late i (end early e) ≡ labels early late i (end late e)) → Dec (e ≡ i)
+          → labels early late (suc i) (end early e) ≡ labels early late (suc i) (end late e)
+      go ih (yes q) = rw q (label-in i (end early i) refl ∙ sym (merge-late (labels early late i) (end early i) (end late i)))
+      go ih (no n) = merge-cong (labels early late i) (end early i) (end late i) (end early e) (end late e) (ih (omega arith))
+
+  pub joined-labels : {i u v : ℕ} → Joined early late i u v → labels early late i u ≡ labels early late i v
+  joined-labels stay = refl
+  joined-labels {i} (along {u = u} {v = v} (e, h, ends) p) = go ends ∙ joined-labels p
+    where
+      go : ((u ≡ end early e) × (v ≡ end late e)) ⊎ ((u ≡ end late e) × (v ≡ end early e)) → labels early late i u ≡ labels early late i v
+      go (inl q) = rw (q .0, q .1) (edge-labels i e h)
+      go (inr q) = rw (q .0, q .1) (sym (edge-labels i e h))
+
+  pub labels-joined : (i u v : ℕ) → labels early late i u ≡ labels early late i v → Joined early late i u v
+  unfolding labels
+  labels-joined zero u v e = subst (λ (x : ℕ). Joined early late zero u x) e stay
+  labels-joined (suc i) u v e = go (labels-joined i) (ℕ-discrete (f u) (f (end early i))) (ℕ-discrete (f v) (f (end early i)))
+    where
+      f : ℕ → ℕ
+      f x = labels early late i x
+
+      go : ((x y : ℕ) → f x ≡ f y → Joined early late i x y) → Dec (f u ≡ f (end early i)) → Dec (f v ≡ f (end early i))
+          → Joined early late (suc i) u v
+      go ih (yes p) (yes q) = more (ih u v (p ∙ sym q))
+      go ih (yes p) (no q) =
+          onto (more (ih u (end early i) p)) (along (last i) (more (ih (end late i) v (sym (label-in i u p) ∙ e ∙ label-out i v q))))
+      go ih (no p) (yes q) =
+          onto (more (ih u (end late i) (sym (label-out i u p) ∙ e ∙ label-in i v q)))
+          (along (flip (last i)) (more (ih (end early i) v (sym q))))
+      go ih (no p) (no q) = more (ih u v (sym (label-out i u p) ∙ e ∙ label-out i v q))
+
+  -- ---- a label is itself a vertex of the graph, and has this label
+
+  pub label-own : (i v : ℕ) → labels early late i (labels early late i v) ≡ labels early late i v
+  unfolding labels
+  label-own zero v = refl
+  label-own (suc i) v = merge-own (labels early late i) (end early i) (end late i) (label-own i) v
+
+  pub label-below : {n : ℕ} → Edges n early late → (i : ℕ) → i ≤ length early → (v : ℕ) → v < n → labels early late i v < n
+  unfolding labels
+  label-below E zero h v l = l
+  label-below {n} E (suc i) h v l =
+      let below = label-below E i (omega arith) in
+      merge-below (labels early late i) (end early i) (end late i) n (below (end late i) (E .late-below i h)) v (below v l)
+
+  -- ---- an edge passes the test exactly where no path of earlier edges joins its ends
+
+  pub tree-open : (e : ℕ) → isTree early late e ≡ true → Closes early late e → ⊥
+  unfolding isTree
+  tree-open e t p = true≢false (sym t ∙ ap not (eq-eqb _ _ (joined-labels p)))
+
+  pub free-closes : (e : ℕ) → isTree early late e ≡ false → Closes early late e
+  unfolding isTree
+  free-closes e t = labels-joined e (end early e) (end late e) (eqb-true _ _ (not-false _ t))
+
+  -- so the list of these tests spans
+  pub trees-span : Spans early late (tabulate (isTree early late) (length early))
+  trees-span =
+      record {
+        marks = tabulate-length (isTree early late) (length early);
+        marked = λ e h t. tree-open e (sym (mark e h) ∙ t);
+        unmarked = λ e h t. free-closes e (sym (mark e h) ∙ t);
+      }
+    where
+      mark : (e : ℕ) → e < length early → getD (tabulate (isTree early late) (length early)) e false ≡ isTree early late e
+      mark e h = tabulate-at (isTree early late) (length early) e false h

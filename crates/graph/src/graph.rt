@@ -1,0 +1,153 @@
+// What follows from the kept edges of a graph, for callers: each entry checks first, and where it refuses it alters no lent list.
+ghost use mathlib.Core.Path.{_≡_};
+ghost use mathlib.Core.Bool.{false, not};
+ghost use lib.Dec.{eqb};
+ghost use lib.ListN.{length};
+ghost use Rattle.transfer_matrix.specs.Job.{windowOf};
+ghost use Rattle.refusals.specs.Edges.{kept, keptEarly, keptLate};
+ghost use Rattle.refusals.specs.Request.{graphRequest, distanceRequest};
+ghost use Rattle.refusals.specs.Refusal.{refusal, ofGraph, ofGraphWithBuffers, ofDistance};
+ghost use Rattle.refusals.specs.Answers.{answered, left};
+ghost use Rattle.forest.specs.Paths.{Spans};
+ghost use Rattle.forest.specs.Components.{componentCount};
+ghost use Rattle.kept_edges.specs.Keep.{KeptEdges};
+ghost use Rattle.graph.specs.Graphs.{freeCount, treeMarks, componentNames, measureOf};
+ghost use Rattle.graph.specs.Reached.{Distanced};
+use distance::Reach;
+use kept_edges::build::build;
+use kept_edges::is_outside;
+use kept_edges::window_of;
+use limits::EDGES;
+use refusals::Answer;
+
+// The length of a shortest walk, that there is none, or the number of a refusal.
+pub enum Reached {
+    Length(usize),
+    NotJoined,
+    Refused(usize),
+}
+
+// What is measured of a graph: its window above a floor, how many components it has, or how many of its edges are free.
+pub enum Measure {
+    Window(usize),
+    Components,
+    Free,
+}
+
+// The measure of the kept edges.
+fn measure_kept(measure: Measure, n: usize, early: &[usize], late: &[usize]) -> usize
+    requires { ⌜ KeptEdges n (now early) (now late) ⌝ }
+    ensures { λ r. ⌜ r ≡ measureOf measure n (now (early .entry)) (now (late .entry)) ⌝ }
+{
+    match measure {
+        Measure::Window(floor) => window_of(floor, early, late),
+        Measure::Components => forest::count_components(n, early, late),
+        Measure::Free => forest::count_free_edges(n, early, late),
+    }
+}
+
+fn measured(measure: Measure, n: usize, a: &[usize], b: &[usize], m: &[f64]) -> Answer
+    ensures { λ r. ⌜ r ≡ answered (refusal ofGraph (graphRequest n (now (a .entry)) (now (b .entry)) (now (m .entry)) false))
+        (measureOf measure n (keptEarly (now (a .entry)) (now (b .entry)) (now (m .entry))) (keptLate (now (a .entry)) (now (b .entry)) (now (m .entry)))) ⌝ }
+{
+    let mut early = [0usize; EDGES];
+    let mut late = [0usize; EDGES];
+    let mut mag = [0.0f64; EDGES];
+    let g = build(n, a, b, m, &mut early, &mut late, &mut mag);
+    let refusal = g.refusal;
+    if refusal != 0 {
+        return Answer::Refused(refusal);
+    }
+    let edges = g.edges;
+    Answer::Number(measure_kept(measure, n, &early[..edges], &late[..edges]))
+}
+
+// The largest of 1, the caller's floor and the longest kept edge; a window above 24 is answered.
+pub fn window(n: usize, a: &[usize], b: &[usize], m: &[f64], floor: usize) -> Answer
+    ensures { λ r. ⌜ r ≡ answered (refusal ofGraph (graphRequest n (now (a .entry)) (now (b .entry)) (now (m .entry)) false))
+        (windowOf floor (keptEarly (now (a .entry)) (now (b .entry)) (now (m .entry))) (keptLate (now (a .entry)) (now (b .entry)) (now (m .entry)))) ⌝ }
+{
+    measured(Measure::Window(floor), n, a, b, m)
+}
+
+// How many components the graph has.
+pub fn n_components(n: usize, a: &[usize], b: &[usize], m: &[f64]) -> Answer
+    ensures { λ r. ⌜ r ≡ answered (refusal ofGraph (graphRequest n (now (a .entry)) (now (b .entry)) (now (m .entry)) false))
+        (componentCount n (keptEarly (now (a .entry)) (now (b .entry)) (now (m .entry))) (keptLate (now (a .entry)) (now (b .entry)) (now (m .entry)))) ⌝ }
+{
+    measured(Measure::Components, n, a, b, m)
+}
+
+// How many edges are free: kept edges and components, less the vertices.
+pub fn cyclomatic(n: usize, a: &[usize], b: &[usize], m: &[f64]) -> Answer
+    ensures { λ r. ⌜ r ≡ answered (refusal ofGraph (graphRequest n (now (a .entry)) (now (b .entry)) (now (m .entry)) false))
+        (freeCount (keptEarly (now (a .entry)) (now (b .entry)) (now (m .entry))) (keptLate (now (a .entry)) (now (b .entry)) (now (m .entry)))) ⌝ }
+{
+    measured(Measure::Free, n, a, b, m)
+}
+
+// Marks each kept edge that is a tree edge: no path of earlier kept edges joins its ends. Returns the refusal's number, 0 for accepted.
+pub fn spanning_forest(n: usize, a: &[usize], b: &[usize], m: &[f64], tree: &mut [bool]) -> usize
+    ensures { λ r. ⌜ (r ≡ refusal ofGraphWithBuffers (graphRequest n (now (a .entry)) (now (b .entry)) (now (m .entry)) (not (eqb (length (now (tree .entry))) (length (kept (now (a .entry)) (now (b .entry)) (now (m .entry))))))))
+        × (now (tree .exit) ≡ left r (treeMarks (keptEarly (now (a .entry)) (now (b .entry)) (now (m .entry))) (keptLate (now (a .entry)) (now (b .entry)) (now (m .entry)))) (now (tree .entry)))
+        × (r ≡ 0 → Spans (keptEarly (now (a .entry)) (now (b .entry)) (now (m .entry))) (keptLate (now (a .entry)) (now (b .entry)) (now (m .entry))) (now (tree .exit))) ⌝ }
+{
+    let mut early = [0usize; EDGES];
+    let mut late = [0usize; EDGES];
+    let mut mag = [0.0f64; EDGES];
+    let g = build(n, a, b, m, &mut early, &mut late, &mut mag);
+    let refusal = g.refusal;
+    if refusal != 0 {
+        return refusal;
+    }
+    let edges = g.edges;
+    if tree.len() != edges {
+        return 12;
+    }
+    forest::mark_tree_edges(n, &early[..edges], &late[..edges], tree);
+    0
+}
+
+// Names each vertex's component by one of its vertices. Returns the refusal's number, 0 for accepted.
+pub fn components(n: usize, a: &[usize], b: &[usize], m: &[f64], out: &mut [usize]) -> usize
+    ensures { λ r. ⌜ (r ≡ refusal ofGraphWithBuffers (graphRequest n (now (a .entry)) (now (b .entry)) (now (m .entry)) (not (eqb (length (now (out .entry))) n))))
+        × (now (out .exit) ≡ left r (componentNames n (keptEarly (now (a .entry)) (now (b .entry)) (now (m .entry))) (keptLate (now (a .entry)) (now (b .entry)) (now (m .entry)))) (now (out .entry))) ⌝ }
+{
+    let mut early = [0usize; EDGES];
+    let mut late = [0usize; EDGES];
+    let mut mag = [0.0f64; EDGES];
+    let g = build(n, a, b, m, &mut early, &mut late, &mut mag);
+    let refusal = g.refusal;
+    if refusal != 0 {
+        return refusal;
+    }
+    if out.len() != n {
+        return 12;
+    }
+    let edges = g.edges;
+    forest::name_components(n, &early[..edges], &late[..edges], out);
+    0
+}
+
+// The least number of kept edges on a walk from u to v; equal ends are allowed.
+pub fn distance(n: usize, a: &[usize], b: &[usize], m: &[f64], u: usize, v: usize) -> Reached
+    ensures { λ r. ⌜ Distanced (refusal ofDistance (distanceRequest n (now (a .entry)) (now (b .entry)) (now (m .entry)) u v))
+        (keptEarly (now (a .entry)) (now (b .entry)) (now (m .entry))) (keptLate (now (a .entry)) (now (b .entry)) (now (m .entry))) u v r ⌝ }
+{
+    let mut early = [0usize; EDGES];
+    let mut late = [0usize; EDGES];
+    let mut mag = [0.0f64; EDGES];
+    let g = build(n, a, b, m, &mut early, &mut late, &mut mag);
+    let refusal = g.refusal;
+    if refusal != 0 {
+        return Reached::Refused(refusal);
+    }
+    if is_outside(n, u, v) {
+        return Reached::Refused(8);
+    }
+    let edges = g.edges;
+    match distance::shortest_walk(&early[..edges], &late[..edges], u, v) {
+        Reach::Length(k) => Reached::Length(k),
+        Reach::NotJoined => Reached::NotJoined,
+    }
+}

@@ -1,2 +1,0 @@
--- That the rule over the tables is that of the laws of halves.
-pub mod ForwardIs

@@ -1,2 +1,0 @@
-mod FewTurn
-mod AlternateTurn

@@ -1,2 +1,0 @@
--- The halves of two places.
-pub mod Halves

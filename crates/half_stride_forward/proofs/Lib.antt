@@ -1,4 +1,0 @@
--- Laws that the proofs share.
-mod Rules
-mod ForwardTurn
-mod ForwardRuns

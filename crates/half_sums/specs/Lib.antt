@@ -1,4 +1,0 @@
-pub mod Terms
-pub mod Pair
-pub mod Vertex
-pub mod Stored

@@ -1,0 +1,64 @@
+use mathlib.Core.Path.{refl, sym, _∙_, subst}
+use Prim.Native.Nat.{ℕ}
+use native.Mathlib.Omega.{arith}
+use lib.ListN.{length}
+use lib.Seq.{length-take-le}
+use Rattle.vertex_step.specs.Ready.{Ready}
+use Rattle.plan_steps.specs.Layout.{Holds}
+use Rattle.pair_correlations.specs.Laws.Planning.{end-fits, ready, serves}
+use Rattle.job_run.proofs.Finishing.{factors-fit, finished}
+use borrow.Author.Needs.{needs}
+use Rattle.job_run.proofs.job.plan_and_run.Statement.{statement}
+use Rattle.job_run.proofs.job.plan_and_run.Tie as tie
+
+slice-aggregate-first : tie.Need-slice-aggregate-first
+slice-aggregate-first c = sym (length-take-le (length (c .before .before .before .before .before .before .before .before .before .before .before .before .before .before .args .us .now)) (c .before .before .before .before .before .before .before .before .before .before .before .before .before .before .args .order .now) (omega (arith, c .before .before .before .before .before .before .before .before .before .before .before .before .before .before .pre .0 .job .few-pairs)))
+
+order-pairs-requires : tie.Need-order-pairs-requires
+order-pairs-requires c κs =
+    let p = c .before .before .before .before .before .before .before .before .before .before .before .before .before .before .before .pre in
+    (p .0 .job .pairs, p .0 .job .edges .few, length-take-le (length (c .before .before .before .before .before .before .before .before .before .before .before .before .before .before .before .args .us .now)) (c .before .before .before .before .before .before .before .before .before .before .before .before .before .before .before .args .order .now) (omega (arith, p .0 .job .few-pairs)))
+
+slice-aggregate-room : tie.Need-slice-aggregate-room
+slice-aggregate-room c =
+    let e = end-fits _ _ _ _ _ _ _ _ _ _ _ _ (c .before .before .before .before .before .before .before .before .before .before .before .before .before .before .before .before .before .before .before .pre .0 .job) (c .before .before .before .before .before .before .before .before .make-plan .ensures) in
+    sym (length-take-le (c .before .before .before .before .before .before .before .before .make-plan .result .room) (c .before .before .before .before .before .before .before .before .before .before .before .before .before .before .before .before .before .before .before .args .work .now) e)
+
+lay-factors-requires : tie.Need-lay-factors-requires
+lay-factors-requires c κs =
+    let p = c .before .before .before .before .before .before .before .before .before .before .before .before .before .before .before .before .before .before .before .before .pre .0 in
+    let g = c .before .before .before .before .before .before .before .before .before .make-plan .ensures in
+    let e = end-fits _ _ _ _ _ _ _ _ _ _ _ _ (p .job) g in
+    let f = factors-fit _ _ _ _ _ _ _ _ _ _ _ _ _ _ p g in
+    let t = length-take-le (c .before .before .before .before .before .before .before .before .before .make-plan .result .room) (c .before .before .before .before .before .before .before .before .before .before .before .before .before .before .before .before .before .before .before .before .args .work .now) e in
+    omega arith
+
+run-requires : tie.Need-run-requires
+run-requires c κs =
+    let s = c .before .before .before .before .before .before .before .before .before .before .before .before .before .before .before .before .before .before .before .before .before .before .before .before .before .before in
+    let p = s .pre .0 in
+    let m = c .before .before .before .before .before .before .before .before .before .before .before .before .before .before .before .make-plan in
+    let g = m .ensures in
+    let holds : Holds (m .last .0) (s .args .n) = omega (arith, m .kept .0) in
+    let e = end-fits _ _ _ _ _ _ _ _ _ _ _ _ (p .job) g in
+    let l = c .before .before .before .before .before .lay-factors .kept .0 ∙ length-take-le (m .result .room) (s .args .work .now) e in (
+      p .job .some,
+      subst (λ (k : ℕ). Ready (m .last .0) k (s .args .n) (s .args .w) (m .result .scales)) (sym l)
+          (ready _ _ _ _ _ _ _ _ _ _ _ _ (p .job) g holds),
+      serves _ _ _ _ _ _ _ _ _ _ _ _ (p .job) g,
+      c .before .before .before .before .before .before .before .before .before .before .order-pairs .ensures,
+      p .fitting,
+    )
+
+returns : tie.Need-returns
+returns c =
+    let s = c .before .before .before .before .before .before .before .before .before .before .before .before .before .before .before .before .before .before .before .before .before .before .before .before .before .before .before .before .before .before .before .before .before in
+    let m = c .before .before .before .before .before .before .before .before .before .before .before .before .before .before .before .before .before .before .before .before .before .before .make-plan in
+    finished _ _ _ _ _ _ _ _ _ _ _ _ _ _ (s .pre .0) (m .ensures) (s .args .work .now) _ _ _ _ _ refl (c .before .before .before .before .before .before .before .before .before .before .before .before .lay-factors .ensures) (c .before .before .before .before .before .before .run .ensures .0) (c .before .before .before .before .before .before .run .ensures .1)
+
+pub plan-and-run-spec : {M : Type 1} → statement M
+plan-and-run-spec =
+    tie.close
+    (tie.spec
+    (λ c κs. search needs) (λ c. search needs) slice-aggregate-first order-pairs-requires (λ c. search needs) slice-aggregate-room
+    lay-factors-requires run-requires (λ c. search needs) (λ c. search needs) (λ c. search needs) (λ c. search needs) returns)

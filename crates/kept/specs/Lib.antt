@@ -1,3 +1,0 @@
-pub mod Keep
-pub mod Fronts
-pub mod Chains

@@ -1,0 +1,161 @@
+// The checks of a graph: one function a check, each with its test in the contract.
+ghost use mathlib.Core.Path.{_≡_};
+ghost use mathlib.Core.Bool.{Bool, not, _&&_, _||_};
+ghost use Prim.Native.Nat.{ℕ, _≤_, _<_};
+ghost use lib.Dec.{eqb, ltb, leb};
+ghost use lib.ListN.{length, getD};
+ghost use Rattle.list_laws.specs.Search.{some};
+ghost use Rattle.limits.specs.Limits.{mostVertices, mostEdges, mostPairs, mostBetas};
+ghost use Rattle.refusals.specs.Request.{outside, badEnds, oversized, someOversized, sameEnds, joinedTwice};
+ghost use Rattle.kept_edges.specs.Chains.{LastAt, Chain, Heads};
+use limits::BETAS;
+use limits::EDGES;
+use limits::PAIRS;
+use limits::VERTICES;
+
+// 1. The vertex count is 0 or above 1,024.
+pub fn bad_vertices(n: usize) -> bool
+    ensures { λ r. ⌜ r ≡ (eqb n 0 || ltb mostVertices n) ⌝ }
+{
+    if n == 0 {
+        return true;
+    }
+    VERTICES < n
+}
+
+// 2. Lists of one kind differ in length, or there are over 4,096 edges, 256 pairs or 64 betas.
+pub fn bad_lists(a: usize, b: usize, m: usize, us: usize, vs: usize, betas: usize) -> bool
+    ensures { λ r. ⌜ r ≡ (not (eqb a b) || not (eqb a m) || ltb mostEdges a || not (eqb us vs) || ltb mostPairs us || ltb mostBetas betas) ⌝ }
+{
+    if a != b {
+        return true;
+    }
+    if a != m {
+        return true;
+    }
+    if EDGES < a {
+        return true;
+    }
+    if us != vs {
+        return true;
+    }
+    if PAIRS < us {
+        return true;
+    }
+    BETAS < betas
+}
+
+// An end is outside the graph.
+pub fn is_outside(n: usize, u: usize, v: usize) -> bool
+    ensures { λ r. ⌜ r ≡ outside n u v ⌝ }
+{
+    if n <= u {
+        return true;
+    }
+    n <= v
+}
+
+fn bad_edge(n: usize, x: usize, y: usize) -> bool
+    ensures { λ r. ⌜ r ≡ (eqb x y || outside n x y) ⌝ }
+{
+    if x == y {
+        return true;
+    }
+    is_outside(n, x, y)
+}
+
+// 3. An edge has equal ends or an end outside the graph.
+pub fn bad_edges(n: usize, a: &[usize], b: &[usize]) -> bool
+    requires { ⌜ length (now b) ≡ length (now a) ⌝ }
+    ensures { λ r. ⌜ r ≡ some (badEnds n (now (a .entry)) (now (b .entry))) (length (now (a .entry))) ⌝ }
+{
+    let mut i: usize = 0;
+    while i < a.len() {
+        if bad_edge(n, a[i], b[i]) {
+            return true;
+        }
+        i += 1;
+    }
+    false
+}
+
+fn is_oversized(x: f64) -> bool
+    ensures { λ r. ⌜ r ≡ oversized x ⌝ }
+{
+    if -1024.0 <= x {
+        if x <= 1024.0 {
+            return false;
+        }
+    }
+    true
+}
+
+// Returns whether a number isn't finite, or its size is above 1,024.
+fn some_oversized(m: &[f64]) -> bool
+    ensures { λ r. ⌜ r ≡ someOversized (now (m .entry)) ⌝ }
+{
+    let mut i: usize = 0;
+    while i < m.len() {
+        if is_oversized(m[i]) {
+            return true;
+        }
+        i += 1;
+    }
+    false
+}
+
+// 4. A magnitude or beta isn't finite, or its size is above 1,024.
+pub fn bad_sizes(m: &[f64], betas: &[f64]) -> bool
+    ensures { λ r. ⌜ r ≡ (someOversized (now (m .entry)) || someOversized (now (betas .entry))) ⌝ }
+{
+    if some_oversized(m) {
+        return true;
+    }
+    some_oversized(betas)
+}
+
+// Whether an edge before e joins the same vertices. Only the edges with e's later end are looked at, from the last of them on.
+fn joined_before(early: &[usize], late: &[usize], next: &[usize], e: usize, last: usize) -> bool
+    requires { ⌜ (length (now late) ≡ length (now early)) × (e < length (now early)) × (e ≤ length (now next)) × Chain (now late) (now next) e × LastAt (now late) e (getD (now late) e 0) last ⌝ }
+    ensures { λ r. ⌜ r ≡ some (sameEnds (now (early .entry)) (now (late .entry)) e) e ⌝ }
+{
+    let x = early[e];
+    let mut k = last;
+    while k > 0 {
+        if early[k - 1] == x {
+            return true;
+        }
+        k = next[k - 1];
+    }
+    false
+}
+
+// 5. Two kept edges join the same vertices. `heads` and `next` are made here.
+fn find_twice(early: &[usize], late: &[usize], heads: &mut [usize], next: &mut [usize]) -> bool
+    requires { ⌜ (length (now late) ≡ length (now early)) × (length (now early) ≤ length (now next)) × Heads (now late) (now heads) 0 ⌝ }
+    requires { ⌜ ((e : ℕ) → e < length (now late) → getD (now late) e 0 < length (now heads)) ⌝ }
+    ensures { λ r. ⌜ r ≡ joinedTwice (now (early .entry)) (now (late .entry)) ⌝ }
+{
+    let mut e: usize = 0;
+    while e < early.len() {
+        let v = late[e];
+        let last = heads[v];
+        if joined_before(early, late, next, e, last) {
+            return true;
+        }
+        next[e] = last;
+        e += 1;
+        heads[v] = e;
+    }
+    false
+}
+
+pub(crate) fn joined_twice(early: &[usize], late: &[usize]) -> bool
+    requires { ⌜ (length (now late) ≡ length (now early)) × (length (now early) ≤ mostEdges) ⌝ }
+    requires { ⌜ ((e : ℕ) → e < length (now late) → getD (now late) e 0 < mostVertices) ⌝ }
+    ensures { λ r. ⌜ r ≡ joinedTwice (now (early .entry)) (now (late .entry)) ⌝ }
+{
+    let mut heads = [0usize; VERTICES];
+    let mut next = [0usize; EDGES];
+    find_twice(early, late, &mut heads, &mut next)
+}

@@ -1,3 +1,0 @@
-mod Building
-mod Setting
-mod Turning

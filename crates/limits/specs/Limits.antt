@@ -1,0 +1,52 @@
+-- The limits of a job, as definitions and contracts name them.
+use Prim.Native.Nat.{ℕ, _+_, _*_}
+use Rattle.limits.specs.declared.Limits.{Limits}
+
+-- The most vertices of a graph.
+abbrev pub mostVertices : ℕ
+mostVertices = 1024
+
+-- The most raw edges of a graph.
+abbrev pub mostEdges : ℕ
+mostEdges = 4096
+
+-- The most pairs of a job.
+abbrev pub mostPairs : ℕ
+mostPairs = 256
+
+-- The most betas of a job.
+abbrev pub mostBetas : ℕ
+mostBetas = 64
+
+-- The widest window.
+abbrev pub mostWindow : ℕ
+mostWindow = 24
+
+-- The most free edges where totals are counted.
+abbrev pub mostCounted : ℕ
+mostCounted = 34
+
+-- The most free edges where each correlation is stored.
+abbrev pub mostStored : ℕ
+mostStored = 24
+
+-- The most samples of all chunks: 2^32.
+abbrev pub mostSamples : ℕ
+mostSamples = 4294967296
+
+-- The code's constants.
+abbrev pub stated : Limits
+stated = record {
+  vertices = mostVertices;
+  edges = mostEdges;
+  pairs = mostPairs;
+  betas = mostBetas;
+  window = mostWindow;
+  counted = mostCounted;
+  stored = mostStored;
+  samples = mostSamples;
+  plan = 12 * mostVertices;
+  sums = mostBetas * mostPairs;
+  couplings = mostBetas * mostEdges;
+  copied = mostPairs + 1;
+}

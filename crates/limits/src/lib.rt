@@ -1,0 +1,72 @@
+// The limits of a job, each said once: constants for code, and the definitions that contracts name.
+ghost use mathlib.Core.Path.{_≡_};
+ghost use Rattle.limits.specs.Limits.{stated};
+
+// The most vertices and raw edges of a graph.
+pub const VERTICES: usize = 1024;
+
+pub const EDGES: usize = 4096;
+
+// The most pairs and betas of a job.
+pub const PAIRS: usize = 256;
+
+pub const BETAS: usize = 64;
+
+// The widest window.
+pub const WINDOW: usize = 24;
+
+// The most free edges where totals are counted, and where each correlation is stored.
+pub const COUNTED: usize = 34;
+
+pub const STORED: usize = 24;
+
+// The most samples of all chunks: 2^32.
+pub const SAMPLES: usize = 4294967296;
+
+// The numbers of a plan: twelve for each vertex.
+pub const PLAN: usize = 12 * VERTICES;
+
+// The most totals of a call: one for each beta and pair.
+pub const SUMS: usize = BETAS * PAIRS;
+
+// The most couplings of a call: one for each beta and edge.
+pub const COUPLINGS: usize = BETAS * EDGES;
+
+// As many pairs as a call copies: one more than a job may have.
+pub const COPIED: usize = PAIRS + 1;
+
+// All limits.
+pub struct Limits {
+    pub vertices: usize,
+    pub edges: usize,
+    pub pairs: usize,
+    pub betas: usize,
+    pub window: usize,
+    pub counted: usize,
+    pub stored: usize,
+    pub samples: usize,
+    pub plan: usize,
+    pub sums: usize,
+    pub couplings: usize,
+    pub copied: usize,
+}
+
+// Returns the constants, which are the numbers of the definitions.
+pub fn all() -> Limits
+    ensures { λ r. ⌜ r ≡ stated ⌝ }
+{
+    Limits {
+        vertices: VERTICES,
+        edges: EDGES,
+        pairs: PAIRS,
+        betas: BETAS,
+        window: WINDOW,
+        counted: COUNTED,
+        stored: STORED,
+        samples: SAMPLES,
+        plan: PLAN,
+        sums: SUMS,
+        couplings: COUPLINGS,
+        copied: COPIED,
+    }
+}

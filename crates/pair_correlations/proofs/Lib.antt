@@ -1,0 +1,4 @@
+-- Laws that the proofs share.
+mod PairLaws
+mod Answering
+mod Two

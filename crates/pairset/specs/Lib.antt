@@ -1,3 +1,0 @@
-pub mod PairSet
-pub mod PairListing
-pub mod PairLaws

@@ -1,0 +1,7 @@
+-- The definitions that the contracts cite.
+pub mod Places
+pub mod Work
+pub mod Order
+pub mod Plannable
+-- and the laws of these definitions, which no reader needs to believe.
+pub mod Laws

@@ -1,0 +1,5 @@
+-- The definitions that the contracts cite.
+pub mod Current
+pub mod Pairing
+-- and the laws of these definitions, which no reader needs to believe.
+pub mod Laws

@@ -1,0 +1,45 @@
+-- The checks of a call for couplings or totals in parts, and what they give of a call that none of them refuses.
+use mathlib.Core.Path.{_≡_}
+use mathlib.Core.Bool.{Bool, true, false, cond, _||_, not}
+use mathlib.Core.List.{List}
+use Prim.Native.Nat.{ℕ, _≤_, _<_}
+use lib.Dec.{eqb, ltb}
+use lib.Ieee.{Float, nan}
+use lib.ListN.{length, getD}
+use Rattle.transfer_matrix.specs.Room as Room
+use Rattle.refusals.specs.Edges.{kept, windowFrom}
+use Rattle.refusals.specs.Request.{signedFactors}
+use Rattle.refusals.specs.Request.{badFactorList, passes, tooManyChunks}
+use Rattle.refusals.specs.Accepted.{AcceptedBetas}
+use Rattle.refusals.specs.AcceptedJob.{AcceptedJob, buffersRefusal}
+
+-- ---- in parts
+
+-- of the checks 9, 10, 12 and 13 the first that fits a call with so many betas
+abbrev pub enumerationLists : (n w edges : ℕ) → (us vs : List ℕ) → (betas : ℕ) → (factors : List Float) → (free most : ℕ) → Bool → (work : ℕ) → ℕ
+enumerationLists n w edges us vs betas factors free most misfit work =
+    cond (ltb most free) 9 (cond (badFactorList factors (signedFactors betas edges)) 10 (buffersRefusal n w edges us vs misfit work))
+
+-- of the checks 10 to 13 the first
+abbrev pub samplingLists : (n w edges : ℕ) → (us vs : List ℕ) → (betas : ℕ) → (factors : List Float) → (start end samples : ℕ) → Bool → (work : ℕ) → ℕ
+samplingLists n w edges us vs betas factors start end samples misfit work =
+    cond (badFactorList factors (signedFactors betas edges)) 10
+    (cond (tooManyChunks start end samples) 11 (buffersRefusal n w edges us vs misfit work))
+
+-- two result buffers are not both of the length that is wanted; one buffer is the same twice
+abbrev pub misfits : (wanted squares fourths : ℕ) → Bool
+misfits wanted squares fourths = not (eqb squares wanted) || not (eqb fourths wanted)
+
+-- ---- chunks times samples, without their product
+
+-- ---- what has passed where none refuses
+
+-- a call for totals, behind 9 and 11
+pub record AcceptedTotals (n floor : ℕ) (a b : List ℕ) (m : List Float) (us vs : List ℕ) (betas factors : List Float) (misfit : Bool) (work : ℕ)
+    : Type 0 where
+  pub job : AcceptedJob n floor a b m us vs
+  pub betas-pass : AcceptedBetas betas
+  pub factor-count : length factors ≡ signedFactors (length betas) (length (kept a b m))
+  pub factors-pass : (e : ℕ) → e < signedFactors (length betas) (length (kept a b m)) → passes (getD factors e nan) ≡ true
+  pub fitting : misfit ≡ false
+  pub enough : Room.room n (windowFrom floor a b m) (length (kept a b m)) us vs ≤ work

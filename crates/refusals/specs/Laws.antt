@@ -1,0 +1,9 @@
+-- What is proved of the definitions.
+pub mod Key
+pub mod Controls
+pub mod Answers
+pub mod First
+pub mod Accepted
+pub mod Later
+pub mod AcceptedJob
+pub mod AcceptedTotals

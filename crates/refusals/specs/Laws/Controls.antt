@@ -1,0 +1,188 @@
+-- Computed facts: where several checks fit, the first in checking order is answered, and a call answers only what concerns it.
+use mathlib.Core.Path.{_≡_, refl}
+use mathlib.Core.Bool.{Bool, true, false}
+use mathlib.Core.List.{List, [], _∷_}
+use Prim.Native.Nat.{ℕ}
+use lib.IntN.{pos}
+use lib.Ieee.{Float, nan, inf, fin, eq, le, lt, neg, ofBits}
+use lib.ListN.{replicate}
+use Rattle.list_laws.specs.Search.{some}
+use Rattle.transfer_matrix.specs.Job.{windowOf, tooManyNear}
+use Rattle.transfer_matrix.specs.Configuration.{edgesWith}
+use Rattle.transfer_matrix.specs.Room.{room}
+use Rattle.refusals.specs.Edges.{keptOf}
+use Rattle.refusals.specs.Request.{graphRequest, distanceRequest, roomRequest, correlationRequest}
+use Rattle.refusals.specs.Request.{couplingRequest, enumerationRequest, samplingRequest, mostCounted, mostStored}
+use Rattle.refusals.specs.Refusal.{refusal, ofGraph, ofGraphWithBuffers, ofDistance, ofRoom, ofCorrelations}
+use Rattle.refusals.specs.Refusal.{ofCouplings, ofEnumeration, ofSampling}
+
+abbrev one : Float
+one = fin false 1 (pos 0)
+
+-- no vertex, and lists that differ
+pub first-1 : refusal ofGraph (graphRequest 0 (0 ∷ []) [] [] true) ≡ 1
+first-1 = refl
+
+-- lists that differ, and an edge with equal ends
+pub first-2 : refusal ofGraph (graphRequest 2 (0 ∷ []) (0 ∷ []) [] true) ≡ 2
+first-2 = refl
+
+-- equal ends, and a magnitude that is not finite
+pub first-3 : refusal ofGraph (graphRequest 2 (0 ∷ []) (0 ∷ []) (inf false ∷ []) true) ≡ 3
+unfolding some
+first-3 = refl
+
+-- a magnitude that is not finite, and two edges between the same vertices
+pub first-4 : refusal ofGraph (graphRequest 2 (0 ∷ 1 ∷ []) (1 ∷ 0 ∷ []) (one ∷ inf false ∷ []) true) ≡ 4
+unfolding some le neg ofBits
+first-4 = refl
+
+-- two edges between the same vertices, and a buffer that does not fit
+pub first-5 : refusal ofGraphWithBuffers (graphRequest 2 (0 ∷ 1 ∷ []) (1 ∷ 0 ∷ []) (one ∷ one ∷ []) true) ≡ 5
+unfolding some le neg ofBits keptOf eq
+first-5 = refl
+
+-- a magnitude of zero drops an edge, so the other is alone
+pub dropped : refusal ofGraphWithBuffers (graphRequest 2 (0 ∷ 1 ∷ []) (1 ∷ 0 ∷ []) (one ∷ fin true 0 (pos 0) ∷ []) true) ≡ 12
+unfolding some le neg ofBits keptOf eq
+dropped = refl
+
+-- a graph's own calls do not ask of buffers, nor `distance` of equal ends
+pub not-asked : refusal ofGraph (graphRequest 2 [] [] [] true) ≡ 0
+unfolding some keptOf
+not-asked = refl
+
+pub equal-ends : (refusal ofDistance (distanceRequest 2 [] [] [] 1 1) ≡ 0) × (refusal ofDistance (distanceRequest 2 [] [] [] 1 2) ≡ 8)
+unfolding some keptOf
+equal-ends = (refl, refl)
+
+-- ---- a job
+
+-- a window of 25, and a pair with equal ends; 24 passes
+pub first-6 : refusal ofRoom (roomRequest 2 25 [] [] [] (0 ∷ []) (0 ∷ [])) ≡ 6
+unfolding some keptOf windowOf
+first-6 = refl
+
+pub window-24 : refusal ofRoom (roomRequest 2 24 [] [] [] (0 ∷ []) (1 ∷ [])) ≡ 0
+unfolding some keptOf windowOf tooManyNear edgesWith
+window-24 = refl
+
+-- edges from 0, 1, 2, 3, 4 to 5: all five are shorter than a window of 6, and a pair lies outside; four are shorter than a window of 5
+abbrev fan : ℕ → List ℕ → List ℕ → ℕ
+fan floor us vs = refusal ofRoom (roomRequest 6 floor (0 ∷ 1 ∷ 2 ∷ 3 ∷ 4 ∷ []) (5 ∷ 5 ∷ 5 ∷ 5 ∷ 5 ∷ []) (one ∷ one ∷ one ∷ one ∷ one ∷ []) us vs)
+
+pub first-7 : fan 6 (0 ∷ []) (6 ∷ []) ≡ 7
+unfolding some keptOf eq le neg ofBits windowOf tooManyNear edgesWith
+first-7 = refl
+
+pub four-near : fan 5 (0 ∷ []) (5 ∷ []) ≡ 0
+unfolding some keptOf eq le neg ofBits windowOf tooManyNear edgesWith
+four-near = refl
+
+-- two vertices, the edge 0-1, the pair u-v: a room of 13
+abbrev single : ℕ → ℕ → List Float → (results work : ℕ) → Bool → ℕ
+single u v factors results work unsound =
+    refusal ofCorrelations (correlationRequest 2 0 (0 ∷ []) (1 ∷ []) (one ∷ []) (u ∷ []) (v ∷ []) factors results work unsound)
+
+-- a pair with equal ends, and a factor that is no number
+pub first-8 : single 0 0 (nan ∷ []) 1 13 false ≡ 8
+unfolding some keptOf eq le lt neg ofBits windowOf tooManyNear edgesWith
+first-8 = refl
+
+-- a factor that is not finite and above zero, and results of another length
+pub first-10 : (single 0 1 (fin false 0 (pos 0) ∷ []) 2 0 false ≡ 10) × (single 0 1 (inf false ∷ []) 2 0 false ≡ 10)
+unfolding some keptOf eq le lt neg ofBits windowOf tooManyNear edgesWith
+first-10 = (refl, refl)
+
+-- one factor too few or too many, though all pass
+pub factor-each : (single 0 1 [] 2 0 false ≡ 10) × (single 0 1 (one ∷ one ∷ []) 2 0 false ≡ 10)
+unfolding some keptOf eq le lt neg ofBits windowOf tooManyNear edgesWith
+factor-each = (refl, refl)
+
+-- results of another length, and short work memory
+pub first-12 : single 0 1 (one ∷ []) 2 12 true ≡ 12
+unfolding some keptOf eq le lt neg ofBits windowOf tooManyNear edgesWith
+first-12 = refl
+
+-- short work memory, and a Z that is not finite and above zero
+pub first-13 : single 0 1 (one ∷ []) 1 12 true ≡ 13
+unfolding some keptOf eq le lt neg ofBits windowOf tooManyNear edgesWith room
+first-13 = refl
+
+-- such a Z, and none
+pub last-14 : (single 0 1 (one ∷ []) 1 13 true ≡ 14) × (single 0 1 (one ∷ []) 1 13 false ≡ 0)
+unfolding some keptOf eq le lt neg ofBits windowOf tooManyNear edgesWith room
+last-14 = (refl, refl)
+
+-- ---- betas
+
+-- one vertex, and so many betas
+abbrev coupled : List Float → Bool → ℕ
+coupled betas misfit = refusal ofCouplings (couplingRequest 1 [] [] [] betas misfit)
+
+-- 65 betas, one not finite; 64 pass
+pub betas-65 : (coupled (inf false ∷ replicate 64 one) true ≡ 2) × (coupled (replicate 64 one) true ≡ 12)
+unfolding some keptOf le neg ofBits
+betas-65 = (refl, refl)
+
+-- a beta of 1,025, two edges between the same vertices, and a buffer that does not fit; with a beta of -1,024 the edges are next
+abbrev twice : ℕ → Float → ℕ
+twice u beta = refusal ofCouplings (couplingRequest 2 (u ∷ 1 ∷ []) (1 ∷ 0 ∷ []) (one ∷ one ∷ []) (one ∷ beta ∷ []) true)
+
+pub beta-1025 : (twice 0 (fin false 1025 (pos 0)) ≡ 4) × (twice 0 (fin true 1024 (pos 0)) ≡ 5)
+unfolding some keptOf eq le neg ofBits
+beta-1025 = (refl, refl)
+
+-- an edge with equal ends comes before a beta
+pub beta-behind-3 : twice 1 nan ≡ 3
+unfolding some
+beta-behind-3 = refl
+
+-- ---- totals: two vertices, the edge 0-1, the pair 0-1, one beta: two factors, and a room of 13
+
+abbrev counted : (free most : ℕ) → List Float → (misfit : Bool) → (work : ℕ) → ℕ
+counted free most factors misfit work =
+    refusal ofEnumeration
+    (enumerationRequest 2 0 (0 ∷ []) (1 ∷ []) (one ∷ []) (0 ∷ []) (1 ∷ []) (one ∷ []) factors free most misfit work false)
+
+-- 35 free edges, and factors too few; 34 pass for totals, 24 for stored correlations
+pub first-9 : (counted 35 mostCounted [] true 0 ≡ 9) × (counted 25 mostStored [] true 0 ≡ 9)
+unfolding some keptOf eq le neg ofBits windowOf tooManyNear edgesWith
+first-9 = (refl, refl)
+
+pub free-34 : (counted 34 mostCounted (one ∷ one ∷ []) false 13 ≡ 0) × (counted 24 mostStored (one ∷ one ∷ []) false 13 ≡ 0)
+unfolding some keptOf eq le lt neg ofBits windowOf tooManyNear edgesWith room
+free-34 = (refl, refl)
+
+-- one factor a kept edge is too few: each sign has its own
+pub factor-signs : counted 0 mostCounted (one ∷ []) true 0 ≡ 10
+unfolding some keptOf eq le lt neg ofBits windowOf tooManyNear edgesWith
+factor-signs = refl
+
+abbrev drawn : (start end samples : ℕ) → List Float → (misfit : Bool) → (work : ℕ) → ℕ
+drawn start end samples factors misfit work =
+    refusal ofSampling
+    (samplingRequest 2 0 (0 ∷ []) (1 ∷ []) (one ∷ []) (0 ∷ []) (1 ∷ []) (one ∷ []) factors start end samples misfit work false)
+
+-- a bad factor, and too many samples; these, and a buffer that does not fit; such a buffer, and short work memory
+pub first-11 : (drawn 0 65537 65536 (one ∷ nan ∷ []) true 0 ≡ 10) × (drawn 0 65537 65536 (one ∷ one ∷ []) true 0 ≡ 11)
+    × (drawn 0 65536 65536 (one ∷ one ∷ []) true 0 ≡ 12)
+unfolding some keptOf eq le lt neg ofBits windowOf tooManyNear edgesWith
+first-11 = (refl, refl, refl)
+
+-- 2^32 samples pass, one more does not, though they be in one chunk; the chunks count from their start
+pub samples-over : (drawn 7 8 4294967296 (one ∷ one ∷ []) false 13 ≡ 0) × (drawn 7 8 4294967297 (one ∷ one ∷ []) false 13 ≡ 11)
+    × (drawn 1 4294967297 1 (one ∷ one ∷ []) false 13 ≡ 0) × (drawn 0 4294967297 1 (one ∷ one ∷ []) false 13 ≡ 11)
+unfolding some keptOf eq le lt neg ofBits windowOf tooManyNear edgesWith room
+samples-over = (refl, refl, refl, refl)
+
+-- a product that 64 bits do not hold
+pub samples-far : drawn 0 4294967296 4294967296 (one ∷ one ∷ []) false 13 ≡ 11
+unfolding some keptOf eq le lt neg ofBits windowOf tooManyNear edgesWith
+samples-far = refl
+
+-- an end that isn't above the start, and chunks without samples
+pub no-chunk : (drawn 8 8 4294967297 (one ∷ one ∷ []) false 13 ≡ 0) × (drawn 9 8 4294967297 (one ∷ one ∷ []) false 13 ≡ 0)
+    × (drawn 0 18446744073709551615 0 (one ∷ one ∷ []) false 13 ≡ 0)
+unfolding some keptOf eq le lt neg ofBits windowOf tooManyNear edgesWith room
+no-chunk = (refl, refl, refl)

@@ -1,0 +1,38 @@
+// Lists of stored answers, as the replay programs read them: a row of 64-bit words, little-endian, a double as its bits.
+mod hash;
+mod lists;
+mod memory;
+mod tally;
+mod words;
+
+pub use hash::OFFSET;
+pub use hash::mix;
+pub use hash::mix_doubles;
+pub use hash::mix_marks;
+pub use hash::mix_number;
+pub use hash::mix_numbers;
+pub use lists::EdgeLists;
+pub use lists::TwoLists;
+pub use lists::edge_lists;
+pub use lists::load_edges;
+pub use lists::two_lists;
+pub use memory::are_cleared;
+pub use memory::fill;
+pub use tally::Counted;
+pub use tally::NUMBERS;
+pub use tally::Progress;
+pub use tally::Replayed;
+pub use tally::advance;
+pub use tally::begin;
+pub use tally::count;
+pub use tally::finish;
+pub use tally::report;
+pub use words::are_stored;
+pub use words::at;
+pub use words::bits_of;
+pub use words::float_of;
+pub use words::length_at;
+pub use words::load_doubles;
+pub use words::load_numbers;
+pub use words::number_at;
+pub use words::word;

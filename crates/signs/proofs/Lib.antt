@@ -1,4 +1,0 @@
--- Laws that the proofs share.
-mod Bits
-mod Filling
-mod Sampling

@@ -1,6 +1,0 @@
--- Laws that the proofs share.
-mod Targets
-mod Frames
-mod Unscaled
-mod ForwardTurn
-mod BackwardTurn

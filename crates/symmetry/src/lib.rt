@@ -1,1 +1,0 @@
-// Laws alone: see specs/.

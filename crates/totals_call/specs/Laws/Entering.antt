@@ -1,0 +1,199 @@
+-- A call that its checks pass, from the fronts of the lists that its kept edges stand in.
+use mathlib.Core.Path.{_≡_, sym, ap, _∙_, subst}
+use mathlib.Core.Bool.{Bool, true, false, not}
+use mathlib.Core.List.{List}
+use Prim.Native.Nat.{ℕ, _-_, _*_, _≤_, _<_}
+use native.Mathlib.Nat.{mul-le-mul-right}
+use native.Mathlib.Decide.{decLt}
+use native.Mathlib.Omega.{arith}
+use lib.Dec.{eqb, ltb}
+use lib.Ieee.{Float}
+use lib.ListN.{length, take}
+use borrow.Author.Tests.{lt-ltb, ltb-false, eqb-true, not-false}
+use Rattle.list_laws.specs.Count.{count}
+use Rattle.list_laws.specs.Laws.Search.{or-false}
+use Rattle.forest.specs.Labels.{isTree}
+use Rattle.forest.specs.Paths as Paths
+use Rattle.transfer_matrix.specs.Job as Job
+use Rattle.transfer_matrix.specs.Room.{room}
+use Rattle.transfer_matrix.specs.Rounded.{ieee}
+use Rattle.transfer_matrix.specs.Totals.{square, fourth}
+use Rattle.refusals.specs.Edges.{kept, windowFrom, keptEarly, keptLate}
+use Rattle.refusals.specs.Request.{badFactorList, signedFactors, tooManyChunks}
+use Rattle.refusals.specs.Laws.First.{unless}
+use Rattle.refusals.specs.AcceptedJob.{buffersRefusal}
+use Rattle.refusals.specs.Laws.AcceptedJob.{accepted-factors, accepted-buffers}
+use Rattle.refusals.specs.AcceptedTotals.{misfits, enumerationLists, samplingLists}
+use Rattle.refusals.specs.Laws.AcceptedTotals.{misfits-alone, few-samples}
+use Rattle.plan_steps.specs.Edges.{Edges}
+use Rattle.kept_edges.specs.Laws.Fronts.{front-early, front-late, early-part}
+use Rattle.graph.specs.Graphs.{freeCount}
+use Rattle.job_checks.specs.Checked.{ReadyJob}
+use Rattle.job_checks.specs.Laws.Plannable.{edge-count, plannable}
+use Rattle.totals_configuration.specs.Powers.{correlationAt}
+use Rattle.totals_chunks.specs.declared.Chunks.{Chunks}
+use Rattle.totals_chunks.specs.Totals.{allChunks, drawnChunks}
+use Rattle.totals_chunks.specs.Laws.Blocks.{all-unsound, all-totals, all-fit}
+use Rattle.totals_call.specs.Jobs.{jobEnumerated, unsoundEnumeration, unsoundIn, enumeratedTotals, totalsIn}
+use Rattle.totals_call.specs.Finished.{Passed, Numbered, Finished, TotalsAre, StoredAre}
+
+-- a sum for each beta and pair
+pub few-products : (betas pairs : ℕ) → betas ≤ 64 → pairs ≤ 256 → betas * pairs ≤ 16384
+few-products betas pairs b p = let h : betas * pairs ≤ 64 * pairs = mul-le-mul-right pairs b in omega arith
+
+-- the edges that a plan is of are edges that a forest spans
+pub joins : {early late : List ℕ} {n w : ℕ} → Edges early late n w → Paths.Edges n early late
+joins g = record {
+  paired = sym (g .matched);
+  early-below = λ e l. omega (arith, g .ordered e l, g .inside e l);
+  late-below = λ e l. g .inside e l;
+}
+
+-- both buffers are of the length that is wanted
+pub fits-both : (wanted squares fourths : ℕ) → misfits wanted squares fourths ≡ false → (squares ≡ wanted) × (fourths ≡ wanted)
+fits-both wanted squares fourths h =
+    let o = or-false (not (eqb squares wanted)) (not (eqb fourths wanted)) h in
+    (eqb-true squares wanted (not-false _ (o .0)), eqb-true fourths wanted (not-false _ (o .1)))
+
+module _ {n floor : ℕ} {a b : List ℕ} {m : List Float} {us vs : List ℕ} {k w : ℕ} {early early′ late late′ : List ℕ} {mag mag′ : List Float}
+    (g : ReadyJob n floor a b m us vs k w early early′ late late′ mag mag′) where
+  passed-lists : (factors : List Float) (betas : ℕ) (misfit : Bool) (work : ℕ) → betas ≤ 64 → badFactorList factors (signedFactors betas k) ≡ false
+      → buffersRefusal n w k us vs misfit work ≡ 0 → Passed n w (take k early′) (take k late′) us vs (length factors) betas work × (misfit ≡ false)
+  passed-lists factors betas misfit work few f z =
+      let buffers = accepted-buffers n w k us vs misfit work z in (
+        record {
+          job = plannable g work (buffers .1);
+          few-betas = few;
+          factored = accepted-factors factors (signedFactors betas k) f .0 ∙ ap (signedFactors betas) (early-part (g .written));
+        },
+        buffers .0,
+      )
+
+  -- what holds of the fronts, at this window and manner, holds of the kept edges
+  to-kept : (Done : List ℕ → List ℕ → ℕ → Job.Manner → ℕ → Type 0) (manner manner′ : Job.Manner) → manner ≡ manner′
+      → Done (take k early′) (take k late′) w manner (length (take k early′))
+      → Done (keptEarly a b m) (keptLate a b m) (windowFrom floor a b m) manner′ (length (kept a b m))
+  to-kept Done manner manner′ e f =
+      let E = keptEarly a b m in
+      let L = keptLate a b m in
+      let p : Done E L w manner (length E) =
+      subst (λ (x : List ℕ). Done E x w manner (length E)) (front-late (g .written))
+      (subst (λ (x : List ℕ). Done x (take k late′) w manner (length x)) (front-early (g .written)) f) in
+      let q = subst (λ (v : ℕ). Done E L v manner (length E)) (g .window) p in
+      let s = subst (λ (c : ℕ). Done E L (windowFrom floor a b m) manner c) (edge-count g) q in
+      subst (λ (x : Job.Manner). Done E L (windowFrom floor a b m) x (length (kept a b m))) e s
+
+  -- ---- of an enumeration
+
+  -- the kept edges make a graph that a forest spans
+  pub joined : Paths.Edges n (take k early′) (take k late′)
+  joined = rw (front-early (g .written), front-late (g .written)) (joins (g .edges))
+
+  pub all-lists : (betas : ℕ) (factors : List Float) (free free′ most : ℕ) (misfit : Bool) (work r : ℕ) → free ≡ free′
+      → r ≡ enumerationLists n w k us vs betas factors free most misfit work
+      → r ≡ enumerationLists n (windowFrom floor a b m) (length (kept a b m)) us vs betas factors free′ most misfit work
+  all-lists betas factors free free′ most misfit work r e h = rw (g .window, g .written .edges, e) at h
+
+  pub all-passed : (betas : ℕ) (factors : List Float) (free most : ℕ) (misfit : Bool) (work r : ℕ) → betas ≤ 64
+      → r ≡ enumerationLists n w k us vs betas factors free most misfit work → r ≡ 0
+      → Passed n w (take k early′) (take k late′) us vs (length factors) betas work × (misfit ≡ false) × (free ≤ most)
+  all-passed betas factors free most misfit work r few h z =
+      let t9 = unless (ltb most free) {k = 9} (omega arith) (sym h ∙ z) in
+      let t10 = unless (badFactorList factors (signedFactors betas k)) {k = 10} (omega arith) (t9 .1) in
+      let p = passed-lists factors betas misfit work few (t10 .0) (t10 .1) in
+      (p .0, p .1, ltb-false most free (t9 .0))
+
+  -- the free edges of the fronts are those of the kept edges
+  pub free-is : (free : ℕ) → free ≡ count (λ e. not (isTree (take k early′) (take k late′) e)) (length (take k early′)) → free ≡ freeCount (take k early′) (take k late′)
+  unfolding freeCount
+  free-is free e = e
+
+  free-fronts : freeCount (take k early′) (take k late′) ≡ freeCount (keptEarly a b m) (keptLate a b m)
+  free-fronts = rw (front-early (g .written), front-late (g .written))
+
+  pub free-kept : (free : ℕ) → free ≡ count (λ e. not (isTree (take k early′) (take k late′) e)) (length (take k early′))
+      → free ≡ freeCount (keptEarly a b m) (keptLate a b m)
+  free-kept free e = free-is free e ∙ free-fronts
+
+  -- ---- of an enumeration that stores each correlation
+
+  pub stored-lists : (betas : ℕ) (factors : List Float) (free free′ wanted wanted′ stored work r : ℕ) → free ≡ free′ → (free ≤ 24 → wanted ≡ wanted′)
+      → r ≡ enumerationLists n w k us vs betas factors free 24 (misfits wanted stored stored) work
+      → r ≡ enumerationLists n (windowFrom floor a b m) (length (kept a b m)) us vs betas factors free′ 24 (not (eqb stored wanted′)) work
+  stored-lists betas factors free free′ wanted wanted′ stored work r e h q =
+      all-lists betas factors free free′ 24 (not (eqb stored wanted′)) work r e (q ∙ go (decLt 24 free))
+    where
+      go : Dec (24 < free) → enumerationLists n w k us vs betas factors free 24 (misfits wanted stored stored) work
+          ≡ enumerationLists n w k us vs betas factors free 24 (not (eqb stored wanted′)) work
+      go (yes l) = rw (lt-ltb 24 free l)
+      go (no l) =
+          ap (λ (t : Bool). enumerationLists n w k us vs betas factors free 24 t work)
+          (misfits-alone wanted stored ∙ ap (λ (j : ℕ). not (eqb stored j)) (h (omega arith)))
+
+  -- ---- of a sampling
+
+  pub drawn-lists : (betas : ℕ) (factors : List Float) (from to samples : ℕ) (misfit : Bool) (work r : ℕ)
+      → r ≡ samplingLists n w k us vs betas factors from to samples misfit work
+      → r ≡ samplingLists n (windowFrom floor a b m) (length (kept a b m)) us vs betas factors from to samples misfit work
+  drawn-lists betas factors from to samples misfit work r h = rw (g .window, g .written .edges) at h
+
+  pub drawn-passed : (betas : ℕ) (factors : List Float) (from to samples : ℕ) (misfit : Bool) (work r : ℕ) → betas ≤ 64
+      → r ≡ samplingLists n w k us vs betas factors from to samples misfit work → r ≡ 0
+      → Passed n w (take k early′) (take k late′) us vs (length factors) betas work × (misfit ≡ false) × ((to - from) * samples ≤ 4294967296)
+  drawn-passed betas factors from to samples misfit work r few h z =
+      let t10 = unless (badFactorList factors (signedFactors betas k)) {k = 10} (omega arith) (sym h ∙ z) in
+      let t11 = unless (tooManyChunks from to samples) {k = 11} (omega arith) (t10 .1) in
+      let p = passed-lists factors betas misfit work few (t10 .0) (t11 .1) in
+      (p .0, p .1, few-samples from to samples (t11 .0))
+
+  -- ---- what is finished
+
+  module _ (betas : ℕ) (factors : List Float) {sound : Bool} {work work′ : List Float} {manner manner′ : Job.Manner} (e : manner ≡ manner′) where
+    pub totals-kept : (c : Chunks) {squares fourths : List Float}
+        → TotalsAre n w (take k early′) (take k late′) factors manner us vs betas c (length (take k early′)) sound squares fourths work work′
+        → TotalsAre n (windowFrom floor a b m) (keptEarly a b m) (keptLate a b m) factors manner′ us vs betas c (length (kept a b m)) sound
+        squares fourths work work′
+    totals-kept c {squares} {fourths} =
+        to-kept (λ E L v x edges. TotalsAre n v E L factors x us vs betas c edges sound squares fourths work work′) manner manner′ e
+
+    pub stored-kept : {count : ℕ} {stored : List Float}
+        → StoredAre n w (take k early′) (take k late′) factors manner us vs betas count (length (take k early′)) sound stored work work′
+        → StoredAre n (windowFrom floor a b m) (keptEarly a b m) (keptLate a b m) factors manner′ us vs betas count (length (kept a b m)) sound
+        stored work work′
+    stored-kept {count} {stored} =
+        to-kept (λ E L v x edges. StoredAre n v E L factors x us vs betas count edges sound stored work work′) manner manner′ e
+
+-- ---- chunks
+
+-- all configurations, of few enough free edges
+pub all-numbered : (k : Chunks) (free graph : ℕ) → k ≡ allChunks free → free ≤ 34 → free ≡ graph → Numbered k graph
+all-numbered k free graph e few f = record { few = λ _. omega arith; fits = λ _. rw e (all-fit free few) }
+
+-- drawn ones
+pub drawn-numbered : (seed from to samples graph : ℕ) → Numbered (drawnChunks seed from to samples) graph
+drawn-numbered seed from to samples graph = record { few = λ z. absurd (no z); fits = λ z. absurd (no z) }
+  where
+    no : true ≡ false → ⊥
+    no z = let z′ : _≡_ {A = ℕ} 0 1 = cc in omega arith
+
+-- the chunks of all configurations are all of them
+module _ (n w : ℕ) (early late : List ℕ) (factors : List Float) (manner : Job.Manner) (us vs : List ℕ) (betas edges : ℕ) {sound : Bool}
+    {squares fourths work work′ : List Float} where
+  pub all-are : (free : ℕ) → free ≡ freeCount early late → (k : Chunks) → k ≡ allChunks free
+      → TotalsAre n w early late factors manner us vs betas k edges sound squares fourths work work′
+      → Finished (unsoundEnumeration n w early late factors manner us vs betas) (enumeratedTotals n w early late factors manner us vs betas (square ieee))
+      (enumeratedTotals n w early late factors manner us vs betas (fourth ieee)) (betas * length us) (room n w edges us vs) sound squares fourths work work′
+  all-are free e k c g =
+      let J = jobEnumerated n w early late factors manner in
+      let F = freeCount early late in
+      let h = subst (λ (x : Chunks). TotalsAre n w early late factors manner us vs betas x edges sound squares fourths work work′) (c ∙ ap allChunks e) g in
+      let sums = all-totals (λ x. correlationAt (J x) us vs) F (betas * length us) in
+      subst (λ (x : Bool). Finished x (enumeratedTotals n w early late factors manner us vs betas (square ieee))
+      (enumeratedTotals n w early late factors manner us vs betas (fourth ieee)) (betas * length us) (room n w edges us vs) sound squares fourths work work′)
+      (all-unsound J us vs betas F)
+      (subst (λ (l : List Float). Finished (unsoundIn n w early late factors manner us vs betas (allChunks F)) l
+      (enumeratedTotals n w early late factors manner us vs betas (fourth ieee)) (betas * length us) (room n w edges us vs) sound squares fourths work work′)
+      (sums (square ieee))
+      (subst (λ (l : List Float). Finished (unsoundIn n w early late factors manner us vs betas (allChunks F))
+      (totalsIn n w early late factors manner us vs betas (allChunks F) (square ieee)) l (betas * length us) (room n w edges us vs) sound squares fourths work work′)
+      (sums (fourth ieee)) h))

@@ -1,0 +1,235 @@
+// The totals of chunks of configurations, one chunk after another.
+ghost use mathlib.Core.Path.{_≡_};
+ghost use mathlib.Core.Bool.{true, false};
+ghost use Prim.Native.Nat.{ℕ, _+_, _*_, _≤_, _<_};
+ghost use lib.Ieee.{Float};
+ghost use lib.ListN.{length};
+ghost use Rattle.transfer_matrix.specs.Job.{Job};
+ghost use Rattle.totals_configuration.specs.Chunked.{Lists};
+ghost use Rattle.totals_configuration.specs.Signed.{PlanOfRun};
+ghost use Rattle.totals_configuration.specs.Stage.{Stage, EnoughFactors};
+ghost use Rattle.totals_configuration.specs.Sums.{RunSummed};
+ghost use Rattle.totals_chunks.specs.Totals.{allChunks, signsIn, Idle, Summable, PlanOfChunks, ChunksSummed};
+use step_tables::fill;
+use step_tables::pow2;
+use totals_configuration::SweepShape;
+use totals_enumerated::enumerated_chunk;
+use totals_sampled::sampled_chunk;
+use totals_sums::add_sums;
+use totals_sums::chunk_size;
+
+// The chunks from `first` up to, and without, `end`, of `size` configurations each. Chunk i holds the configurations from number i * size
+// on; or, where they are drawn, the samples of the stream of the seed and i.
+pub struct Chunks {
+    pub drawn: bool,
+    pub seed: u64,
+    pub first: u64,
+    pub end: u64,
+    pub size: usize,
+}
+
+// The chunks of all configurations of so many free edges.
+pub fn all_chunks(free: usize) -> Chunks
+    requires { ⌜ free < 64 ⌝ }
+    ensures { λ r. ⌜ r ≡ allChunks free ⌝ }
+{
+    let all = pow2(free);
+    let size = chunk_size(all);
+    Chunks {
+        drawn: false,
+        seed: 0,
+        first: 0,
+        end: (all / size) as u64,
+        size,
+    }
+}
+
+// No chunk, no configuration in it, no beta or no pair: there is nothing to sweep.
+fn nothing(first: u64, end: u64, size: usize, sums: usize) -> bool
+    ensures { λ r. ⌜ (r ≡ true → Idle first end size sums) × (r ≡ false → first ≤ end) ⌝ }
+{
+    if end <= first {
+        return true;
+    }
+    if size == 0 {
+        return true;
+    }
+    sums == 0
+}
+
+// The sums of chunk i, from zero. Returns whether every Z was finite and above zero; at the first that is not it stops.
+fn sum_chunk(
+    room: &mut [f64],
+    plan: &[usize],
+    shape: SweepShape,
+    us: &[usize],
+    vs: &[usize],
+    order: &[usize],
+    factors: &[f64],
+    betas: usize,
+    tree: &[bool],
+    signs: &mut [bool],
+    chunks: Chunks,
+    i: u64,
+    c: &mut [f64],
+    squares: &mut [f64],
+    fourths: &mut [f64],
+) -> bool
+    requires { ⌜ Stage (now plan) (now us) (now vs) (now order) (length (now tree)) shape (length (now room)) (length (now c))
+        × EnoughFactors (length (now factors)) (length (now tree)) betas × Summable chunks (now tree) (length (now signs)) × (i < chunks .end)
+        × (length (now squares) ≡ betas * length (now us)) × (length (now fourths) ≡ betas * length (now us)) ⌝ }
+    ensures { λ r. ⌜ ((J : ℕ → ℕ → Job Float)
+        → PlanOfRun J (now (plan .entry)) (now (factors .entry)) (length (now (tree .entry))) (signsIn chunks (now (tree .entry)) i) betas shape
+        → RunSummed J (now (us .entry)) (now (vs .entry)) betas (chunks .size) r (now (squares .exit)) (now (fourths .exit))) ⌝ }
+{
+    let size = chunks.size;
+    if chunks.drawn {
+        return sampled_chunk(
+            room,
+            plan,
+            shape,
+            us,
+            vs,
+            order,
+            factors,
+            betas,
+            chunks.seed,
+            i,
+            size,
+            signs,
+            c,
+            squares,
+            fourths,
+        );
+    }
+    let from = i as usize * size;
+    enumerated_chunk(
+        room,
+        plan,
+        shape,
+        us,
+        vs,
+        order,
+        factors,
+        betas,
+        tree,
+        signs,
+        from,
+        size,
+        c,
+        squares,
+        fourths,
+    )
+}
+
+// The sums of each chunk, then the chunks in order. Returns whether every Z was finite and above zero; at the first that is not it stops.
+// `subsquares` and `subfourths` hold the sums of one chunk.
+fn add_chunks(
+    room: &mut [f64],
+    plan: &[usize],
+    shape: SweepShape,
+    us: &[usize],
+    vs: &[usize],
+    order: &[usize],
+    factors: &[f64],
+    betas: usize,
+    tree: &[bool],
+    signs: &mut [bool],
+    chunks: Chunks,
+    c: &mut [f64],
+    subsquares: &mut [f64],
+    subfourths: &mut [f64],
+    squares: &mut [f64],
+    fourths: &mut [f64],
+) -> bool
+    requires { ⌜ Stage (now plan) (now us) (now vs) (now order) (length (now tree)) shape (length (now room)) (length (now c))
+        × EnoughFactors (length (now factors)) (length (now tree)) betas × Summable chunks (now tree) (length (now signs))
+        × (chunks .first ≤ chunks .end)
+        × Lists (betas * length (now us)) (length (now subsquares)) (length (now subfourths)) (length (now squares)) (length (now fourths)) ⌝ }
+    ensures { λ r. ⌜ ((J : ℕ → ℕ → ℕ → Job Float)
+        → PlanOfChunks J (now (plan .entry)) (now (factors .entry)) (now (tree .entry)) chunks betas shape
+        → ChunksSummed J (now (us .entry)) (now (vs .entry)) betas chunks r (now (squares .exit)) (now (fourths .exit))) ⌝ }
+{
+    let sums = squares.len();
+    fill(squares, 0, sums, 0.0);
+    fill(fourths, 0, sums, 0.0);
+    let mut i = chunks.first;
+    while i < chunks.end {
+        if !sum_chunk(
+            room,
+            plan,
+            shape,
+            us,
+            vs,
+            order,
+            factors,
+            betas,
+            tree,
+            signs,
+            chunks,
+            i,
+            c,
+            subsquares,
+            subfourths,
+        ) {
+            return false;
+        }
+        add_sums(squares, subsquares);
+        add_sums(fourths, subfourths);
+        i += 1;
+    }
+    true
+}
+
+// The totals of the chunks, with two lists for the sums of one chunk. Where there is nothing to sweep, no configuration is looked at.
+// Returns whether every Z was finite and above zero.
+pub fn chunked_totals(
+    room: &mut [f64],
+    plan: &[usize],
+    shape: SweepShape,
+    us: &[usize],
+    vs: &[usize],
+    order: &[usize],
+    factors: &[f64],
+    betas: usize,
+    tree: &[bool],
+    signs: &mut [bool],
+    chunks: Chunks,
+    c: &mut [f64],
+    subsquares: &mut [f64],
+    subfourths: &mut [f64],
+    squares: &mut [f64],
+    fourths: &mut [f64],
+) -> bool
+    requires { ⌜ Stage (now plan) (now us) (now vs) (now order) (length (now tree)) shape (length (now room)) (length (now c))
+        × EnoughFactors (length (now factors)) (length (now tree)) betas × Summable chunks (now tree) (length (now signs))
+        × Lists (betas * length (now us)) (length (now subsquares)) (length (now subfourths)) (length (now squares)) (length (now fourths)) ⌝ }
+    ensures { λ r. ⌜ ((J : ℕ → ℕ → ℕ → Job Float)
+        → PlanOfChunks J (now (plan .entry)) (now (factors .entry)) (now (tree .entry)) chunks betas shape
+        → ChunksSummed J (now (us .entry)) (now (vs .entry)) betas chunks r (now (squares .exit)) (now (fourths .exit))) ⌝ }
+{
+    if nothing(chunks.first, chunks.end, chunks.size, squares.len()) {
+        let sums = squares.len();
+        fill(squares, 0, sums, 0.0);
+        fill(fourths, 0, sums, 0.0);
+        return true;
+    }
+    add_chunks(
+        room,
+        plan,
+        shape,
+        us,
+        vs,
+        order,
+        factors,
+        betas,
+        tree,
+        signs,
+        chunks,
+        c,
+        subsquares,
+        subfourths,
+        squares,
+        fourths,
+    )
+}

@@ -1,0 +1,23 @@
+-- What the run of one configuration asks for.
+use mathlib.Core.Path.{_≡_}
+use mathlib.Core.List.{List}
+use Prim.Native.Nat.{ℕ, _+_, _*_, _≤_}
+use lib.ListN.{length}
+use Rattle.plan_layout.specs.Order.{Ordered}
+use Rattle.vertex_step.specs.Ready.{Ready}
+use Rattle.pair_correlations.specs.Served.{Served}
+use Rattle.totals_configuration.specs.declared.SweepShape.{SweepShape}
+
+-- A planned job of m edges with its pairs and their order, a room of `end` numbers that its factors close, and a result for each pair.
+pub record Stage (plan us vs order : List ℕ) (m : ℕ) (s : SweepShape) (end results : ℕ) : Type 0 where
+  pub some : 1 ≤ s .n
+  pub ready : Ready plan end (s .n) (s .w) (s .scales)
+  pub ends : s .scales + s .n + m ≡ end
+  pub served : Served plan us vs (s .n) (s .w)
+  pub ordered : Ordered order (length us)
+  pub fitting : results ≡ length us
+
+-- Two factors are lent for each of m edges at each of the first betas.
+pub record EnoughFactors (factors m betas : ℕ) : Type 0 where
+  pub enough : 2 * (betas * m) ≤ factors
+  pub few : betas * m ≤ 262144

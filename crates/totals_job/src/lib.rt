@@ -1,0 +1,158 @@
+// A call for totals that passed its checks: from its kept edges to the totals.
+ghost use mathlib.Core.Path.{_≡_};
+ghost use mathlib.Core.Bool.{false};
+ghost use Prim.Native.Nat.{_*_, _≤_};
+ghost use lib.ListN.{length};
+ghost use Rattle.limits.specs.Limits.{mostVertices};
+ghost use Rattle.list_laws.specs.Tabulate.{tabulate};
+ghost use Rattle.forest.specs.Labels.{isTree};
+ghost use Rattle.forest.specs.Paths.{Edges};
+ghost use Rattle.plan_steps.specs.Layout.{Holds};
+ghost use Rattle.totals_configuration.specs.Chunked.{Lists};
+ghost use Rattle.graph.specs.Graphs.{freeCount};
+ghost use Rattle.totals_call.specs.Finished.{Passed, Numbered, Marks, stepping, TotalsAre};
+use forest::mark_tree_edges;
+use job_run::clear;
+use plan_layout::make_plan;
+use plan_layout::order_pairs;
+use totals_call::EDGES;
+use totals_call::PAIRS;
+use totals_call::PLAN;
+use totals_call::SUMS;
+use totals_call::clear_unsound;
+use totals_chunks::Chunks;
+use totals_chunks::chunked_totals;
+use totals_configuration::SweepShape;
+
+// Marks the tree edges, where configurations go by number; drawn ones read no mark.
+fn mark_edges(drawn: bool, n: usize, early: &[usize], late: &[usize], tree: &mut [bool])
+    requires { ⌜ Edges n (now early) (now late) × (n ≤ mostVertices) × (length (now tree) ≡ length (now early)) ⌝ }
+    ensures { λ _. ⌜ (drawn ≡ false
+        → now (tree .exit) ≡ tabulate (isTree (now (early .entry)) (now (late .entry))) (length (now (early .entry)))) ⌝ }
+{
+    if !drawn {
+        mark_tree_edges(n, early, late, tree);
+    }
+}
+
+// Plans the job, orders its pairs, marks its tree edges, adds up and clears. The first seven lists are made by the caller for this alone.
+fn plan_and_total(
+    plan: &mut [usize],
+    order: &mut [usize],
+    tree: &mut [bool],
+    signs: &mut [bool],
+    c: &mut [f64],
+    subsquares: &mut [f64],
+    subfourths: &mut [f64],
+    n: usize,
+    w: usize,
+    elementwise: bool,
+    early: &[usize],
+    late: &[usize],
+    us: &[usize],
+    vs: &[usize],
+    factors: &[f64],
+    betas: usize,
+    chunks: Chunks,
+    squares: &mut [f64],
+    fourths: &mut [f64],
+    work: &mut [f64],
+) -> bool
+    requires { ⌜ Passed n w (now early) (now late) (now us) (now vs) (length (now factors)) betas (length (now work))
+        × Numbered chunks (freeCount (now early) (now late)) × Holds (now plan) n × (length (now order) ≡ length (now us))
+        × Marks (length (now early)) (length (now tree)) (length (now signs)) × (length (now c) ≡ length (now us))
+        × Lists (betas * length (now us)) (length (now subsquares)) (length (now subfourths)) (length (now squares)) (length (now fourths)) ⌝ }
+    ensures { λ r. ⌜ TotalsAre n w (now (early .entry)) (now (late .entry)) (now (factors .entry)) (stepping elementwise) (now (us .entry))
+        (now (vs .entry)) betas chunks (length (now (early .entry))) r (now (squares .exit)) (now (fourths .exit)) (now (work .entry)) (now (work .exit)) ⌝ }
+{
+    let layout = make_plan(plan, n, w, early, late, us, vs);
+    order_pairs(order, n, w, us, vs);
+    mark_edges(chunks.drawn, n, early, late, tree);
+    let shape = SweepShape {
+        n,
+        w,
+        scales: layout.scales,
+        elementwise,
+    };
+    let end = layout.room;
+    let room = &mut work[..end];
+    let sound = chunked_totals(
+        room,
+        plan,
+        shape,
+        us,
+        vs,
+        order,
+        factors,
+        betas,
+        tree,
+        signs,
+        chunks,
+        c,
+        subsquares,
+        subfourths,
+        squares,
+        fourths,
+    );
+    clear(room);
+    clear_unsound(sound, squares);
+    clear_unsound(sound, fourths);
+    sound
+}
+
+// The totals of chunks of configurations, with the room at +0.0 after. Returns whether every Z was finite and above zero; where one is
+// not, all totals are +0.0.
+pub fn total_job(
+    n: usize,
+    w: usize,
+    elementwise: bool,
+    early: &[usize],
+    late: &[usize],
+    us: &[usize],
+    vs: &[usize],
+    factors: &[f64],
+    betas: usize,
+    chunks: Chunks,
+    squares: &mut [f64],
+    fourths: &mut [f64],
+    work: &mut [f64],
+) -> bool
+    requires { ⌜ Passed n w (now early) (now late) (now us) (now vs) (length (now factors)) betas (length (now work))
+        × Numbered chunks (freeCount (now early) (now late))
+        × (length (now squares) ≡ betas * length (now us)) × (length (now fourths) ≡ betas * length (now us)) ⌝ }
+    ensures { λ r. ⌜ TotalsAre n w (now (early .entry)) (now (late .entry)) (now (factors .entry)) (stepping elementwise) (now (us .entry))
+        (now (vs .entry)) betas chunks (length (now (early .entry))) r (now (squares .exit)) (now (fourths .exit)) (now (work .entry)) (now (work .exit)) ⌝ }
+{
+    let mut plan = [0usize; PLAN];
+    let mut order = [0usize; PAIRS];
+    let mut tree = [false; EDGES];
+    let mut signs = [false; EDGES];
+    let mut c = [0.0f64; PAIRS];
+    let mut subsquares = [0.0f64; SUMS];
+    let mut subfourths = [0.0f64; SUMS];
+    let pairs = us.len();
+    let edges = early.len();
+    let sums = squares.len();
+    plan_and_total(
+        &mut plan,
+        &mut order[..pairs],
+        &mut tree[..edges],
+        &mut signs[..edges],
+        &mut c[..pairs],
+        &mut subsquares[..sums],
+        &mut subfourths[..sums],
+        n,
+        w,
+        elementwise,
+        early,
+        late,
+        us,
+        vs,
+        factors,
+        betas,
+        chunks,
+        squares,
+        fourths,
+        work,
+    )
+}

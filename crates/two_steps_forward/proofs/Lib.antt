@@ -1,0 +1,4 @@
+-- Laws that the proofs share.
+mod Rules
+mod ForwardIteration
+mod ForwardRuns

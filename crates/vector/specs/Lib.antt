@@ -1,8 +1,0 @@
-pub mod Bits
-pub mod Tabulate
-pub mod Search
-pub mod Count
-pub mod Most
-pub mod Front
-pub mod Part
-pub mod Power
