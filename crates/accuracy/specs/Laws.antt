@@ -29,6 +29,7 @@ pub mod Course
 pub mod Phases
 pub mod Ahead
 pub mod Back
+pub mod Accuracy
 pub mod Bound
 pub mod Examples
 pub mod Totals

@@ -31,7 +31,7 @@ use Rattle.error_bound.specs.declared.answer.ErrorBound.the-variants.{Within, U
 use Rattle.error_bound.specs.Laws.Margin.{bits-deep, bits-few, near-one-all}
 use Rattle.error_bound.specs.Laws.Near.{near-four, near-most, near-any}
 use Rattle.demands.specs.Laws.Lists.{all-made}
-use Rattle.demands.specs.Given.{jobMade, checked-made}
+use Rattle.demands.specs.Laws.Given.{jobMade, checked-made}
 
 -- Each answer of job J is within the double `bound` of the textbook ratio.
 pub record Accurate (J : Job Float) (us vs : List ℕ) (bound : Float) : Type 0 where

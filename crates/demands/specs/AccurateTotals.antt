@@ -37,7 +37,7 @@ use Rattle.entry_correlations.specs.declared.Manner.{Manner}
 use Rattle.error_bound.specs.Bound.{mostBits, errorBoundOf}
 use Rattle.error_bound.specs.declared.answer.ErrorBound.the-variants.{Within}
 use Rattle.error_bound.specs.Laws.Margin.{bits-few, near-one-all}
-use Rattle.demands.specs.Given.{lent-inside}
+use Rattle.demands.specs.Laws.Given.{lent-inside}
 use Rattle.demands.specs.OneJob.{Sound, Z-positive}
 use Rattle.demands.specs.Configurations.{early, signedJob}
 use Rattle.demands.specs.Accurate.{Accurate, nearOf, bound-known, made-close, close-within, roundings-short}

@@ -28,7 +28,7 @@ use Rattle.pair_correlations.specs.Sound.{unsound}
 use Rattle.entry_correlations.specs.Correlations.{mannerOf}
 use Rattle.entry_correlations.specs.declared.Manner.{Manner}
 use Rattle.totals_call.specs.Jobs.{jobSigned, jobEnumerated, jobSampled, unsoundEnumeration}
-use Rattle.demands.specs.Given.{checked-signed}
+use Rattle.demands.specs.Laws.Given.{checked-signed}
 use Rattle.demands.specs.OneJob.{Sound}
 
 -- 1 for a refusal, else 0; and the number that an answer holds

@@ -30,7 +30,7 @@ use Rattle.error_bound.specs.Bound.{mostBits, errorBoundOf}
 use Rattle.error_bound.specs.declared.answer.ErrorBound.the-variants.{Within}
 use Rattle.error_bound.specs.Laws.Margin.{bits-few, near-one-all}
 use Rattle.demands.specs.Laws.Lists.{settled-at}
-use Rattle.demands.specs.Given.{checked-given}
+use Rattle.demands.specs.Laws.Given.{checked-given}
 use Rattle.demands.specs.OneJob.{InUnit, Exact, Bounded, Sound, Z-positive, exact, bounded}
 use Rattle.demands.specs.Accurate.{nearOf, bound-known, made-close, close-within}
 

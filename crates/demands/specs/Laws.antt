@@ -1,4 +1,5 @@
 -- What is proved of the definitions.
 pub mod Lists
+pub mod Given
 pub mod Halves
 pub mod Summed

@@ -1,5 +1,4 @@
 -- What the demands say of a call, theorem by theorem.
-pub mod Given
 pub mod OneJob
 pub mod Accurate
 pub mod Correlations

@@ -14,7 +14,7 @@ use borrow.Author.Tests.{eq-eqb, ne-eqb}
 use Rattle.distance.specs.Walks.{Adjacent, along, back, Walk}
 use Rattle.distance.specs.Lengths.{far, weigh, total, isFar, unknown}
 use Rattle.distance.specs.Lengths.{Entry, away, seen, Sound, Ready, Lowered}
-use Rattle.distance.specs.Lengths.{Relaxed, nearer, kept, Steps, lowered, calm, Settled, Swept}
+use Rattle.distance.specs.Lengths.{Relaxed, nearer, kept, Steps, lowered, calm, Settled, EdgesRelaxed}
 
 -- ---- sums, after a store
 
@@ -143,7 +143,7 @@ module _ {early late d : List ℕ} (R : Ready early late d) (i : ℕ) (i< : i < 
   first-ready x = ready-on R (steps-lowered (first x))
 
   pub edge-swept : {r s : Bool} {e f : List ℕ} → Relaxed d (getD early i 0) (getD late i 0) r e
-      → Relaxed e (getD late i 0) (getD early i 0) s f → Swept early late i (i + 1) d (r || s) f
+      → Relaxed e (getD late i 0) (getD early i 0) s f → EdgesRelaxed early late i (i + 1) d (r || s) f
   edge-swept {e = e} x y =
       let h = first-ready x .inside i i< in
       join (λ p q. record { edge = λ j l g. let z : j ≡ i = omega arith in rw z (p, q) }) (first x)

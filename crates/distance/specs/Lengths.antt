@@ -65,5 +65,5 @@ pub record Settled (early late : List ℕ) (m n : ℕ) (d : List ℕ) : Type 0 w
       → (getD d (getD late j 0) 0 ≤ getD d (getD early j 0) 0 + 1) × (getD d (getD early j 0) 0 ≤ getD d (getD late j 0) 0 + 1)
 
 -- the steps of these edges
-abbrev pub Swept : List ℕ → List ℕ → ℕ → ℕ → List ℕ → Bool → List ℕ → Type 0
-Swept early late m n d r e = Steps early late (Settled early late m n) d r e
+abbrev pub EdgesRelaxed : List ℕ → List ℕ → ℕ → ℕ → List ℕ → Bool → List ℕ → Type 0
+EdgesRelaxed early late m n d r e = Steps early late (Settled early late m n) d r e

@@ -4,7 +4,7 @@ ghost use mathlib.Core.Path.{_≡_};
 ghost use Prim.Native.Nat.{_+_, _<_, _≤_};
 ghost use lib.ListN.{length, getD};
 ghost use Rattle.distance.specs.Walks.{Inside, Distance};
-ghost use Rattle.distance.specs.Lengths.{Ready, Relaxed, Swept, Settled, Lowered};
+ghost use Rattle.distance.specs.Lengths.{Ready, Relaxed, EdgesRelaxed, Settled, Lowered};
 use limits::VERTICES;
 
 pub enum Reach {
@@ -29,7 +29,7 @@ fn relax(d: &mut [usize], a: usize, b: usize) -> bool
 // Relaxes edge i in both directions: did it lower a length?
 fn relax_edge(early: &[usize], late: &[usize], d: &mut [usize], i: usize) -> bool
     requires { ⌜ Ready (now early) (now late) (now d) × (i < length (now early)) ⌝ }
-    ensures { λ r. ⌜ Swept (now (early .entry)) (now (late .entry)) i (i + 1) (now (d .entry)) r (now (d .exit)) ⌝ }
+    ensures { λ r. ⌜ EdgesRelaxed (now (early .entry)) (now (late .entry)) i (i + 1) (now (d .entry)) r (now (d .exit)) ⌝ }
 {
     let a = early[i];
     let b = late[i];
@@ -41,7 +41,7 @@ fn relax_edge(early: &[usize], late: &[usize], d: &mut [usize], i: usize) -> boo
 // Relaxes every edge, in rising order.
 fn sweep_up(early: &[usize], late: &[usize], d: &mut [usize]) -> bool
     requires { ⌜ Ready (now early) (now late) (now d) ⌝ }
-    ensures { λ r. ⌜ Swept (now (early .entry)) (now (late .entry)) 0 (length (now (early .entry))) (now (d .entry)) r (now (d .exit)) ⌝ }
+    ensures { λ r. ⌜ EdgesRelaxed (now (early .entry)) (now (late .entry)) 0 (length (now (early .entry))) (now (d .entry)) r (now (d .exit)) ⌝ }
 {
     let mut more = false;
     let mut i: usize = 0;
@@ -56,7 +56,7 @@ fn sweep_up(early: &[usize], late: &[usize], d: &mut [usize]) -> bool
 // Relaxes every edge, in falling order.
 fn sweep_down(early: &[usize], late: &[usize], d: &mut [usize]) -> bool
     requires { ⌜ Ready (now early) (now late) (now d) ⌝ }
-    ensures { λ r. ⌜ Swept (now (early .entry)) (now (late .entry)) 0 (length (now (early .entry))) (now (d .entry)) r (now (d .exit)) ⌝ }
+    ensures { λ r. ⌜ EdgesRelaxed (now (early .entry)) (now (late .entry)) 0 (length (now (early .entry))) (now (d .entry)) r (now (d .exit)) ⌝ }
 {
     let mut more = false;
     let mut i = early.len();

@@ -26,7 +26,7 @@ use Rattle.job_checks.specs.Checked.{ReadyJob}
 use Rattle.job_checks.specs.Laws.Plannable.{edge-count, plannable}
 use Rattle.pair_correlations.specs.Sound.{unsound}
 use Rattle.job_run.specs.Zeros.{zeros}
-use Rattle.job_run.specs.Passed.{Passed, Finished}
+use Rattle.job_run.specs.Passed.{JobPassed, JobFinished}
 use Rattle.entry_correlations.specs.Correlations.{mannerOf, jobGiven, settled, cleared, Correlated}
 use Rattle.entry_correlations.specs.Laws.Settling.{settled-not, cleared-not, not-14}
 use Rattle.entry_correlations.specs.declared.Manner.{Manner}
@@ -89,12 +89,12 @@ module _ (n floor : ℕ) (a b : List ℕ) (m : List Float) (us vs : List ℕ) (f
     turned false true p = refl
     turned false false p = p
 
-    pub accepted : Finished job n (length (kept a b m)) us vs true results′ work work′
+    pub accepted : JobFinished job n (length (kept a b m)) us vs true results′ work work′
         → Correlated n floor a b m us vs factors manner 0 results results′ work work′
     unfolding settled cleared
     accepted g = record { answer = late false (turned true _ (g .told)); answers = g .answers; memory = g .memory }
 
-    pub refused-14 : Finished job n (length (kept a b m)) us vs false results′ work work′
+    pub refused-14 : JobFinished job n (length (kept a b m)) us vs false results′ work work′
         → Correlated n floor a b m us vs factors manner 14 results results′ work work′
     unfolding settled cleared
     refused-14 g =
@@ -109,7 +109,7 @@ module _ {n floor : ℕ} {a b : List ℕ} {m : List Float} {us vs : List ℕ} {k
   lists-of factors results work = rw (g .window, g .written .edges)
 
   pub passed-of : (factors : List Float) (results work : ℕ) → listsRefusal n w k us vs factors results work ≡ 0
-      → Passed n w (take k early′) (take k late′) us vs factors results work
+      → JobPassed n w (take k early′) (take k late′) us vs factors results work
   passed-of factors results work z =
       let l = accepted-lists n w k us vs factors results work z in
       rw (front-early (g .written))
@@ -117,14 +117,14 @@ module _ {n floor : ℕ} {a b : List ℕ} {m : List Float} {us vs : List ℕ} {k
 
   pub finished-of : (factors : List Float) (manner : Manner) (each sound : Bool) (results work work′ : List Float)
       → cond each perElement block ≡ mannerOf manner
-      → Finished (jobOf nan n w (take k early′) (take k late′) factors (cond each perElement block)) n (length (take k early′)) us vs sound results work work′
-      → Finished (jobGiven n floor a b m factors manner) n (length (kept a b m)) us vs sound results work work′
+      → JobFinished (jobOf nan n w (take k early′) (take k late′) factors (cond each perElement block)) n (length (take k early′)) us vs sound results work work′
+      → JobFinished (jobGiven n floor a b m factors manner) n (length (kept a b m)) us vs sound results work work′
   finished-of factors manner each sound results work work′ e f =
-      let p : Finished (jobOf nan n w (keptEarly a b m) (keptLate a b m) factors (cond each perElement block))
+      let p : JobFinished (jobOf nan n w (keptEarly a b m) (keptLate a b m) factors (cond each perElement block))
       n (length (keptEarly a b m)) us vs sound results work work′ = rw (← front-early (g .written), ← front-late (g .written)) f in
-      let q = subst (λ (v : ℕ). Finished (jobOf nan n v (keptEarly a b m) (keptLate a b m) factors (cond each perElement block))
+      let q = subst (λ (v : ℕ). JobFinished (jobOf nan n v (keptEarly a b m) (keptLate a b m) factors (cond each perElement block))
       n (length (keptEarly a b m)) us vs sound results work work′) (g .window) p in
-      let s = subst (λ (c : ℕ). Finished (jobOf nan n (windowFrom floor a b m) (keptEarly a b m) (keptLate a b m) factors (cond each perElement block))
+      let s = subst (λ (c : ℕ). JobFinished (jobOf nan n (windowFrom floor a b m) (keptEarly a b m) (keptLate a b m) factors (cond each perElement block))
       n c us vs sound results work work′) (edge-count g) q in
-      subst (λ (x : Job.Manner). Finished (jobOf nan n (windowFrom floor a b m) (keptEarly a b m) (keptLate a b m) factors x)
+      subst (λ (x : Job.Manner). JobFinished (jobOf nan n (windowFrom floor a b m) (keptEarly a b m) (keptLate a b m) factors x)
       n (length (kept a b m)) us vs sound results work work′) e s

@@ -20,7 +20,7 @@ use Rattle.vertex_step.specs.Ready.{PlanOf}
 use Rattle.pair_correlations.specs.Sound.{unsound}
 use Rattle.pair_correlations.specs.Laws.Planning.{plan-of, end-fits}
 use Rattle.job_run.specs.Zeros.{zeros}
-use Rattle.job_run.specs.Passed.{Passed, Finished}
+use Rattle.job_run.specs.Passed.{JobPassed, JobFinished}
 
 -- a list laid at another's end is what lies there
 laid-last : (d x : List Float) (at : ℕ) → at + length x ≡ length d → drop at (put d at x) ≡ x
@@ -33,7 +33,7 @@ laid-last d x at e =
     getD-drop at (put d at x) i nan ∙ sym (part-at (put d at x) at (length x) i nan b′) ∙ ap (λ (y : List Float). getD y i nan) (part-put d at x fits))
 
 module _ (plan early late us vs : List ℕ) (factors : List Float) (n w places scales at end results work : ℕ)
-    (p : Passed n w early late us vs factors results work) (g : Planned plan early late us vs n w places scales at end) where
+    (p : JobPassed n w early late us vs factors results work) (g : Planned plan early late us vs n w places scales at end) where
   -- the factors end where the room ends
   pub factors-fit : at + length factors ≡ end
   factors-fit = omega (arith, g .laid .ends, p .factored)
@@ -59,7 +59,7 @@ module _ (plan early late us vs : List ℕ) (factors : List Float) (n w places s
         let f = factors-fit in
         ap length laid ∙ put-length (take end memory) at factors (omega arith) ∙ t
 
-    pub finished : Finished (jobOf nan n w early late factors (cond elementwise perElement block)) n (length early) us vs sound results′ memory (room₂ ++ drop end memory)
+    pub finished : JobFinished (jobOf nan n w early late factors (cond elementwise perElement block)) n (length early) us vs sound results′ memory (room₂ ++ drop end memory)
     finished =
         let J = jobOf nan n w early late factors (cond elementwise perElement block) in
         let of : PlanOf J plan (drop (scales + n) room₁) n w elementwise =

@@ -8,14 +8,14 @@ use lib.ListN.{length, drop}
 use Rattle.transfer_matrix.specs.Job.{Job}
 use Rattle.transfer_matrix.specs.Rounded.{ieee}
 use Rattle.transfer_matrix.specs.Sweep as S
-use Rattle.vertex_step.specs.Ready.{PlanOf, Swept}
+use Rattle.vertex_step.specs.Ready.{PlanOf, BothSwept}
 use Rattle.sweep_places.specs.Kept.{SameFrom}
 use Rattle.pair_correlations.specs.Sound.{unsound, Outcome}
 
 module _ (plan us vs : List ℕ) (e r results : List Float) (n w scales : ℕ) (elementwise sound : Bool)
     (same : SameFrom e r (scales + n))
-    (swept : (J : Job Float) → PlanOf J plan (drop (scales + n) e) n w elementwise → Swept J plan r n w scales)
-    (told : (J : Job Float) (elementwise : Bool) → PlanOf J plan (drop (scales + n) r) n w elementwise → Swept J plan r n w scales → Outcome J us vs results sound) where
+    (swept : (J : Job Float) → PlanOf J plan (drop (scales + n) e) n w elementwise → BothSwept J plan r n w scales)
+    (told : (J : Job Float) (elementwise : Bool) → PlanOf J plan (drop (scales + n) r) n w elementwise → BothSwept J plan r n w scales → Outcome J us vs results sound) where
   outcome : (J : Job Float) → PlanOf J plan (drop (scales + n) e) n w elementwise → Outcome J us vs results sound
   outcome J of = told J elementwise (rw (same .tail) of) (swept J of)
 

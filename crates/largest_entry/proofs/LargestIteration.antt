@@ -26,20 +26,20 @@ largest-is r at n h =
 -- ---- sixteen lanes, in four groups of four
 
 -- the four lanes of a group have passed t iterations; the group's entries at iteration s start at `from s`
-pub record Passed (v : List Float) (from : ℕ → ℕ) (t : ℕ) (a b c d : Float) : Type 0 where
+pub record LanesPassed (v : List Float) (from : ℕ → ℕ) (t : ℕ) (a b c d : Float) : Type 0 where
   pub first : a ≡ top (λ s. getD v (from s + 0) nan) t
   pub second : b ≡ top (λ s. getD v (from s + 1) nan) t
   pub third : c ≡ top (λ s. getD v (from s + 2) nan) t
   pub fourth : d ≡ top (λ s. getD v (from s + 3) nan) t
 
 pub passed-none : (v : List Float) (from : ℕ → ℕ) {a b c d : Float} → (a ≡ ieee .𝟘) × (b ≡ ieee .𝟘) × (c ≡ ieee .𝟘) × (d ≡ ieee .𝟘)
-    → Passed v from 0 a b c d
+    → LanesPassed v from 0 a b c d
 passed-none v from z = record { first = z .0 ∙ top-none _; second = z .1 ∙ top-none _; third = z .2 ∙ top-none _; fourth = z .3 ∙ top-none _ }
 
-pub passed-iteration : (v : List Float) (from : ℕ → ℕ) (t : ℕ) (a b c d x y z u a′ b′ c′ d′ : Float) → Passed v from t a b c d
+pub passed-iteration : (v : List Float) (from : ℕ → ℕ) (t : ℕ) (a b c d x y z u a′ b′ c′ d′ : Float) → LanesPassed v from t a b c d
     → (x ≡ getD v (from t) nan) × (y ≡ getD v (from t + 1) nan) × (z ≡ getD v (from t + 2) nan) × (u ≡ getD v (from t + 3) nan)
     → (a′ ≡ larger a x) × (b′ ≡ larger b y) × (c′ ≡ larger c z) × (d′ ≡ larger d u)
-    → Passed v from (t + 1) a′ b′ c′ d′
+    → LanesPassed v from (t + 1) a′ b′ c′ d′
 passed-iteration v from t a b c d x y z u a′ b′ c′ d′ g e j =
     let o : from t ≡ from t + 0 = omega arith in
     record {

@@ -23,14 +23,14 @@ use Rattle.plan_layout.specs.Laws.Places.{later-inside}
 use Rattle.pair_sums.specs.declared.sums.Source.{Source}
 use Rattle.pair_sums.specs.declared.sums.Sums.{Sums}
 use Rattle.pair_sums.specs.Pair.{SumsOf}
-use Rattle.vertex_step.specs.Ready.{Ready, PlanOf, Swept, Still}
+use Rattle.vertex_step.specs.Ready.{Ready, PlanOf, BothSwept, Still}
 use Rattle.vertex_step.specs.Laws.Ready.{still-none, still-then}
 use Rattle.propagation.specs.declared.current.CurrentVector.{CurrentVector}
-use Rattle.pair_correlations.specs.declared.pairs.Step.{Step}
+use Rattle.pair_correlations.specs.declared.pairs.AfterTwo.{AfterTwo}
 use Rattle.propagation.specs.declared.together.Pairing.{Pairing}
 use Rattle.pair_correlations.specs.Sound.{soundly, unsound, Outcome}
 use Rattle.pair_correlations.specs.Served.{Served}
-use Rattle.propagation.specs.Current.{Passed, CurrentKnown}
+use Rattle.propagation.specs.Current.{PlanSwept, CurrentKnown}
 use Rattle.propagation.specs.Laws.Current.{still-passed}
 use Rattle.pair_correlations.specs.Aim.{PairPlaces, SourceOf, Second}
 use Rattle.propagation.specs.Pairing.{Directs, Done, NextPairing}
@@ -119,8 +119,8 @@ pub record Answering (plan us vs order : List ℕ) (r₀ r results : List Float)
   pub long : length results ≡ length us
   pub moving : current .place < 2
   pub still : Still r₀ r w scales
-  pub known : (J : Job Float) (elementwise : Bool) → Passed J plan r₀ n w scales elementwise → CurrentKnown J r n w current
-  pub done : (J : Job Float) (elementwise : Bool) → Passed J plan r₀ n w scales elementwise → (k : ℕ) → Done directs direct other k
+  pub known : (J : Job Float) (elementwise : Bool) → PlanSwept J plan r₀ n w scales elementwise → CurrentKnown J r n w current
+  pub done : (J : Job Float) (elementwise : Bool) → PlanSwept J plan r₀ n w scales elementwise → (k : ℕ) → Done directs direct other k
       → Answered J us vs results (getD order k 0)
 
 pub answering-none : (plan us vs order : List ℕ) (r results : List Float) (n w scales : ℕ) (current : CurrentVector) (directs : ℕ) → directs ≤ length order
@@ -145,9 +145,9 @@ module _ (plan us vs order : List ℕ) (r₀ r results : List Float) (n w scales
     (g : Answering plan us vs order r₀ r results n w scales current directs direct other) (ordered : Ordered order (length us)) where
   -- all pairs are answered
   pub all-answered : directs + length us ≤ direct + other → (J : Job Float) (elementwise : Bool) → PlanOf J plan (drop (scales + n) r₀) n w elementwise
-      → Swept J plan r₀ n w scales → Outcome J us vs results true
+      → BothSwept J plan r₀ n w scales → Outcome J us vs results true
   all-answered l J elementwise of swept =
-      let passed : Passed J plan r₀ n w scales elementwise = record { of = of; swept = swept } in
+      let passed : PlanSwept J plan r₀ n w scales elementwise = record { of = of; swept = swept } in
       let each-number : (k : ℕ) → k < length us → Done directs direct other k =
       λ k b. dite (decLt k directs) (λ c. inl (omega (arith, g .below, g .inside, ordered .long)))
       (λ c. inr (omega arith, omega (arith, g .below, g .inside, ordered .long))) in
@@ -160,9 +160,9 @@ module _ (plan us vs order : List ℕ) (r₀ r results : List Float) (n w scales
       }
 
   -- the next two
-  module _ (t : Pairing) (s : Step) (r₂ results₂ : List Float) (pairing : NextPairing directs (length order) direct other t) (ready : Ready plan (length r₀) n w scales)
+  module _ (t : Pairing) (s : AfterTwo) (r₂ results₂ : List Float) (pairing : NextPairing directs (length order) direct other t) (ready : Ready plan (length r₀) n w scales)
       (two : AnsweredTwo plan us vs r r₂ results results₂ n w scales (getD order (t .first) 0) (getD order (t .second) 0) current s) where
-    now : (J : Job Float) (elementwise : Bool) → Passed J plan r₀ n w scales elementwise → Passed J plan r n w scales elementwise
+    now : (J : Job Float) (elementwise : Bool) → PlanSwept J plan r₀ n w scales elementwise → PlanSwept J plan r n w scales elementwise
     now J elementwise passed = still-passed J plan r₀ r n w scales elementwise ready (g .still) passed
 
     pub still-next : Still r₀ r₂ w scales
@@ -170,9 +170,9 @@ module _ (plan us vs order : List ℕ) (r₀ r results : List Float) (n w scales
 
     -- some Z is not sound
     pub two-unsound : s .sound ≡ false → (J : Job Float) (elementwise : Bool) → PlanOf J plan (drop (scales + n) r₀) n w elementwise
-        → Swept J plan r₀ n w scales → Outcome J us vs results₂ false
+        → BothSwept J plan r₀ n w scales → Outcome J us vs results₂ false
     two-unsound e J elementwise of swept =
-        let passed : Passed J plan r₀ n w scales elementwise = record { of = of; swept = swept } in
+        let passed : PlanSwept J plan r₀ n w scales elementwise = record { of = of; swept = swept } in
         record {
           told = sym (ap not (two .unanswered J elementwise (now J elementwise passed) (g .known J elementwise passed) e));
           values = λ f. absurd (true≢false (sym f));
@@ -195,14 +195,14 @@ module _ (plan us vs order : List ℕ) (r₀ r results : List Float) (n w scales
         within : (k : ℕ) → k < length order → getD order k 0 < length results
         within k b = rw (g .long) (ordered .inside k (rw (← ordered .long) b))
 
-        known : (J : Job Float) (elementwise : Bool) → Passed J plan r₀ n w scales elementwise → (k : ℕ)
+        known : (J : Job Float) (elementwise : Bool) → PlanSwept J plan r₀ n w scales elementwise → (k : ℕ)
             → (Done directs direct other k ⊎ ((k ≡ t .first) ⊎ (k ≡ t .second)))
             → Answered J us vs results (getD order k 0) ⊎ ((getD order k 0 ≡ getD order (t .first) 0) ⊎ (getD order k 0 ≡ getD order (t .second) 0))
         known J elementwise passed k (inl b) = inl (g .done J elementwise passed k b)
         known J elementwise passed k (inr (inl x)) = inr (inl (ap (λ (j : ℕ). getD order j 0) x))
         known J elementwise passed k (inr (inr x)) = inr (inr (ap (λ (j : ℕ). getD order j 0) x))
 
-        more : (J : Job Float) (elementwise : Bool) → Passed J plan r₀ n w scales elementwise → (k : ℕ)
+        more : (J : Job Float) (elementwise : Bool) → PlanSwept J plan r₀ n w scales elementwise → (k : ℕ)
             → (Done directs direct other k ⊎ ((k ≡ t .first) ⊎ (k ≡ t .second))) → Answered J us vs results₂ (getD order k 0)
         more J elementwise passed k c =
             both-answered J us vs results results₂ _ _ (within (t .first) (pairing .first)) (within (t .second) (pairing .second))

@@ -23,7 +23,7 @@ use Rattle.vertex_step.specs.Ready.{Ready}
 use Rattle.vertex_step.specs.Laws.Ready.{still-none, still-ready, moving-place}
 use Rattle.propagation.specs.declared.current.CurrentVector.{CurrentVector}
 use Rattle.pair_correlations.specs.declared.pair.Aim.{Aim}
-use Rattle.propagation.specs.Current.{Passed, Propagated}
+use Rattle.propagation.specs.Current.{PlanSwept, Propagated}
 use Rattle.propagation.specs.Laws.Current.{still-passed}
 use Rattle.pair_correlations.specs.Aim.{PairPlaces, SourceOf, DirectSource, Aimed}
 
@@ -83,7 +83,7 @@ module _ (plan : List ℕ) (len n w scales u v : ℕ) (ready : Ready plan len n 
       record { wide = ready .wide; narrow = ready .narrow; inside = omega (arith, ready .ends) }
 
 module _ (J : Job Float) (plan : List ℕ) (r : List Float) (n w scales u v : ℕ) (elementwise : Bool) (pair : PairPlaces plan n w u v)
-    (passed : Passed J plan r n w scales elementwise) where
+    (passed : PlanSwept J plan r n w scales elementwise) where
   forward-half : SymmetricHalf w (halfAt r w (forwardPlace plan v)) (S.forward ieee J v)
   forward-half = passed .swept .forward .vectors v (pair .inside) (pair .forward)
 
@@ -106,7 +106,7 @@ module _ (plan : List ℕ) (r : List Float) (n w scales u v : ℕ) (s : Source) 
     small = rw (d .bit) (omega (arith, ready .narrow));
   }
 
-  pub direct-of : (J : Job Float) (elementwise : Bool) → Passed J plan r n w scales elementwise → SourceOf J r w u v s
+  pub direct-of : (J : Job Float) (elementwise : Bool) → PlanSwept J plan r n w scales elementwise → SourceOf J r w u v s
   direct-of J elementwise passed = record {
     z-of = λ t g. rw (d .forward, d .backward) at (g .z-is) ∙ z-at J plan r n w scales u v elementwise pair passed (ready .wide);
     n-of = λ t g. rw (d .other, d .backward, d .bit) at (g .n-is)
@@ -134,7 +134,7 @@ module _ (plan : List ℕ) (r₀ : List Float) (n w scales u v : ℕ) (current :
       → Aimed plan r₀ r n w scales u v current a
   aimed-far r on l g a es eh =
       let p = still-ready plan r₀ r n w scales (g .still) ready in
-      let now : (J : Job Float) (elementwise : Bool) → Passed J plan r₀ n w scales elementwise → Passed J plan r n w scales elementwise =
+      let now : (J : Job Float) (elementwise : Bool) → PlanSwept J plan r₀ n w scales elementwise → PlanSwept J plan r n w scales elementwise =
       λ J elementwise passed. still-passed J plan r₀ r n w scales elementwise ready (g .still) passed in
       record {
         moving = rw eh (g .moving);

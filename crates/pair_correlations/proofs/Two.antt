@@ -17,7 +17,7 @@ use Rattle.propagation.specs.declared.current.CurrentVector.{CurrentVector}
 use Rattle.pair_correlations.specs.declared.pair.Aim.{Aim}
 use Rattle.pair_correlations.specs.Served.{Served}
 use Rattle.pair_correlations.specs.Sound.{soundly, unsound}
-use Rattle.propagation.specs.Current.{Passed, CurrentKnown}
+use Rattle.propagation.specs.Current.{PlanSwept, CurrentKnown}
 use Rattle.propagation.specs.Laws.Current.{still-passed}
 use Rattle.pair_correlations.specs.Aim.{SourceOf, Aimed, Second, SecondSource}
 use Rattle.pair_correlations.specs.Two.{AnsweredTwo}
@@ -45,7 +45,7 @@ module _ (plan us vs : List ℕ) (r₀ r : List Float) (n w scales p q : ℕ) (c
       go (inl e) = rw (e .1) (aimed .sourced)
       go (inr d) = direct-sourced plan r n w scales _ _ other ready-now (pair-places plan us vs n w q served bq) (near (d .0)) (d .1)
 
-  second-of : (J : Job Float) (elementwise : Bool) → Passed J plan r₀ n w scales elementwise → CurrentKnown J r₀ n w current
+  second-of : (J : Job Float) (elementwise : Bool) → PlanSwept J plan r₀ n w scales elementwise → CurrentKnown J r₀ n w current
       → SourceOf J r w (earlier us vs q) (later us vs q) other
   second-of J elementwise passed known = go at
     where
@@ -68,7 +68,7 @@ module _ (plan us vs : List ℕ) (r₀ r : List Float) (n w scales p q : ℕ) (c
           unanswered = λ J elementwise passed known t. go J elementwise passed known e;
         }
       where
-        go : (J : Job Float) (elementwise : Bool) → Passed J plan r₀ n w scales elementwise → CurrentKnown J r₀ n w current
+        go : (J : Job Float) (elementwise : Bool) → PlanSwept J plan r₀ n w scales elementwise → CurrentKnown J r₀ n w current
             → ((soundly (x .z) ≡ false) ⊎ (soundly (y .z) ≡ false)) → unsound J us vs ≡ true
         go J elementwise passed known (inl e) = none-of-it J us vs r w p (aim .source) x (aimed .source-of J elementwise passed known) gx bp e
         go J elementwise passed known (inr e) = none-of-it J us vs r w q other y (second-of J elementwise passed known) gy bq e

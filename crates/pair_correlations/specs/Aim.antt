@@ -17,7 +17,7 @@ use Rattle.pair_sums.specs.Pair.{Sourced, SumsOf}
 use Rattle.vertex_step.specs.Ready.{Still}
 use Rattle.propagation.specs.declared.current.CurrentVector.{CurrentVector}
 use Rattle.pair_correlations.specs.declared.pair.Aim.{Aim}
-use Rattle.propagation.specs.Current.{Passed, CurrentKnown}
+use Rattle.propagation.specs.Current.{PlanSwept, CurrentKnown}
 
 -- The pair u < v has the places that it needs.
 pub record PairPlaces (plan : List ℕ) (n w u v : ℕ) : Type 0 where
@@ -44,8 +44,8 @@ pub record Aimed (plan : List ℕ) (r₀ r : List Float) (n w scales u v : ℕ) 
   pub moving : a .current .place < 2
   pub still : Still r₀ r w scales
   pub sourced : Sourced (length r) w (a .source)
-  pub known : (J : Job Float) (elementwise : Bool) → Passed J plan r₀ n w scales elementwise → CurrentKnown J r₀ n w current → CurrentKnown J r n w (a .current)
-  pub source-of : (J : Job Float) (elementwise : Bool) → Passed J plan r₀ n w scales elementwise → CurrentKnown J r₀ n w current → SourceOf J r w u v (a .source)
+  pub known : (J : Job Float) (elementwise : Bool) → PlanSwept J plan r₀ n w scales elementwise → CurrentKnown J r₀ n w current → CurrentKnown J r n w (a .current)
+  pub source-of : (J : Job Float) (elementwise : Bool) → PlanSwept J plan r₀ n w scales elementwise → CurrentKnown J r₀ n w current → SourceOf J r w u v (a .source)
 
 -- Pair q is pair p, or a direct one.
 abbrev pub Second : (us vs : List ℕ) (w p q : ℕ) → Type 0

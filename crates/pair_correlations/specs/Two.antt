@@ -11,8 +11,8 @@ use Rattle.transfer_matrix.specs.Rounded.{ieee}
 use Rattle.transfer_matrix.specs.Sweep as S
 use Rattle.vertex_step.specs.Ready.{Still}
 use Rattle.propagation.specs.declared.current.CurrentVector.{CurrentVector}
-use Rattle.pair_correlations.specs.declared.pairs.Step.{Step}
-use Rattle.propagation.specs.Current.{Passed, CurrentKnown}
+use Rattle.pair_correlations.specs.declared.pairs.AfterTwo.{AfterTwo}
+use Rattle.propagation.specs.Current.{PlanSwept, CurrentKnown}
 use Rattle.pair_correlations.specs.Sound.{soundly, unsound}
 
 -- x is the answer of pair p, and its Z is sound.
@@ -29,10 +29,10 @@ pub record Written (J : Job Float) (us vs : List ℕ) (results₀ results : List
   pub second : AnswerOf J us vs q y
 
 -- The pairs p and q are answered where both Z are sound; else some Z is not.
-pub record AnsweredTwo (plan us vs : List ℕ) (r₀ r results₀ results : List Float) (n w scales p q : ℕ) (current : CurrentVector) (s : Step) : Type 0 where
+pub record AnsweredTwo (plan us vs : List ℕ) (r₀ r results₀ results : List Float) (n w scales p q : ℕ) (current : CurrentVector) (s : AfterTwo) : Type 0 where
   pub moving : s .current .place < 2
   pub long : length results ≡ length results₀
   pub still : Still r₀ r w scales
-  pub answered : (J : Job Float) (elementwise : Bool) → Passed J plan r₀ n w scales elementwise → CurrentKnown J r₀ n w current → s .sound ≡ true
+  pub answered : (J : Job Float) (elementwise : Bool) → PlanSwept J plan r₀ n w scales elementwise → CurrentKnown J r₀ n w current → s .sound ≡ true
       → CurrentKnown J r n w (s .current) × Written J us vs results₀ results p q
-  pub unanswered : (J : Job Float) (elementwise : Bool) → Passed J plan r₀ n w scales elementwise → CurrentKnown J r₀ n w current → s .sound ≡ false → unsound J us vs ≡ true
+  pub unanswered : (J : Job Float) (elementwise : Bool) → PlanSwept J plan r₀ n w scales elementwise → CurrentKnown J r₀ n w current → s .sound ≡ false → unsound J us vs ≡ true

@@ -7,7 +7,7 @@ ghost use lib.ListN.{length, drop};
 ghost use Rattle.transfer_matrix.specs.Job.{Job};
 ghost use Rattle.plan_steps.specs.Layout.{Holds};
 ghost use Rattle.plan_layout.specs.Order.{Ordered};
-ghost use Rattle.vertex_step.specs.Ready.{Ready, PlanOf, Swept, Still};
+ghost use Rattle.vertex_step.specs.Ready.{Ready, PlanOf, BothSwept, Still};
 ghost use Rattle.pair_correlations.specs.Served.{Served};
 ghost use Rattle.pair_correlations.specs.Sound.{Outcome};
 ghost use Rattle.pair_correlations.specs.Aim.{Second, SecondSource};
@@ -25,7 +25,7 @@ use propagation::direct_pairs;
 use propagation::next_pairing;
 
 // The current propagated vector after two pairs, and whether their Z are finite and above zero.
-pub struct Step {
+pub struct AfterTwo {
     pub current: CurrentVector,
     pub sound: bool,
 }
@@ -65,7 +65,7 @@ fn answer_two(
     q: usize,
     current: CurrentVector,
     results: &mut [f64],
-) -> Step
+) -> AfterTwo
     requires { ⌜ Ready (now plan) (length (now room)) n w scales × Served (now plan) (now us) (now vs) n w
         × (p < length (now us)) × (q < length (now us)) × Second (now us) (now vs) w p q × (current .place < 2) × (length (now results) ≡ length (now us)) ⌝ }
     ensures { λ r. ⌜ AnsweredTwo (now (plan .entry)) (now (us .entry)) (now (vs .entry)) (now (room .entry)) (now (room .exit))
@@ -89,13 +89,13 @@ fn answer_two(
     let x = sums.first;
     let y = sums.second;
     if !is_sound(x.z) {
-        return Step {
+        return AfterTwo {
             current,
             sound: false,
         };
     }
     if !is_sound(y.z) {
-        return Step {
+        return AfterTwo {
             current,
             sound: false,
         };
@@ -103,7 +103,7 @@ fn answer_two(
     results[p] = x.n / x.z;
     results[q] = y.n / y.z;
     let reached = aim.current;
-    Step {
+    AfterTwo {
         current: reached,
         sound: true,
     }
@@ -126,7 +126,7 @@ pub fn answer_pairs(
         × Ordered (now order) (length (now us)) × (length (now results) ≡ length (now us)) ⌝ }
     ensures { λ _. ⌜ Still (now (room .entry)) (now (room .exit)) w scales ⌝ }
     ensures { λ r. ⌜ ((J : Job Float) (elementwise : Bool) → PlanOf J (now (plan .entry)) (drop (scales + n) (now (room .entry))) n w elementwise
-        → Swept J (now (plan .entry)) (now (room .entry)) n w scales
+        → BothSwept J (now (plan .entry)) (now (room .entry)) n w scales
         → Outcome J (now (us .entry)) (now (vs .entry)) (now (results .exit)) r) ⌝ }
 {
     let directs = direct_pairs(us, vs, order, n, w);

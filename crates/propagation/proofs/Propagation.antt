@@ -25,7 +25,7 @@ use Rattle.vertex_step.specs.Through.{Through, forwardBy, through}
 use Rattle.vertex_step.specs.Laws.Through.{through-one, through-two}
 use Rattle.vertex_step.specs.Laws.Steady.{step-below}
 use Rattle.propagation.specs.declared.current.CurrentVector.{CurrentVector}
-use Rattle.propagation.specs.Current.{Passed, Reached, AdvanceSteps, Advanced, Propagated}
+use Rattle.propagation.specs.Current.{PlanSwept, Reached, AdvanceSteps, Advanced, Propagated}
 use Rattle.propagation.specs.Laws.Current.{still-passed}
 
 -- ---- the definition's propagated vectors
@@ -108,7 +108,7 @@ module _ (plan : List ℕ) (r₀ r : List Float) (n w scales from at t src : ℕ
     abbrev stepped : Wrote r r′ w (1 - src)
     stepped = record { vector = tabulate (gone scale then) (2 ^ (w - 1)); full = tabulate-length (gone scale then) (2 ^ (w - 1)); done = made }
 
-    module _ (J : Job Float) (elementwise : Bool) (u : ℕ) (passed : Passed J plan r₀ n w scales elementwise) (before : Reached J r₀ w u from at) where
+    module _ (J : Job Float) (elementwise : Bool) (u : ℕ) (passed : PlanSwept J plan r₀ n w scales elementwise) (before : Reached J r₀ w u from at) where
       now : Reached J r w u t src
       now = g .reached J elementwise u passed before
 
@@ -187,7 +187,7 @@ module _ (plan : List ℕ) (r₀ : List Float) (n w scales u : ℕ) (ready : Rea
     still-start : Still r₀ r₁ w scales
     still-start = still-wrote plan r₀ r₁ n w scales 0 ready (omega arith) wrote
 
-    started : (J : Job Float) (elementwise : Bool) → Passed J plan r₀ n w scales elementwise → Reached J r₁ w u u 0
+    started : (J : Job Float) (elementwise : Bool) → PlanSwept J plan r₀ n w scales elementwise → Reached J r₁ w u u 0
     started J elementwise passed =
         let is : S.alternate ieee w (S.forward ieee J u) ≡ S.propagated ieee J u (u - u) =
         ap (λ (k : ℕ). S.alternate ieee k (S.forward ieee J u)) (sym (passed .of .window)) ∙ sym (propagated-start J u (u - u) (omega arith)) in

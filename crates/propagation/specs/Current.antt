@@ -11,13 +11,13 @@ use Rattle.transfer_matrix.specs.Rounded.{ieee}
 use Rattle.transfer_matrix.specs.Sweep as S
 use Rattle.half_vectors.specs.Antisymmetric.{AntisymmetricHalf}
 use Rattle.pair_sums.specs.Terms.{halfAt}
-use Rattle.vertex_step.specs.Ready.{PlanOf, Swept, Still}
+use Rattle.vertex_step.specs.Ready.{PlanOf, BothSwept, Still}
 use Rattle.propagation.specs.declared.current.CurrentVector.{CurrentVector}
 
 -- The plan is of job J, and both its sweeps have passed the room.
-pub record Passed (J : Job Float) (plan : List ℕ) (r : List Float) (n w scales : ℕ) (elementwise : Bool) : Type 0 where
+pub record PlanSwept (J : Job Float) (plan : List ℕ) (r : List Float) (n w scales : ℕ) (elementwise : Bool) : Type 0 where
   pub of : PlanOf J plan (drop (scales + n) r) n w elementwise
-  pub swept : Swept J plan r n w scales
+  pub swept : BothSwept J plan r n w scales
 
 -- The propagated vector of u has reached vertex t, and its lower half lies at place `at`.
 pub record Reached (J : Job Float) (r : List Float) (w u t at : ℕ) : Type 0 where
@@ -37,7 +37,7 @@ AdvanceSteps w t to last = (last ≡ t) ⊎ AdvanceTwo w t to last
 pub record Advanced (plan : List ℕ) (r₀ r : List Float) (n w scales from at to on : ℕ) : Type 0 where
   pub moving : on < 2
   pub still : Still r₀ r w scales
-  pub reached : (J : Job Float) (elementwise : Bool) (u : ℕ) → Passed J plan r₀ n w scales elementwise → Reached J r₀ w u from at → Reached J r w u to on
+  pub reached : (J : Job Float) (elementwise : Bool) (u : ℕ) → PlanSwept J plan r₀ n w scales elementwise → Reached J r₀ w u from at → Reached J r w u to on
 
 -- The current vector is what it is said to be, if there is one.
 pub record CurrentKnown (J : Job Float) (r : List Float) (n w : ℕ) (current : CurrentVector) : Type 0 where
@@ -47,4 +47,4 @@ pub record CurrentKnown (J : Job Float) (r : List Float) (n w : ℕ) (current : 
 pub record Propagated (plan : List ℕ) (r₀ r : List Float) (n w scales u v : ℕ) (current : CurrentVector) (on : ℕ) : Type 0 where
   pub moving : on < 2
   pub still : Still r₀ r w scales
-  pub reached : (J : Job Float) (elementwise : Bool) → Passed J plan r₀ n w scales elementwise → CurrentKnown J r₀ n w current → Reached J r w u v on
+  pub reached : (J : Job Float) (elementwise : Bool) → PlanSwept J plan r₀ n w scales elementwise → CurrentKnown J r₀ n w current → Reached J r w u v on

@@ -16,7 +16,8 @@ pub struct Pairing {
     pub other: usize,
 }
 
-// The next pairing, where the first `direct` pairs are answered, of `directs`, and the others up to `other`, of `all`.
+// The next pairing, where the first `direct` pairs are answered, of `directs`, and the others up to `other`, of `all`. With `all` below 2^62 no
+// sum here leaves the machine's numbers.
 pub fn next_pairing(directs: usize, all: usize, direct: usize, other: usize) -> Pairing
     requires { ⌜ (direct ≤ directs) × (directs ≤ other) × (other ≤ all) × (direct + other < directs + all) × (all < 4611686018427387904) ⌝ }
     ensures { λ r. ⌜ NextPairing directs all direct other r ⌝ }

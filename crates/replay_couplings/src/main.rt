@@ -4,21 +4,10 @@ mod call;
 
 use replay_format::NUMBERS;
 
-fn report(list: &[u8]) {
-    let mut counts = [0usize; NUMBERS];
-    let counted = call::replay_all(list, &mut counts);
-    replay_format::report(counted, b" calls", &counts);
-}
-
 fn main() {
-    let path = b"couplings.bin";
-    let fd = os::open_read(path);
-    if fd < 0 {
-        os::fail(path);
-        return;
-    }
     let mut list = [0u8; 65536];
-    let n = io::read_full(fd, &mut list);
-    libc::close(fd);
-    report(&list[..n]);
+    let n = replay_format::read_file(b"couplings.bin", &mut list);
+    let mut counts = [0usize; NUMBERS];
+    let counted = call::replay_all(&list[..n], &mut counts);
+    replay_format::report(counted, b" calls", &counts);
 }

@@ -2,7 +2,6 @@
 // a count, both sums and the estimate; a pattern and its root.
 ghost use Prim.Native.Nat.{_≤_, _<_};
 use estimate::Estimate;
-use libc::STDOUT_FILENO;
 
 // bytes of a record of each list
 const ESTIMATE: usize = 8 * 6;
@@ -76,25 +75,12 @@ fn count_same(size: usize, list: &[u8]) -> usize
     count
 }
 
-fn print_number(n: usize) {
-    io::print_decimal(STDOUT_FILENO, n as u64);
-}
-
 fn report(size: usize, path: &[u8], what: &[u8])
     requires { ⌜ (0 < size) × (size ≤ 48) ⌝ }
 {
-    let fd = os::open_read(path);
-    if fd < 0 {
-        os::fail(path);
-        return;
-    }
     let mut list = [0u8; 98304];
-    let n = io::read_full(fd, &mut list);
-    libc::close(fd);
-    print_number(count_same(size, &list[..n]));
-    io::write_all(STDOUT_FILENO, b" of ");
-    print_number(n / size);
-    io::write_all(STDOUT_FILENO, what);
+    let n = replay_format::read_file(path, &mut list);
+    replay_format::print_tally(count_same(size, &list[..n]), n / size, what);
 }
 
 fn main() {

@@ -1,10 +1,12 @@
 // Lists of stored answers, as the replay programs read them: a row of 64-bit words, little-endian, a double as its bits.
+mod files;
 mod hash;
 mod lists;
 mod memory;
 mod tally;
 mod words;
 
+pub use files::read_file;
 pub use hash::OFFSET;
 pub use hash::mix;
 pub use hash::mix_doubles;
@@ -26,6 +28,9 @@ pub use tally::advance;
 pub use tally::begin;
 pub use tally::count;
 pub use tally::finish;
+pub use tally::print_counted;
+pub use tally::print_number;
+pub use tally::print_tally;
 pub use tally::report;
 pub use words::are_stored;
 pub use words::at;

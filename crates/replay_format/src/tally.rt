@@ -79,7 +79,7 @@ pub fn finish(progress: Progress, list: &[u8]) -> Counted {
     }
 }
 
-fn print_number(n: usize) {
+pub fn print_number(n: usize) {
     io::print_decimal(STDOUT_FILENO, n as u64);
 }
 
@@ -104,14 +104,24 @@ fn print_counts(counts: &[usize; NUMBERS]) {
     io::write_all(STDOUT_FILENO, b"\n");
 }
 
-// Two lines: how many of them agree, and how many of each refusal's number do.
-pub fn report(counted: Counted, them: &[u8], counts: &[usize; NUMBERS]) {
-    print_number(counted.same);
+// How many of all, and what follows.
+pub fn print_tally(same: usize, all: usize, what: &[u8]) {
+    print_number(same);
     io::write_all(STDOUT_FILENO, b" of ");
-    print_number(counted.all);
-    io::write_all(STDOUT_FILENO, them);
+    print_number(all);
+    io::write_all(STDOUT_FILENO, what);
+}
+
+// A line: how many of them agree, and the bytes that are left.
+pub fn print_counted(counted: Counted, them: &[u8]) {
+    print_tally(counted.same, counted.all, them);
     io::write_all(STDOUT_FILENO, b" agree; bytes left over: ");
     print_number(counted.left);
     io::write_all(STDOUT_FILENO, b"\n");
+}
+
+// Two lines: how many of them agree, and how many of each refusal's number do.
+pub fn report(counted: Counted, them: &[u8], counts: &[usize; NUMBERS]) {
+    print_counted(counted, them);
     print_counts(counts);
 }

@@ -3,7 +3,9 @@ use graph::Reached;
 use graph_edges::Graph;
 use graph_edges::Made;
 use refusals::Answer;
+use replay_format::Counted;
 use replay_format::OFFSET;
+use replay_format::Replayed;
 use replay_format::at;
 use replay_format::load_doubles;
 use replay_format::load_numbers;
@@ -21,17 +23,6 @@ const NOT_JOINED: u64 = 0x2_0000_0000;
 const BEFORE: usize = 9;
 
 const FEW: usize = 3;
-
-pub(crate) struct Counted {
-    pub same: usize,
-    pub all: usize,
-    pub left: usize,
-}
-
-struct Replayed {
-    same: bool,
-    next: usize,
-}
 
 fn answer_word(a: Answer) -> u64 {
     match a {

@@ -3,40 +3,17 @@
 // its buffers, refused jobs too. `answers graphs` of rust/oracle made it, the refusals' numbers from document 01.
 mod job;
 
-use libc::STDOUT_FILENO;
-
-fn print_number(n: usize) {
-    io::print_decimal(STDOUT_FILENO, n as u64);
-}
-
-fn report(list: &[u8]) {
-    let counted = job::replay_all(list);
-    print_number(counted.same);
-    io::write_all(STDOUT_FILENO, b" of ");
-    print_number(counted.all);
-    io::write_all(STDOUT_FILENO, b" graphs agree; bytes left over: ");
-    print_number(counted.left);
-    io::write_all(STDOUT_FILENO, b"\n");
-}
-
-fn read(fd: i32, list: &mut [u8]) {
-    let n = io::read_full(fd, list);
-    report(&list[..n]);
+fn report(path: &[u8], list: &mut [u8]) {
+    let n = replay_format::read_file(path, list);
+    replay_format::print_counted(job::replay_all(&list[..n]), b" graphs");
 }
 
 // The array's type has its length, so that nothing counts its elements.
-fn read_all(fd: i32, list: &mut [u8; 300000]) {
-    read(fd, list)
+fn report_all(list: &mut [u8; 300000]) {
+    report(b"graphs.bin", list)
 }
 
 fn main() {
-    let path = b"graphs.bin";
-    let fd = os::open_read(path);
-    if fd < 0 {
-        os::fail(path);
-        return;
-    }
     let mut list = [0u8; 300000];
-    read_all(fd, &mut list);
-    libc::close(fd);
+    report_all(&mut list);
 }

@@ -87,31 +87,18 @@ fn count_same(list: &[u8]) -> usize {
     count
 }
 
-fn print_number(n: usize) {
-    io::print_decimal(STDOUT_FILENO, n as u64);
-}
-
 fn report(list: &[u8]) {
-    print_number(count_same(list));
-    io::write_all(STDOUT_FILENO, b" of ");
-    print_number(list.len() / RECORD);
-    io::write_all(
-        STDOUT_FILENO,
+    replay_format::print_tally(
+        count_same(list),
+        list.len() / RECORD,
         b" generators agree, 64 words and 16 uniforms each; bytes left over: ",
     );
-    print_number(list.len() % RECORD);
+    replay_format::print_number(list.len() % RECORD);
     io::write_all(STDOUT_FILENO, b"\n");
 }
 
 fn main() {
-    let path = b"generators.bin";
-    let fd = os::open_read(path);
-    if fd < 0 {
-        os::fail(path);
-        return;
-    }
     let mut list = [0u8; 65536];
-    let n = io::read_full(fd, &mut list);
-    libc::close(fd);
+    let n = replay_format::read_file(b"generators.bin", &mut list);
     report(&list[..n]);
 }

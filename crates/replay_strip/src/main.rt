@@ -8,7 +8,6 @@ mod strips;
 
 ghost use Prim.Native.Nat.{_≤_, _<_};
 use edges::Tally;
-use libc::STDOUT_FILENO;
 
 // bytes of a record of each list
 const STRIP: usize = 8 * 7;
@@ -53,29 +52,13 @@ fn tally(size: usize, list: &[u8]) -> Tally
     }
 }
 
-fn print_number(n: usize) {
-    io::print_decimal(STDOUT_FILENO, n as u64);
-}
-
-fn print_tally(t: Tally, what: &[u8]) {
-    print_number(t.agree);
-    io::write_all(STDOUT_FILENO, b" of ");
-    print_number(t.records);
-    io::write_all(STDOUT_FILENO, what);
-}
-
 fn report(size: usize, path: &[u8], what: &[u8])
     requires { ⌜ (0 < size) × (size ≤ 72) ⌝ }
 {
-    let fd = os::open_read(path);
-    if fd < 0 {
-        os::fail(path);
-        return;
-    }
     let mut list = [0u8; 98304];
-    let n = io::read_full(fd, &mut list);
-    libc::close(fd);
-    print_tally(tally(size, &list[..n]), what);
+    let n = replay_format::read_file(path, &mut list);
+    let t = tally(size, &list[..n]);
+    replay_format::print_tally(t.agree, t.records, what);
 }
 
 fn main() {

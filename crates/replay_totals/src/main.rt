@@ -5,31 +5,20 @@ mod record;
 
 use replay_format::NUMBERS;
 
-fn report(list: &[u8], work: &mut [f64]) {
+fn report(path: &[u8], list: &mut [u8], work: &mut [f64]) {
+    let n = replay_format::read_file(path, list);
     let mut counts = [0usize; NUMBERS];
-    let counted = record::replay_all(list, work, &mut counts);
+    let counted = record::replay_all(&list[..n], work, &mut counts);
     replay_format::report(counted, b" calls", &counts);
 }
 
-fn read(fd: i32, list: &mut [u8], work: &mut [f64]) {
-    let n = io::read_full(fd, list);
-    report(&list[..n], work);
-}
-
 // The arrays' types have their lengths, so that nothing counts their elements.
-fn read_all(fd: i32, list: &mut [u8; 320000], work: &mut [f64; 8192]) {
-    read(fd, list, work)
+fn report_all(list: &mut [u8; 320000], work: &mut [f64; 8192]) {
+    report(b"totals.bin", list, work)
 }
 
 fn main() {
-    let path = b"totals.bin";
-    let fd = os::open_read(path);
-    if fd < 0 {
-        os::fail(path);
-        return;
-    }
     let mut list = [0u8; 320000];
     let mut work = [0.0f64; 8192];
-    read_all(fd, &mut list, &mut work);
-    libc::close(fd);
+    report_all(&mut list, &mut work);
 }

@@ -4,3 +4,4 @@ pub mod Examples
 pub mod Smallest
 pub mod Halves
 pub mod Middles
+pub mod Root

@@ -22,7 +22,8 @@ use Rattle.largest_entry.specs.Larger.{larger}
 use Rattle.largest_entry.specs.Top.{top}
 use Rattle.largest_entry.specs.Laws.Top.{top-is}
 use Rattle.largest_entry.specs.Laws.Lanes.{Fit, two-parts, both-ends, larger-swap, Lanes, lanes-iteration, lanes-done}
-use Rattle.step_backward.specs.Ends.{ends, ends-one, ends-run, ends-apart, ends-together}
+use Rattle.step_backward.specs.Ends.{ends}
+use Rattle.step_backward.specs.Laws.Ends.{ends-one, ends-run, ends-apart, ends-together}
 use Rattle.largest_entry.specs.Laws.Filled.{filled-top}
 
 -- what is rounded is a double

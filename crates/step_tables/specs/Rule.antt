@@ -27,7 +27,8 @@ alternating p q i = cond (bit 0 i) q p
 unfoldable pub blend : (x y p a b : Float) → Float
 blend x y p a b = mul binary64 (add binary64 (mul binary64 x a) (mul binary64 y b)) p
 
--- Forward: from the entries a and b, at even places with the coefficients ep and sem and the weights p, at odd ones with em, sep and q.
+-- Forward: from the entries a and b, at even places with the coefficients ep and sem and the weights p, at odd ones with em, sep and q. Where
+-- the half is antisymmetric sem and sep are em and ep negated, else they are em and ep: b is read from the other half.
 unfoldable pub forwardRule : (ep sem em sep : Float) (p q a b : ℕ → Float) → ℕ → Float
 forwardRule ep sem em sep p q a b j = let k = j / 2 in cond (bit 0 j) (blend em sep (q k) (a k) (b k)) (blend ep sem (p k) (a k) (b k))
 

@@ -26,11 +26,6 @@ pub record Numbered (k : Chunks) (free : ℕ) : Type 0 where
   pub few : k .drawn ≡ false → free ≤ 63
   pub fits : k .drawn ≡ false → k .end * k .size ≤ 18446744073709551615
 
--- a mark and a sign for each of m edges
-pub record Marks (m tree signs : ℕ) : Type 0 where
-  pub marked : tree ≡ m
-  pub signed : signs ≡ m
-
 -- Whether every Z was finite and above zero; then a list holds the answers, else +0.0.
 pub record Answered (bad : Bool) (answers : List Float) (n : ℕ) (sound : Bool) (list : List Float) : Type 0 where
   pub verdict : sound ≡ not bad

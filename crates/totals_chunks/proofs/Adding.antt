@@ -11,11 +11,11 @@ use lib.ListN.{length}
 use Rattle.list_laws.specs.Search.{some}
 use Rattle.transfer_matrix.specs.Job.{Job}
 use Rattle.transfer_matrix.specs.Totals.{chunkSize, chunked, sampled}
-use Rattle.totals_configuration.specs.declared.SweepShape.{SweepShape}
+use Rattle.totals_configuration.specs.declared.JobShape.{JobShape}
 use Rattle.totals_configuration.specs.Signed.{PlanOfRun}
 use Rattle.totals_configuration.specs.Laws.Chunked.{Chunked}
-use Rattle.totals_enumerated.specs.Configurations as Numbered
-use Rattle.totals_sampled.specs.Samples as Drawn
+use Rattle.totals_enumerated.specs.Configurations.{enumeratedSigns, PlanFrom}
+use Rattle.totals_sampled.specs.Samples.{sampledSigns, PlanOfSamples}
 use Rattle.totals_chunks.specs.declared.Chunks.{Chunks}
 use Rattle.totals_chunks.specs.Totals.{signsIn, Summable, Totals}
 
@@ -28,18 +28,18 @@ size-some free = let h : 1 ≤ 2 ^ free = pow-mono {i = 0} (omega arith) in omeg
 
 -- ---- the plan of a chunk is of its samples, or of the configurations with its numbers
 
-module _ (J : ℕ → ℕ → Job Float) (plan : List ℕ) (factors : List Float) (k : Chunks) (tree : List Bool) (betas i : ℕ) (s : SweepShape)
-    (of : PlanOfRun J plan factors (length tree) (signsIn k tree i) betas s) where
+module _ (J : ℕ → ℕ → Job Float) (plan : List ℕ) (factors : List Float) (k : Chunks) (tree : List Bool) (i : ℕ) (s : JobShape)
+    (of : PlanOfRun J plan factors (length tree) (signsIn k tree i) s) where
   plan-where : (d : Bool) → k .drawn ≡ d → PlanOfRun J plan factors (length tree)
-      (λ j. cond d (Drawn.signsOf (k .seed) (length tree) i j) (Numbered.signsOf tree (i * k .size + j))) betas s
+      (λ j. cond d (sampledSigns (k .seed) (length tree) i j) (enumeratedSigns tree (i * k .size + j))) s
   plan-where d e =
       subst (λ (x : Bool). PlanOfRun J plan factors (length tree)
-      (λ j. cond x (Drawn.signsOf (k .seed) (length tree) i j) (Numbered.signsOf tree (i * k .size + j))) betas s) e of
+      (λ j. cond x (sampledSigns (k .seed) (length tree) i j) (enumeratedSigns tree (i * k .size + j))) s) e of
 
-  pub drawn-plan : (signs : ℕ) → signs ≡ length tree → k .drawn ≡ true → Drawn.PlanOfSamples J plan factors signs (k .seed) i betas s
-  drawn-plan signs e d = subst (λ (m : ℕ). Drawn.PlanOfSamples J plan factors m (k .seed) i betas s) (sym e) (plan-where true d)
+  pub drawn-plan : (signs : ℕ) → signs ≡ length tree → k .drawn ≡ true → PlanOfSamples J plan factors signs (k .seed) i s
+  drawn-plan signs e d = subst (λ (m : ℕ). PlanOfSamples J plan factors m (k .seed) i s) (sym e) (plan-where true d)
 
-  pub numbered-plan : k .drawn ≡ false → Numbered.PlanFrom J plan factors tree (i * k .size) betas s
+  pub numbered-plan : k .drawn ≡ false → PlanFrom J plan factors tree (i * k .size) s
   numbered-plan d = plan-where false d
 
 -- the numbers of a chunk fit

@@ -12,7 +12,7 @@ ghost use Rattle.totals_configuration.specs.Sums.{RunSummed};
 ghost use Rattle.totals_chunks.specs.Totals.{allChunks, signsIn, Idle, Summable, PlanOfChunks, ChunksSummed};
 use step_tables::fill;
 use step_tables::pow2;
-use totals_configuration::SweepShape;
+use totals_configuration::JobShape;
 use totals_enumerated::enumerated_chunk;
 use totals_sampled::sampled_chunk;
 use totals_sums::add_sums;
@@ -61,12 +61,11 @@ fn nothing(first: u64, end: u64, size: usize, sums: usize) -> bool
 fn sum_chunk(
     room: &mut [f64],
     plan: &[usize],
-    shape: SweepShape,
+    shape: JobShape,
     us: &[usize],
     vs: &[usize],
     order: &[usize],
     factors: &[f64],
-    betas: usize,
     tree: &[bool],
     signs: &mut [bool],
     chunks: Chunks,
@@ -76,11 +75,11 @@ fn sum_chunk(
     fourths: &mut [f64],
 ) -> bool
     requires { ⌜ Stage (now plan) (now us) (now vs) (now order) (length (now tree)) shape (length (now room)) (length (now c))
-        × EnoughFactors (length (now factors)) (length (now tree)) betas × Summable chunks (now tree) (length (now signs)) × (i < chunks .end)
-        × (length (now squares) ≡ betas * length (now us)) × (length (now fourths) ≡ betas * length (now us)) ⌝ }
+        × EnoughFactors (length (now factors)) (length (now tree)) (shape .betas) × Summable chunks (now tree) (length (now signs)) × (i < chunks .end)
+        × (length (now squares) ≡ shape .betas * length (now us)) × (length (now fourths) ≡ shape .betas * length (now us)) ⌝ }
     ensures { λ r. ⌜ ((J : ℕ → ℕ → Job Float)
-        → PlanOfRun J (now (plan .entry)) (now (factors .entry)) (length (now (tree .entry))) (signsIn chunks (now (tree .entry)) i) betas shape
-        → RunSummed J (now (us .entry)) (now (vs .entry)) betas (chunks .size) r (now (squares .exit)) (now (fourths .exit))) ⌝ }
+        → PlanOfRun J (now (plan .entry)) (now (factors .entry)) (length (now (tree .entry))) (signsIn chunks (now (tree .entry)) i) shape
+        → RunSummed J (now (us .entry)) (now (vs .entry)) (shape .betas) (chunks .size) r (now (squares .exit)) (now (fourths .exit))) ⌝ }
 {
     let size = chunks.size;
     if chunks.drawn {
@@ -92,7 +91,6 @@ fn sum_chunk(
             vs,
             order,
             factors,
-            betas,
             chunks.seed,
             i,
             size,
@@ -111,7 +109,6 @@ fn sum_chunk(
         vs,
         order,
         factors,
-        betas,
         tree,
         signs,
         from,
@@ -122,17 +119,17 @@ fn sum_chunk(
     )
 }
 
-// The sums of each chunk, then the chunks in order. Returns whether every Z was finite and above zero; at the first that is not it stops.
-// `subsquares` and `subfourths` hold the sums of one chunk.
-fn add_chunks(
+// The totals of the chunks: the sums of each chunk, then the chunks in order. `subsquares` and `subfourths` hold the sums of one chunk. Where
+// there is nothing to sweep, no configuration is looked at. Returns whether every Z was finite and above zero; at the first that is not it
+// stops.
+pub fn chunked_totals(
     room: &mut [f64],
     plan: &[usize],
-    shape: SweepShape,
+    shape: JobShape,
     us: &[usize],
     vs: &[usize],
     order: &[usize],
     factors: &[f64],
-    betas: usize,
     tree: &[bool],
     signs: &mut [bool],
     chunks: Chunks,
@@ -143,16 +140,18 @@ fn add_chunks(
     fourths: &mut [f64],
 ) -> bool
     requires { ⌜ Stage (now plan) (now us) (now vs) (now order) (length (now tree)) shape (length (now room)) (length (now c))
-        × EnoughFactors (length (now factors)) (length (now tree)) betas × Summable chunks (now tree) (length (now signs))
-        × (chunks .first ≤ chunks .end)
-        × Lists (betas * length (now us)) (length (now subsquares)) (length (now subfourths)) (length (now squares)) (length (now fourths)) ⌝ }
+        × EnoughFactors (length (now factors)) (length (now tree)) (shape .betas) × Summable chunks (now tree) (length (now signs))
+        × Lists (shape .betas * length (now us)) (length (now subsquares)) (length (now subfourths)) (length (now squares)) (length (now fourths)) ⌝ }
     ensures { λ r. ⌜ ((J : ℕ → ℕ → ℕ → Job Float)
-        → PlanOfChunks J (now (plan .entry)) (now (factors .entry)) (now (tree .entry)) chunks betas shape
-        → ChunksSummed J (now (us .entry)) (now (vs .entry)) betas chunks r (now (squares .exit)) (now (fourths .exit))) ⌝ }
+        → PlanOfChunks J (now (plan .entry)) (now (factors .entry)) (now (tree .entry)) chunks shape
+        → ChunksSummed J (now (us .entry)) (now (vs .entry)) (shape .betas) chunks r (now (squares .exit)) (now (fourths .exit))) ⌝ }
 {
     let sums = squares.len();
     fill(squares, 0, sums, 0.0);
     fill(fourths, 0, sums, 0.0);
+    if nothing(chunks.first, chunks.end, chunks.size, sums) {
+        return true;
+    }
     let mut i = chunks.first;
     while i < chunks.end {
         if !sum_chunk(
@@ -163,7 +162,6 @@ fn add_chunks(
             vs,
             order,
             factors,
-            betas,
             tree,
             signs,
             chunks,
@@ -179,57 +177,4 @@ fn add_chunks(
         i += 1;
     }
     true
-}
-
-// The totals of the chunks, with two lists for the sums of one chunk. Where there is nothing to sweep, no configuration is looked at.
-// Returns whether every Z was finite and above zero.
-pub fn chunked_totals(
-    room: &mut [f64],
-    plan: &[usize],
-    shape: SweepShape,
-    us: &[usize],
-    vs: &[usize],
-    order: &[usize],
-    factors: &[f64],
-    betas: usize,
-    tree: &[bool],
-    signs: &mut [bool],
-    chunks: Chunks,
-    c: &mut [f64],
-    subsquares: &mut [f64],
-    subfourths: &mut [f64],
-    squares: &mut [f64],
-    fourths: &mut [f64],
-) -> bool
-    requires { ⌜ Stage (now plan) (now us) (now vs) (now order) (length (now tree)) shape (length (now room)) (length (now c))
-        × EnoughFactors (length (now factors)) (length (now tree)) betas × Summable chunks (now tree) (length (now signs))
-        × Lists (betas * length (now us)) (length (now subsquares)) (length (now subfourths)) (length (now squares)) (length (now fourths)) ⌝ }
-    ensures { λ r. ⌜ ((J : ℕ → ℕ → ℕ → Job Float)
-        → PlanOfChunks J (now (plan .entry)) (now (factors .entry)) (now (tree .entry)) chunks betas shape
-        → ChunksSummed J (now (us .entry)) (now (vs .entry)) betas chunks r (now (squares .exit)) (now (fourths .exit))) ⌝ }
-{
-    if nothing(chunks.first, chunks.end, chunks.size, squares.len()) {
-        let sums = squares.len();
-        fill(squares, 0, sums, 0.0);
-        fill(fourths, 0, sums, 0.0);
-        return true;
-    }
-    add_chunks(
-        room,
-        plan,
-        shape,
-        us,
-        vs,
-        order,
-        factors,
-        betas,
-        tree,
-        signs,
-        chunks,
-        c,
-        subsquares,
-        subfourths,
-        squares,
-        fourths,
-    )
 }

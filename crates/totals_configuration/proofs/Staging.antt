@@ -17,12 +17,12 @@ use Rattle.step_tables.specs.Place.{held}
 use Rattle.vertex_step.specs.Laws.Same.{symmetric-ext}
 use Rattle.vertex_step.specs.Frame.{Fits}
 use Rattle.vertex_step.specs.Laws.Frame.{half-held}
-use Rattle.vertex_step.specs.Ready.{Ready, PlanOf, Backward, Swept, Still}
+use Rattle.vertex_step.specs.Ready.{Ready, PlanOf, Backward, BothSwept, Still}
 use Rattle.vertex_step.specs.Laws.Ready.{still-swept}
 use Rattle.sweep_places.specs.Begun.{Stands}
 use Rattle.sweep_places.specs.Kept.{SameFrom}
 use Rattle.pair_correlations.specs.Sound.{Outcome}
-use Rattle.totals_configuration.specs.declared.SweepShape.{SweepShape}
+use Rattle.totals_configuration.specs.declared.JobShape.{JobShape}
 use Rattle.totals_configuration.specs.Stage.{Stage}
 use Rattle.totals_configuration.specs.Laws.Lists.{part-of}
 
@@ -38,9 +38,9 @@ laid-last d x at e =
 
 module _ (plan us vs : List ℕ) (x r r₁ r₂ r₃ results : List Float) (n w scales c : ℕ) (elementwise sound : Bool) (g : Ready plan (length r) n w scales)
     (laid : r₁ ≡ put r (scales + n) x) (ends : scales + n + length x ≡ length r) (same : SameFrom r₁ r₂ (scales + n))
-    (swept : (J : Job Float) → PlanOf J plan (drop (scales + n) r₁) n w elementwise → Stands J plan r₁ n w c → Swept J plan r₂ n w scales)
+    (swept : (J : Job Float) → PlanOf J plan (drop (scales + n) r₁) n w elementwise → Stands J plan r₁ n w c → BothSwept J plan r₂ n w scales)
     (still : Still r₂ r₃ w scales)
-    (answered : (J : Job Float) (elementwise : Bool) → PlanOf J plan (drop (scales + n) r₂) n w elementwise → Swept J plan r₂ n w scales → Outcome J us vs results sound) where
+    (answered : (J : Job Float) (elementwise : Bool) → PlanOf J plan (drop (scales + n) r₂) n w elementwise → BothSwept J plan r₂ n w scales → Outcome J us vs results sound) where
   fits : scales + n + length x ≤ length r
   fits = omega arith
 
@@ -66,7 +66,7 @@ module _ (plan us vs : List ℕ) (x r r₁ r₂ r₃ results : List Float) (n w 
       (answered J elementwise (rw (same .tail) of₁) s, still-swept J plan r₂ r₃ n w scales (rw l g) still s .backward)
 
 -- lists that kept their lengths
-pub stage-keep : {plan us vs order : List ℕ} {m end results end′ results′ : ℕ} {s : SweepShape} → Stage plan us vs order m s end results
+pub stage-keep : {plan us vs order : List ℕ} {m end results end′ results′ : ℕ} {s : JobShape} → Stage plan us vs order m s end results
     → end′ ≡ end → results′ ≡ results → Stage plan us vs order m s end′ results′
 stage-keep g p q = rw (p, q) g
 

@@ -12,7 +12,7 @@ use Rattle.transfer_matrix.specs.Job.{Job}
 use Rattle.transfer_matrix.specs.Rounded.{ieee}
 use Rattle.transfer_matrix.specs.Totals.{square, fourth}
 use Rattle.pair_correlations.specs.Sound.{unsound}
-use Rattle.totals_configuration.specs.declared.SweepShape.{SweepShape}
+use Rattle.totals_configuration.specs.declared.JobShape.{JobShape}
 use Rattle.totals_configuration.specs.Signed.{PlanOfAll}
 use Rattle.totals_configuration.specs.Powers.{correlationAt}
 
@@ -27,11 +27,11 @@ pub record SoFar (J : ℕ → Job Float) (us vs : List ℕ) (b : ℕ) (squares�
   pub fourthed : fourths ≡ partly fourths₀ (b * length us) (λ k. fourth ieee (correlationAt J us vs k))
 
 -- Before beta b.
-pub record Betas (plan us vs : List ℕ) (factors : List Float) (signs : List Bool) (betas : ℕ) (s : SweepShape) (b : ℕ)
+pub record Betas (plan us vs : List ℕ) (factors : List Float) (signs : List Bool) (s : JobShape) (b : ℕ)
     (room₀ room c₀ c squares₀ squares fourths₀ fourths : List Float) : Type 0 where
-  pub below : b ≤ betas
+  pub below : b ≤ s .betas
   pub rooms : length room ≡ length room₀
   pub results : length c ≡ length c₀
   pub squareds : length squares ≡ length squares₀
   pub fourthds : length fourths ≡ length fourths₀
-  pub so-far : (J : ℕ → Job Float) → PlanOfAll J plan factors (length signs) signs betas s → SoFar J us vs b squares₀ squares fourths₀ fourths
+  pub so-far : (J : ℕ → Job Float) → PlanOfAll J plan factors (length signs) signs s → SoFar J us vs b squares₀ squares fourths₀ fourths

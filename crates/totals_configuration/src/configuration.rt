@@ -11,7 +11,7 @@ ghost use Rattle.pair_correlations.specs.Sound.{Outcome};
 ghost use Rattle.totals_configuration.specs.Signed.{PlanOfSigns, PlanOfAll};
 ghost use Rattle.totals_configuration.specs.Powers.{correlationAt, unsoundBetas, AddedPowers, AddedBeta};
 ghost use Rattle.totals_configuration.specs.Stage.{Stage, EnoughFactors};
-use crate::SweepShape;
+use crate::JobShape;
 use pair_correlations::answer_pairs;
 use sweeps::sweep;
 use totals_signs::lay_signed;
@@ -22,7 +22,7 @@ use totals_sums::add_powers;
 pub fn answer_signed(
     room: &mut [f64],
     plan: &[usize],
-    shape: SweepShape,
+    shape: JobShape,
     us: &[usize],
     vs: &[usize],
     order: &[usize],
@@ -56,7 +56,7 @@ pub fn answer_signed(
 pub fn add_beta(
     room: &mut [f64],
     plan: &[usize],
-    shape: SweepShape,
+    shape: JobShape,
     us: &[usize],
     vs: &[usize],
     order: &[usize],
@@ -100,27 +100,26 @@ pub fn add_beta(
 pub fn add_configuration(
     room: &mut [f64],
     plan: &[usize],
-    shape: SweepShape,
+    shape: JobShape,
     us: &[usize],
     vs: &[usize],
     order: &[usize],
     factors: &[f64],
-    betas: usize,
     signs: &[bool],
     c: &mut [f64],
     squares: &mut [f64],
     fourths: &mut [f64],
 ) -> bool
     requires { ⌜ Stage (now plan) (now us) (now vs) (now order) (length (now signs)) shape (length (now room)) (length (now c))
-        × EnoughFactors (length (now factors)) (length (now signs)) betas
-        × (length (now squares) ≡ betas * length (now us)) × (length (now fourths) ≡ betas * length (now us)) ⌝ }
-    ensures { λ r. ⌜ ((J : ℕ → Job Float) → PlanOfAll J (now (plan .entry)) (now (factors .entry)) (length (now (signs .entry))) (now (signs .entry)) betas shape
-        → (r ≡ not (unsoundBetas J (now (us .entry)) (now (vs .entry)) betas))
-        × (r ≡ true → AddedPowers (correlationAt J (now (us .entry)) (now (vs .entry))) (betas * length (now (us .entry)))
+        × EnoughFactors (length (now factors)) (length (now signs)) (shape .betas)
+        × (length (now squares) ≡ shape .betas * length (now us)) × (length (now fourths) ≡ shape .betas * length (now us)) ⌝ }
+    ensures { λ r. ⌜ ((J : ℕ → Job Float) → PlanOfAll J (now (plan .entry)) (now (factors .entry)) (length (now (signs .entry))) (now (signs .entry)) shape
+        → (r ≡ not (unsoundBetas J (now (us .entry)) (now (vs .entry)) (shape .betas)))
+        × (r ≡ true → AddedPowers (correlationAt J (now (us .entry)) (now (vs .entry))) (shape .betas * length (now (us .entry)))
         (now (squares .entry)) (now (squares .exit)) (now (fourths .entry)) (now (fourths .exit)))) ⌝ }
 {
     let mut b = 0usize;
-    while b < betas {
+    while b < shape.betas {
         if !answer_signed(
             room,
             plan,

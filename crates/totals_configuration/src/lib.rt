@@ -5,10 +5,11 @@ pub use configuration::add_beta;
 pub use configuration::add_configuration;
 pub use configuration::answer_signed;
 
-// What every sweep of a planned job reads: its vertices, its window, where the scales lie, and whether steps go element by element.
-pub struct SweepShape {
+// The numbers of a planned job: its vertices, its window, where the scales lie, whether steps go element by element, and its betas.
+pub struct JobShape {
     pub n: usize,
     pub w: usize,
     pub scales: usize,
     pub elementwise: bool,
+    pub betas: usize,
 }

@@ -14,11 +14,11 @@ use Rattle.transfer_matrix.specs.Configuration.{enumeratedMinus, lentAt}
 use Rattle.vertex_step.specs.Ready.{Ready, Backward}
 use Rattle.sweep_places.specs.Begun.{Stands}
 use Rattle.sweep_places.specs.Laws.Reuse.{reads-map, backward-stands}
-use Rattle.totals_signs.specs.Signed.{signedFactors}
-use Rattle.totals_configuration.specs.declared.SweepShape.{SweepShape}
+use Rattle.totals_signs.specs.Signed.{factorsInUse}
+use Rattle.totals_configuration.specs.declared.JobShape.{JobShape}
 use Rattle.totals_configuration.specs.Signed.{PlanOfSigns}
 use Rattle.totals_reuse.specs.Settled.{Settled, EdgesIn, StandingFrom}
-use Rattle.totals_enumerated.specs.Configurations.{signsOf, PlanOfBeta}
+use Rattle.totals_enumerated.specs.Configurations.{enumeratedSigns, PlanOfBeta}
 
 -- the plan's edges can be read
 pub edges-in : {plan : List ℕ} {end n w scales m : ℕ} → Ready plan end n w scales → scales + n + m ≡ end → EdgesIn plan m n
@@ -38,30 +38,30 @@ unfolding enumeratedMinus
 plus tree x e p = rw p
 
 -- from the signs of configuration x to those of y
-module _ (tree signs signs′ : List Bool) (x y last : ℕ) (was : signs ≡ signsOf tree x) (now : signs′ ≡ signsOf tree y)
+module _ (tree signs signs′ : List Bool) (x y last : ℕ) (was : signs ≡ enumeratedSigns tree x) (now : signs′ ≡ enumeratedSigns tree y)
     (same : (e : ℕ) → last < e → e < length tree → getD signs′ e false ≡ getD signs e false) where
-  sign-same : (e : ℕ) → e < length tree → Settled tree last e → getD (signsOf tree x) e false ≡ getD (signsOf tree y) e false
+  sign-same : (e : ℕ) → e < length tree → Settled tree last e → getD (enumeratedSigns tree x) e false ≡ getD (enumeratedSigns tree y) e false
   sign-same e b h =
       let marks : ℕ → Bool = λ k. getD tree k false in
-      let at : (z : ℕ) → getD (signsOf tree z) e false ≡ enumeratedMinus marks z e = λ z. tabulate-at (enumeratedMinus marks z) (length tree) e false b in
+      let at : (z : ℕ) → getD (enumeratedSigns tree z) e false ≡ enumeratedMinus marks z e = λ z. tabulate-at (enumeratedMinus marks z) (length tree) e false b in
       dite (decLt last e)
       (λ l.
       ap (λ (k : List Bool). getD k e false) (sym was) ∙ sym (same e l b) ∙ ap (λ (k : List Bool). getD k e false) now)
       (λ l. at x ∙ plus marks x e (h (omega arith)) ∙ sym (at y ∙ plus marks y e (h (omega arith))))
 
   factor-same : (factors : List Float) (b e : ℕ) → e < length tree → Settled tree last e
-      → getD (signedFactors factors (length tree) b (signsOf tree x)) e nan ≡ getD (signedFactors factors (length tree) b (signsOf tree y)) e nan
+      → getD (factorsInUse factors (length tree) b (enumeratedSigns tree x)) e nan ≡ getD (factorsInUse factors (length tree) b (enumeratedSigns tree y)) e nan
   factor-same factors b e l h =
       let F : List Bool → ℕ → Float = λ s k. getD factors (lentAt (length tree) b k (getD s k false)) nan in
-      tabulate-at (F (signsOf tree x)) (length tree) e nan l
+      tabulate-at (F (enumeratedSigns tree x)) (length tree) e nan l
       ∙ ap (λ (s : Bool). getD factors (lentAt (length tree) b e s) nan) (sign-same e l h)
-      ∙ sym (tabulate-at (F (signsOf tree y)) (length tree) e nan l)
+      ∙ sym (tabulate-at (F (enumeratedSigns tree y)) (length tree) e nan l)
 
 -- before configuration j of a run
-module _ (plan : List ℕ) (factors : List Float) (tree signs signs′ : List Bool) (room : List Float) (end : ℕ) (s : SweepShape)
+module _ (plan : List ℕ) (factors : List Float) (tree signs signs′ : List Bool) (room : List Float) (end : ℕ) (s : JobShape)
     (b first j last c : ℕ) (g : Ready plan end (s .n) (s .w) (s .scales)) (ends : s .scales + s .n + length tree ≡ end)
     (from : StandingFrom plan tree last (s .n) j c)
-    (signed : (i : ℕ) → j ≡ i + 1 → signs ≡ signsOf tree (first + i)) (now : signs′ ≡ signsOf tree (first + j))
+    (signed : (i : ℕ) → j ≡ i + 1 → signs ≡ enumeratedSigns tree (first + i)) (now : signs′ ≡ enumeratedSigns tree (first + j))
     (same : (e : ℕ) → last < e → e < length tree → getD signs′ e false ≡ getD signs e false) where
   pub run-stands : (J : ℕ → Job Float) → PlanOfBeta J plan factors tree first b s → ((i : ℕ) → j ≡ i + 1 → Backward (J i) plan room (s .n) (s .w) 0)
       → Stands (J j) plan room (s .n) (s .w) c
@@ -78,6 +78,6 @@ module _ (plan : List ℕ) (factors : List Float) (tree signs signs′ : List Bo
       (λ p. absurd (omega (arith, from .first (omega arith))))
 
 -- the signs that were made are those of configuration x
-pub signed-at : (J : Job Float) (plan : List ℕ) (factors : List Float) (tree signs : List Bool) (b x : ℕ) (s : SweepShape) → signs ≡ signsOf tree x
-    → PlanOfSigns J plan factors (length tree) b (signsOf tree x) s → PlanOfSigns J plan factors (length signs) b signs s
+pub signed-at : (J : Job Float) (plan : List ℕ) (factors : List Float) (tree signs : List Bool) (b x : ℕ) (s : JobShape) → signs ≡ enumeratedSigns tree x
+    → PlanOfSigns J plan factors (length tree) b (enumeratedSigns tree x) s → PlanOfSigns J plan factors (length signs) b signs s
 signed-at J plan factors tree signs b x s q of = rw (q, tabulate-length) of

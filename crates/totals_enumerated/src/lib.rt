@@ -12,7 +12,7 @@ ghost use Rattle.totals_configuration.specs.Stage.{Stage, EnoughFactors};
 ghost use Rattle.totals_configuration.specs.Sums.{Sums, RunSummed};
 ghost use Rattle.totals_enumerated.specs.Configurations.{Enumerates, PlanOfBeta, PlanFrom};
 use step_tables::fill;
-use totals_configuration::SweepShape;
+use totals_configuration::JobShape;
 use totals_configuration::add_beta;
 use totals_reuse::standing_from;
 use totals_signs::enumerated_signs;
@@ -22,7 +22,7 @@ use totals_signs::enumerated_signs;
 fn enumerated_run(
     room: &mut [f64],
     plan: &[usize],
-    shape: SweepShape,
+    shape: JobShape,
     us: &[usize],
     vs: &[usize],
     order: &[usize],
@@ -78,12 +78,11 @@ fn enumerated_run(
 pub fn enumerated_chunk(
     room: &mut [f64],
     plan: &[usize],
-    shape: SweepShape,
+    shape: JobShape,
     us: &[usize],
     vs: &[usize],
     order: &[usize],
     factors: &[f64],
-    betas: usize,
     tree: &[bool],
     signs: &mut [bool],
     first: usize,
@@ -93,14 +92,14 @@ pub fn enumerated_chunk(
     fourths: &mut [f64],
 ) -> bool
     requires { ⌜ Stage (now plan) (now us) (now vs) (now order) (length (now tree)) shape (length (now room)) (length (now c))
-        × EnoughFactors (length (now factors)) (length (now tree)) betas × Enumerates (now tree) (length (now signs)) first size
-        × (length (now squares) ≡ betas * length (now us)) × (length (now fourths) ≡ betas * length (now us)) ⌝ }
-    ensures { λ r. ⌜ ((J : ℕ → ℕ → Job Float) → PlanFrom J (now (plan .entry)) (now (factors .entry)) (now (tree .entry)) first betas shape
-        → RunSummed J (now (us .entry)) (now (vs .entry)) betas size r (now (squares .exit)) (now (fourths .exit))) ⌝ }
+        × EnoughFactors (length (now factors)) (length (now tree)) (shape .betas) × Enumerates (now tree) (length (now signs)) first size
+        × (length (now squares) ≡ shape .betas * length (now us)) × (length (now fourths) ≡ shape .betas * length (now us)) ⌝ }
+    ensures { λ r. ⌜ ((J : ℕ → ℕ → Job Float) → PlanFrom J (now (plan .entry)) (now (factors .entry)) (now (tree .entry)) first shape
+        → RunSummed J (now (us .entry)) (now (vs .entry)) (shape .betas) size r (now (squares .exit)) (now (fourths .exit))) ⌝ }
 {
     let pairs = us.len();
     let mut b = 0usize;
-    while b < betas {
+    while b < shape.betas {
         let at = b * pairs;
         let end = at + pairs;
         if !enumerated_run(

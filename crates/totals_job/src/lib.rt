@@ -7,10 +7,8 @@ ghost use Rattle.limits.specs.Limits.{mostVertices};
 ghost use Rattle.list_laws.specs.Tabulate.{tabulate};
 ghost use Rattle.forest.specs.Labels.{isTree};
 ghost use Rattle.forest.specs.Paths.{Edges};
-ghost use Rattle.plan_steps.specs.Layout.{Holds};
-ghost use Rattle.totals_configuration.specs.Chunked.{Lists};
 ghost use Rattle.graph.specs.Graphs.{freeCount};
-ghost use Rattle.totals_call.specs.Finished.{Passed, Numbered, Marks, stepping, TotalsAre};
+ghost use Rattle.totals_call.specs.Finished.{Passed, Numbered, stepping, TotalsAre};
 use forest::mark_tree_edges;
 use job_run::clear;
 use plan_layout::make_plan;
@@ -22,7 +20,7 @@ use totals_call::SUMS;
 use totals_call::clear_unsound;
 use totals_chunks::Chunks;
 use totals_chunks::chunked_totals;
-use totals_configuration::SweepShape;
+use totals_configuration::JobShape;
 
 // Marks the tree edges, where configurations go by number; drawn ones read no mark.
 fn mark_edges(drawn: bool, n: usize, early: &[usize], late: &[usize], tree: &mut [bool])
@@ -35,73 +33,8 @@ fn mark_edges(drawn: bool, n: usize, early: &[usize], late: &[usize], tree: &mut
     }
 }
 
-// Plans the job, orders its pairs, marks its tree edges, adds up and clears. The first seven lists are made by the caller for this alone.
-fn plan_and_total(
-    plan: &mut [usize],
-    order: &mut [usize],
-    tree: &mut [bool],
-    signs: &mut [bool],
-    c: &mut [f64],
-    subsquares: &mut [f64],
-    subfourths: &mut [f64],
-    n: usize,
-    w: usize,
-    elementwise: bool,
-    early: &[usize],
-    late: &[usize],
-    us: &[usize],
-    vs: &[usize],
-    factors: &[f64],
-    betas: usize,
-    chunks: Chunks,
-    squares: &mut [f64],
-    fourths: &mut [f64],
-    work: &mut [f64],
-) -> bool
-    requires { ⌜ Passed n w (now early) (now late) (now us) (now vs) (length (now factors)) betas (length (now work))
-        × Numbered chunks (freeCount (now early) (now late)) × Holds (now plan) n × (length (now order) ≡ length (now us))
-        × Marks (length (now early)) (length (now tree)) (length (now signs)) × (length (now c) ≡ length (now us))
-        × Lists (betas * length (now us)) (length (now subsquares)) (length (now subfourths)) (length (now squares)) (length (now fourths)) ⌝ }
-    ensures { λ r. ⌜ TotalsAre n w (now (early .entry)) (now (late .entry)) (now (factors .entry)) (stepping elementwise) (now (us .entry))
-        (now (vs .entry)) betas chunks (length (now (early .entry))) r (now (squares .exit)) (now (fourths .exit)) (now (work .entry)) (now (work .exit)) ⌝ }
-{
-    let layout = make_plan(plan, n, w, early, late, us, vs);
-    order_pairs(order, n, w, us, vs);
-    mark_edges(chunks.drawn, n, early, late, tree);
-    let shape = SweepShape {
-        n,
-        w,
-        scales: layout.scales,
-        elementwise,
-    };
-    let end = layout.room;
-    let room = &mut work[..end];
-    let sound = chunked_totals(
-        room,
-        plan,
-        shape,
-        us,
-        vs,
-        order,
-        factors,
-        betas,
-        tree,
-        signs,
-        chunks,
-        c,
-        subsquares,
-        subfourths,
-        squares,
-        fourths,
-    );
-    clear(room);
-    clear_unsound(sound, squares);
-    clear_unsound(sound, fourths);
-    sound
-}
-
-// The totals of chunks of configurations, with the room at +0.0 after. Returns whether every Z was finite and above zero; where one is
-// not, all totals are +0.0.
+// The totals of chunks of configurations, with the room at +0.0 after: plans the job, orders its pairs, marks its tree edges, adds up and
+// clears. Returns whether every Z was finite and above zero; where one is not, all totals are +0.0.
 pub fn total_job(
     n: usize,
     w: usize,
@@ -124,8 +57,8 @@ pub fn total_job(
         (now (vs .entry)) betas chunks (length (now (early .entry))) r (now (squares .exit)) (now (fourths .exit)) (now (work .entry)) (now (work .exit)) ⌝ }
 {
     let mut plan = [0usize; PLAN];
-    let mut order = [0usize; PAIRS];
-    let mut tree = [false; EDGES];
+    let mut orders = [0usize; PAIRS];
+    let mut trees = [false; EDGES];
     let mut signs = [false; EDGES];
     let mut c = [0.0f64; PAIRS];
     let mut subsquares = [0.0f64; SUMS];
@@ -133,26 +66,39 @@ pub fn total_job(
     let pairs = us.len();
     let edges = early.len();
     let sums = squares.len();
-    plan_and_total(
-        &mut plan,
-        &mut order[..pairs],
-        &mut tree[..edges],
+    let order = &mut orders[..pairs];
+    let tree = &mut trees[..edges];
+    let layout = make_plan(&mut plan, n, w, early, late, us, vs);
+    order_pairs(order, n, w, us, vs);
+    mark_edges(chunks.drawn, n, early, late, tree);
+    let shape = JobShape {
+        n,
+        w,
+        scales: layout.scales,
+        elementwise,
+        betas,
+    };
+    let end = layout.room;
+    let room = &mut work[..end];
+    let sound = chunked_totals(
+        room,
+        &plan,
+        shape,
+        us,
+        vs,
+        order,
+        factors,
+        tree,
         &mut signs[..edges],
+        chunks,
         &mut c[..pairs],
         &mut subsquares[..sums],
         &mut subfourths[..sums],
-        n,
-        w,
-        elementwise,
-        early,
-        late,
-        us,
-        vs,
-        factors,
-        betas,
-        chunks,
         squares,
         fourths,
-        work,
-    )
+    );
+    clear(room);
+    clear_unsound(sound, squares);
+    clear_unsound(sound, fourths);
+    sound
 }

@@ -10,7 +10,7 @@ use Rattle.list_laws.specs.Bits.{bit}
 use Rattle.list_laws.specs.Tabulate.{tabulate}
 use Rattle.list_laws.specs.Laws.Tabulate.{tabulate-ext}
 use Rattle.transfer_matrix.specs.Configuration.{drawn, wordsPerSample, sampledMinus}
-use Rattle.totals_sampled.specs.Samples.{signsOf}
+use Rattle.totals_sampled.specs.Samples.{sampledSigns}
 
 drawn-add : (s : List ℕ) (a b : ℕ) → drawn (drawn s a) b ≡ drawn s (a + b)
 unfolding drawn
@@ -28,7 +28,7 @@ words-more s state state′ j k p q =
 
 -- the signs that are drawn from there are the sample's
 pub signs-are : (seed m chunk j : ℕ) (state : List ℕ) (signs : List Bool) → state ≡ drawn (streamed seed chunk) (j * wordsPerSample m)
-    → signs ≡ tabulate (λ e. bit (e % 64) (result (drawn state (e / 64)))) m → signs ≡ signsOf seed m chunk j
+    → signs ≡ tabulate (λ e. bit (e % 64) (result (drawn state (e / 64)))) m → signs ≡ sampledSigns seed m chunk j
 unfolding sampledMinus
 signs-are seed m chunk j state signs p q =
     q ∙ tabulate-ext _ _ m

@@ -9,7 +9,7 @@ ghost use Rattle.totals_configuration.specs.Sums.{RunSummed};
 ghost use Rattle.totals_sampled.specs.Samples.{PlanOfSamples};
 use rng::Rng;
 use step_tables::fill;
-use totals_configuration::SweepShape;
+use totals_configuration::JobShape;
 use totals_configuration::add_configuration;
 use totals_signs::sampled_signs;
 
@@ -18,12 +18,11 @@ use totals_signs::sampled_signs;
 pub fn sampled_chunk(
     room: &mut [f64],
     plan: &[usize],
-    shape: SweepShape,
+    shape: JobShape,
     us: &[usize],
     vs: &[usize],
     order: &[usize],
     factors: &[f64],
-    betas: usize,
     seed: u64,
     chunk: u64,
     samples: usize,
@@ -33,11 +32,11 @@ pub fn sampled_chunk(
     fourths: &mut [f64],
 ) -> bool
     requires { ⌜ Stage (now plan) (now us) (now vs) (now order) (length (now signs)) shape (length (now room)) (length (now c))
-        × EnoughFactors (length (now factors)) (length (now signs)) betas
-        × (length (now squares) ≡ betas * length (now us)) × (length (now fourths) ≡ betas * length (now us)) ⌝ }
+        × EnoughFactors (length (now factors)) (length (now signs)) (shape .betas)
+        × (length (now squares) ≡ shape .betas * length (now us)) × (length (now fourths) ≡ shape .betas * length (now us)) ⌝ }
     ensures { λ r. ⌜ ((J : ℕ → ℕ → Job Float)
-        → PlanOfSamples J (now (plan .entry)) (now (factors .entry)) (length (now (signs .entry))) seed chunk betas shape
-        → RunSummed J (now (us .entry)) (now (vs .entry)) betas samples r (now (squares .exit)) (now (fourths .exit))) ⌝ }
+        → PlanOfSamples J (now (plan .entry)) (now (factors .entry)) (length (now (signs .entry))) seed chunk shape
+        → RunSummed J (now (us .entry)) (now (vs .entry)) (shape .betas) samples r (now (squares .exit)) (now (fourths .exit))) ⌝ }
 {
     let sums = squares.len();
     fill(squares, 0, sums, 0.0);
@@ -54,7 +53,6 @@ pub fn sampled_chunk(
             vs,
             order,
             factors,
-            betas,
             signs,
             c,
             squares,

@@ -9,7 +9,7 @@ ghost use Rattle.totals_configuration.specs.Signed.{PlanOfAll};
 ghost use Rattle.totals_configuration.specs.Powers.{correlationAt, unsoundBetas};
 ghost use Rattle.totals_configuration.specs.Stage.{Stage, EnoughFactors};
 ghost use Rattle.totals_stored.specs.Stored.{Stored};
-use totals_configuration::SweepShape;
+use totals_configuration::JobShape;
 use totals_configuration::answer_signed;
 
 // The results of configuration x, of `all`, to the numbers from `first` on.
@@ -30,12 +30,11 @@ fn store_results(stored: &mut [f64], all: usize, x: usize, first: usize, c: &[f6
 pub(crate) fn store_configuration(
     room: &mut [f64],
     plan: &[usize],
-    shape: SweepShape,
+    shape: JobShape,
     us: &[usize],
     vs: &[usize],
     order: &[usize],
     factors: &[f64],
-    betas: usize,
     signs: &[bool],
     x: usize,
     all: usize,
@@ -43,16 +42,16 @@ pub(crate) fn store_configuration(
     stored: &mut [f64],
 ) -> bool
     requires { ⌜ Stage (now plan) (now us) (now vs) (now order) (length (now signs)) shape (length (now room)) (length (now c))
-        × EnoughFactors (length (now factors)) (length (now signs)) betas × (x < all) × (length (now stored) ≡ betas * length (now us) * all) ⌝ }
-    ensures { λ r. ⌜ ((J : ℕ → Job Float) → PlanOfAll J (now (plan .entry)) (now (factors .entry)) (length (now (signs .entry))) (now (signs .entry)) betas shape
-        → (r ≡ not (unsoundBetas J (now (us .entry)) (now (vs .entry)) betas))
+        × EnoughFactors (length (now factors)) (length (now signs)) (shape .betas) × (x < all) × (length (now stored) ≡ shape .betas * length (now us) * all) ⌝ }
+    ensures { λ r. ⌜ ((J : ℕ → Job Float) → PlanOfAll J (now (plan .entry)) (now (factors .entry)) (length (now (signs .entry))) (now (signs .entry)) shape
+        → (r ≡ not (unsoundBetas J (now (us .entry)) (now (vs .entry)) (shape .betas)))
         × (r ≡ true → (value : ℕ → ℕ → Float)
-        → ((k : ℕ) → k < betas * length (now (us .entry)) → correlationAt J (now (us .entry)) (now (vs .entry)) k ≡ value x k)
-        → Stored value all (betas * length (now (us .entry))) x 0 (now (stored .entry))
-        → Stored value all (betas * length (now (us .entry))) x (betas * length (now (us .entry))) (now (stored .exit)))) ⌝ }
+        → ((k : ℕ) → k < shape .betas * length (now (us .entry)) → correlationAt J (now (us .entry)) (now (vs .entry)) k ≡ value x k)
+        → Stored value all (shape .betas * length (now (us .entry))) x 0 (now (stored .entry))
+        → Stored value all (shape .betas * length (now (us .entry))) x (shape .betas * length (now (us .entry))) (now (stored .exit)))) ⌝ }
 {
     let mut b = 0usize;
-    while b < betas {
+    while b < shape.betas {
         if !answer_signed(
             room,
             plan,

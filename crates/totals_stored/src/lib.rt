@@ -13,10 +13,10 @@ ghost use Rattle.transfer_matrix.specs.Job.{Job};
 ghost use Rattle.totals_configuration.specs.Signed.{PlanOfRun};
 ghost use Rattle.totals_configuration.specs.Powers.{correlationAt, unsoundBetas};
 ghost use Rattle.totals_configuration.specs.Stage.{Stage, EnoughFactors};
-ghost use Rattle.totals_enumerated.specs.Configurations.{Enumerates, signsOf};
+ghost use Rattle.totals_enumerated.specs.Configurations.{Enumerates, enumeratedSigns};
 use crate::configuration::store_configuration;
 use step_tables::pow2;
-use totals_configuration::SweepShape;
+use totals_configuration::JobShape;
 use totals_signs::enumerated_signs;
 
 // Stores the correlation of each beta, pair and configuration. Where there is no beta or no pair, no configuration is looked at. Answers
@@ -24,12 +24,11 @@ use totals_signs::enumerated_signs;
 pub fn stored_correlations(
     room: &mut [f64],
     plan: &[usize],
-    shape: SweepShape,
+    shape: JobShape,
     us: &[usize],
     vs: &[usize],
     order: &[usize],
     factors: &[f64],
-    betas: usize,
     tree: &[bool],
     signs: &mut [bool],
     free: usize,
@@ -37,12 +36,12 @@ pub fn stored_correlations(
     stored: &mut [f64],
 ) -> bool
     requires { ⌜ Stage (now plan) (now us) (now vs) (now order) (length (now tree)) shape (length (now room)) (length (now c))
-        × EnoughFactors (length (now factors)) (length (now tree)) betas × Enumerates (now tree) (length (now signs)) 0 (2 ^ free) × (free ≤ mostCounted)
-        × (length (now stored) ≡ betas * length (now us) * 2 ^ free) ⌝ }
-    ensures { λ r. ⌜ ((J : ℕ → ℕ → Job Float) → PlanOfRun J (now (plan .entry)) (now (factors .entry)) (length (now (tree .entry))) (signsOf (now (tree .entry))) betas shape
-        → (r ≡ not (some (λ x. unsoundBetas (J x) (now (us .entry)) (now (vs .entry)) betas) (2 ^ free)))
+        × EnoughFactors (length (now factors)) (length (now tree)) (shape .betas) × Enumerates (now tree) (length (now signs)) 0 (2 ^ free) × (free ≤ mostCounted)
+        × (length (now stored) ≡ shape .betas * length (now us) * 2 ^ free) ⌝ }
+    ensures { λ r. ⌜ ((J : ℕ → ℕ → Job Float) → PlanOfRun J (now (plan .entry)) (now (factors .entry)) (length (now (tree .entry))) (enumeratedSigns (now (tree .entry))) shape
+        → (r ≡ not (some (λ x. unsoundBetas (J x) (now (us .entry)) (now (vs .entry)) (shape .betas)) (2 ^ free)))
         × (r ≡ true → now (stored .exit)
-        ≡ tabulate (λ k. correlationAt (J (k % 2 ^ free)) (now (us .entry)) (now (vs .entry)) (k / 2 ^ free)) (betas * length (now (us .entry)) * 2 ^ free))) ⌝ }
+        ≡ tabulate (λ k. correlationAt (J (k % 2 ^ free)) (now (us .entry)) (now (vs .entry)) (k / 2 ^ free)) (shape .betas * length (now (us .entry)) * 2 ^ free))) ⌝ }
 {
     if stored.len() == 0 {
         return true;
@@ -59,7 +58,6 @@ pub fn stored_correlations(
             vs,
             order,
             factors,
-            betas,
             signs,
             x,
             all,

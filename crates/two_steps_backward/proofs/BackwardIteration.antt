@@ -13,7 +13,8 @@ use Rattle.step_runs.specs.declared.runs.Four.{Four}
 use Rattle.step_runs.specs.Rule.{inFour}
 use Rattle.step_runs.specs.Laws.InFour.{four-0, four-1, four-2, four-3}
 use Rattle.two_steps_backward.specs.Rule.{frontTwice, endTwice}
-use Rattle.two_steps_backward.specs.Inward.{Parts, inward, inward-two, inward-apart}
+use Rattle.two_steps_backward.specs.Inward.{Parts, inward}
+use Rattle.two_steps_backward.specs.Laws.Inward.{inward-two, inward-apart}
 
 -- what is known at place i of the later vertex's weights and of the entries
 record At (e f v : ℕ → Float) (i : ℕ) (e₀ e₁ f₀ f₁ v₀ v₁ v₂ v₃ : Float) : Type 0 where

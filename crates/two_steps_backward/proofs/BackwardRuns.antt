@@ -18,7 +18,8 @@ use Rattle.step_runs.specs.OpposedRule.{endWeights, Opposed}
 use Rattle.step_runs.specs.Laws.Opposite.{run-is, opposite-is}
 use Rattle.two_steps_backward.specs.Rule.{frontTwice, endTwice}
 use Rattle.two_steps_backward.specs.Laws.Rule.{backward-same, end-same}
-use Rattle.two_steps_backward.specs.Inward.{Parts, inward, inward-run, inward-apart}
+use Rattle.two_steps_backward.specs.Inward.{Parts, inward}
+use Rattle.two_steps_backward.specs.Laws.Inward.{inward-run, inward-apart}
 use Rattle.two_steps_backward.proofs.BackwardIteration.{frontRun, endRun}
 
 -- what both steps make from the half at src of d, from pairs at the front and from pairs at the end

@@ -62,7 +62,7 @@ pub record Backward (J : Job Float) (plan : List ℕ) (r : List Float) (n w t : 
   pub vectors : (u : ℕ) → t ≤ u → u < n → 0 < backwardPlace plan u → SymmetricHalf w (halfAt r w (backwardPlace plan u)) (S.backward ieee J u)
 
 -- What both sweeps leave.
-pub record Swept (J : Job Float) (plan : List ℕ) (r : List Float) (n w scales : ℕ) : Type 0 where
+pub record BothSwept (J : Job Float) (plan : List ℕ) (r : List Float) (n w scales : ℕ) : Type 0 where
   pub forward : Forward J plan r w scales n
   pub backward : Backward J plan r n w 0
 

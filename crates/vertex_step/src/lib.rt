@@ -1,7 +1,6 @@
 // The step at a vertex: what the plan says of its edges, with the factors that lie in the room.
-mod pair;
-mod step;
 mod tables;
+mod through;
 
-pub use pair::backward_through;
-pub use pair::forward_through;
+pub use through::backward_through;
+pub use through::forward_through;

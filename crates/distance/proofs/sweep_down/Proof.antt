@@ -3,13 +3,13 @@ use mathlib.Core.Path.{_≡_}
 use Prim.Native.Nat.{_≤_}
 use native.Mathlib.Omega.{arith}
 use lib.ListN.{length}
-use Rattle.distance.specs.Lengths.{Swept, calm}
+use Rattle.distance.specs.Lengths.{EdgesRelaxed, calm}
 use Rattle.distance.proofs.Relaxation.{steps-lowered, ready-on, join, settled-none, settled-on}
 use Rattle.distance.proofs.sweep_down.Statement.{statement}
 use Rattle.distance.proofs.sweep_down.Tie as tie
 
 abbrev Inv-loop : tie.InvT-loop
-Inv-loop early late d₀ more₀ i₀ d more i = Swept early late i (length early) d₀ more d × (i ≤ length early)
+Inv-loop early late d₀ more₀ i₀ d more i = EdgesRelaxed early late i (length early) d₀ more d × (i ≤ length early)
 
 abbrev μ-loop : tie.MeasureT-loop
 μ-loop early late d₀ more₀ i₀ d more i = i

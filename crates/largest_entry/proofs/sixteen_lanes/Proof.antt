@@ -1,15 +1,15 @@
 -- Each lane has the largest of its first t entries; joined, they have the largest of all.
 use mathlib.Core.Path.{_≡_}
 use Prim.Native.Nat.{_+_, _*_, _-_, _≤_}
-use Rattle.largest_entry.proofs.LargestIteration.{Passed, passed-none, passed-iteration, lane-done, lanes-done}
+use Rattle.largest_entry.proofs.LargestIteration.{LanesPassed, passed-none, passed-iteration, lane-done, lanes-done}
 use native.Mathlib.Omega.{arith}
 use Rattle.largest_entry.proofs.sixteen_lanes.Statement.{statement}
 use Rattle.largest_entry.proofs.sixteen_lanes.Tie as tie
 
 abbrev Inv-loop : tie.InvT-loop
 Inv-loop v at n a₀ b₀ c₀ d₀ t₀ a b c d t =
-    (t ≤ n) × Passed v (λ s. at + 16 * s) t (a .a) (a .b) (a .c) (a .d) × Passed v (λ s. at + 16 * s + 4) t (b .a) (b .b) (b .c) (b .d)
-    × Passed v (λ s. at + 16 * s + 8) t (c .a) (c .b) (c .c) (c .d) × Passed v (λ s. at + 16 * s + 12) t (d .a) (d .b) (d .c) (d .d)
+    (t ≤ n) × LanesPassed v (λ s. at + 16 * s) t (a .a) (a .b) (a .c) (a .d) × LanesPassed v (λ s. at + 16 * s + 4) t (b .a) (b .b) (b .c) (b .d)
+    × LanesPassed v (λ s. at + 16 * s + 8) t (c .a) (c .b) (c .c) (c .d) × LanesPassed v (λ s. at + 16 * s + 12) t (d .a) (d .b) (d .c) (d .d)
 
 abbrev μ-loop : tie.MeasureT-loop
 μ-loop v at n a₀ b₀ c₀ d₀ t₀ a b c d t = n - t

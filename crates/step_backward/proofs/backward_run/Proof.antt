@@ -4,7 +4,8 @@ use Prim.Native.Nat.{_+_, _-_, _%_, _≤_, _<_}
 use lib.ListN.{length, length-set}
 use Rattle.step_tables.specs.Rule.{entries, alternating, mix, backwardRule}
 use Rattle.largest_entry.specs.Laws.Lanes.{Lanes, lanes-none}
-use Rattle.step_backward.specs.Ends.{ends, ends-none}
+use Rattle.step_backward.specs.Ends.{ends}
+use Rattle.step_backward.specs.Laws.Ends.{ends-none}
 use Rattle.step_backward.proofs.BackwardIteration.{run-iteration, run-lanes, run-most}
 use native.Mathlib.Omega.{arith}
 use Rattle.step_backward.proofs.backward_run.Statement.{statement}

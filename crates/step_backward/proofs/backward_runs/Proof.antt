@@ -10,7 +10,8 @@ use Rattle.step_tables.specs.Laws.Constants.{zero-is}
 use Rattle.largest_entry.specs.Larger.{larger}
 use Rattle.largest_entry.specs.Top.{top}
 use Rattle.largest_entry.specs.Laws.Top.{tops-none}
-use Rattle.step_backward.specs.Ends.{ends, ends-none}
+use Rattle.step_backward.specs.Ends.{ends}
+use Rattle.step_backward.specs.Laws.Ends.{ends-none}
 use Rattle.step_backward.proofs.BackwardIteration.{backward-fit, run-apart, runs-iteration, runs-most, ends-most}
 use native.Mathlib.Omega.{arith}
 use Rattle.step_backward.proofs.backward_runs.Statement.{statement}

@@ -19,7 +19,8 @@ use Rattle.step_tables.specs.Laws.Tabled.{up-weight, down-weight}
 use Rattle.step_runs.specs.Laws.Patterns.{pattern-zero}
 use Rattle.step_runs.specs.Laws.Quarter.{half-is}
 use Rattle.half_vectors.specs.Laws.Half.{backwardHalf-front, backwardHalf-end}
-use Rattle.step_backward.specs.Ends.{ends, ends-together}
+use Rattle.step_backward.specs.Ends.{ends}
+use Rattle.step_backward.specs.Laws.Ends.{ends-together}
 use Rattle.step_backward.specs.Fold.{backwardFold}
 use Rattle.step_backward.specs.Laws.Fold.{fold-one, fold-wide}
 

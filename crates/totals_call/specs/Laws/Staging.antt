@@ -43,7 +43,7 @@ module _ {n w : ℕ} {early late us vs : List ℕ} {factors betas work : ℕ} (p
 
   module _ {plan : List ℕ} {places scales at end : ℕ} (g : Planned plan early late us vs n w places scales at end) where
     pub staged : (order : List ℕ) (m end′ results : ℕ) (elementwise : Bool) → Holds plan n → Ordered order (length us) → m ≡ length early → end′ ≡ end → results ≡ length us
-        → Stage plan us vs order m (record { n = n; w = w; scales = scales; elementwise = elementwise }) end′ results
+        → Stage plan us vs order m (record { n = n; w = w; scales = scales; elementwise = elementwise; betas = betas }) end′ results
     staged order m end′ results elementwise holds ordered e f r = rw (e, f) (record {
       some = p .job .some;
       ready = ready plan early late us vs n w places scales at end work (p .job) g holds;

@@ -11,7 +11,7 @@ use Rattle.list_laws.specs.Part.{put}
 use Rattle.list_laws.specs.Tabulate.{tabulate}
 use Rattle.list_laws.specs.Laws.Tabulate.{tabulate-length}
 use Rattle.transfer_matrix.specs.Job.{Job}
-use Rattle.totals_configuration.specs.declared.SweepShape.{SweepShape}
+use Rattle.totals_configuration.specs.declared.JobShape.{JobShape}
 use Rattle.totals_configuration.specs.Signed.{PlanOfAll}
 use Rattle.totals_configuration.specs.Stage.{Stage, EnoughFactors}
 
@@ -23,7 +23,7 @@ put-all l s e = ap (λ (y : List Float). s ++ y) (drop-of-length-le l {i = 0 + l
 pub filled : (l v : List Float) (z : Float) (n k : ℕ) → n ≡ length l → n ≡ k → v ≡ put l 0 (tabulate (λ _. z) n) → v ≡ tabulate (λ _. z) k
 filled l v z n k e f p = p ∙ put-all l (tabulate (λ _. z) n) (tabulate-length (λ _. z) n ∙ e) ∙ ap (tabulate (λ _. z)) f
 
-pub stage-with : {plan us vs order : List ℕ} {m end results m′ end′ results′ : ℕ} {s : SweepShape} → Stage plan us vs order m s end results
+pub stage-with : {plan us vs order : List ℕ} {m end results m′ end′ results′ : ℕ} {s : JobShape} → Stage plan us vs order m s end results
     → m′ ≡ m → end′ ≡ end → results′ ≡ results → Stage plan us vs order m′ s end′ results′
 stage-with g o p q = rw (o, p, q) g
 
@@ -43,6 +43,6 @@ pub part-of : (b betas np : ℕ) → b < betas → b * np + np ≤ betas * np
 part-of b betas np l = let h : (b + 1) * np ≤ betas * np = mul-le-mul-right np (omega arith) in omega arith
 
 -- the signs that were made are those of m edges that a rule gives
-pub signed-of : (J : ℕ → Job Float) (plan : List ℕ) (factors : List Float) (minus : ℕ → Bool) (signs : List Bool) (m betas : ℕ) (s : SweepShape)
-    → signs ≡ tabulate minus m → PlanOfAll J plan factors m (tabulate minus m) betas s → PlanOfAll J plan factors (length signs) signs betas s
-signed-of J plan factors minus signs m betas s q of = rw (q, tabulate-length) of
+pub signed-of : (J : ℕ → Job Float) (plan : List ℕ) (factors : List Float) (minus : ℕ → Bool) (signs : List Bool) (m : ℕ) (s : JobShape)
+    → signs ≡ tabulate minus m → PlanOfAll J plan factors m (tabulate minus m) s → PlanOfAll J plan factors (length signs) signs s
+signed-of J plan factors minus signs m s q of = rw (q, tabulate-length) of

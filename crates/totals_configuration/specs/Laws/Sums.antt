@@ -41,18 +41,18 @@ sums-none term n z l e p = p ∙ tabulate-ext _ _ n (λ k b. e)
 -- ---- a run through configurations: U says of each whether one of its Z is not finite and above zero
 
 -- The first j configurations passed, and are summed.
-pub record Passed (U : ℕ → Bool) (c : ℕ → ℕ → Float) (j n : ℕ) (squares fourths : List Float) : Type 0 where
+pub record PassedSoFar (U : ℕ → Bool) (c : ℕ → ℕ → Float) (j n : ℕ) (squares fourths : List Float) : Type 0 where
   pub none : some U j ≡ false
   pub sums : Sums c j n squares fourths
 
 module _ (U : ℕ → Bool) (c : ℕ → ℕ → Float) (n : ℕ) where
   pub passed-none : (z : Float) (squares fourths : List Float) → z ≡ ieee .𝟘 → squares ≡ tabulate (λ _. z) n → fourths ≡ tabulate (λ _. z) n
-      → Passed U c 0 n squares fourths
+      → PassedSoFar U c 0 n squares fourths
   passed-none z squares fourths e p q =
       record { none = Search.start U; sums = record { squared = sums-none _ n z squares e p; fourthed = sums-none _ n z fourths e q } }
 
-  module _ (j : ℕ) (squares fourths : List Float) (g : Passed U c j n squares fourths) (r : Bool) (verdict : r ≡ not (U j)) where
-    pub passed-more : (squares′ fourths′ : List Float) → r ≡ true → AddedPowers (c j) n squares squares′ fourths fourths′ → Passed U c (j + 1) n squares′ fourths′
+  module _ (j : ℕ) (squares fourths : List Float) (g : PassedSoFar U c j n squares fourths) (r : Bool) (verdict : r ≡ not (U j)) where
+    pub passed-more : (squares′ fourths′ : List Float) → r ≡ true → AddedPowers (c j) n squares squares′ fourths fourths′ → PassedSoFar U c (j + 1) n squares′ fourths′
     passed-more squares′ fourths′ e a = record { none = one-passed U j r verdict (g .none) e; sums = sums-more c j n squares squares′ fourths fourths′ (g .sums) a }
 
     pub not-passed : (size : ℕ) → j < size → r ≡ false → false ≡ not (some U size)

@@ -16,10 +16,10 @@ use Rattle.totals_sampled.proofs.sampled_chunk.Statement.{statement}
 use Rattle.totals_sampled.proofs.sampled_chunk.Tie as tie
 
 abbrev Inv-loop : tie.InvT-loop
-Inv-loop room₀ plan shape us vs order factors betas seed chunk samples signs₀ c₀ squares₀ fourths₀ sums rng₀ j₀ room signs c squares fourths rng j = Sampling plan us vs factors seed chunk betas shape (rng .s) j samples room₀ room signs₀ signs c₀ c squares₀ squares fourths₀ fourths
+Inv-loop room₀ plan shape us vs order factors seed chunk samples signs₀ c₀ squares₀ fourths₀ sums rng₀ j₀ room signs c squares fourths rng j = Sampling plan us vs factors seed chunk shape (rng .s) j samples room₀ room signs₀ signs c₀ c squares₀ squares fourths₀ fourths
 
 abbrev μ-loop : tie.MeasureT-loop
-μ-loop room₀ plan shape us vs order factors betas seed chunk samples signs₀ c₀ squares₀ fourths₀ sums rng₀ j₀ room signs c squares fourths rng j = samples - j
+μ-loop room₀ plan shape us vs order factors seed chunk samples signs₀ c₀ squares₀ fourths₀ sums rng₀ j₀ room signs c squares fourths rng j = samples - j
 
 fill-requires-2 : tie.Need-fill-requires-2 Inv-loop μ-loop
 fill-requires-2 c κs = omega (arith, c .before .before .before .before .before .before .before .before .before .before .before .before .before .before .before .pre .2, c .before .before .before .before .before .before .before .before .before .before .before .before .before .before .before .pre .3)
@@ -54,13 +54,13 @@ same-length-2 : tie.Need-same-length-2 Inv-loop μ-loop
 same-length-2 c = c .before .before .before .before .before .before .before .before .before .before .before .before .before .before .before .before .before .sampled-signs .kept .0 ∙ c .before .before .before .before .before .before .before .before .before .before .before .before .before .before .before .before .before .before .before .before .loop .inv .marks
 
 same-length-3 : tie.Need-same-length-3 Inv-loop μ-loop
-same-length-3 c = c .before .before .before .before .before .before .before .before .before .add-configuration .kept .1 .1 .1 .1 .1 .1 .1 .1 .1 .0 ∙ c .before .before .before .before .before .before .before .before .before .before .before .before .before .before .before .before .before .before .before .before .loop .inv .results
+same-length-3 c = c .before .before .before .before .before .before .before .before .before .add-configuration .kept .1 .1 .1 .1 .1 .1 .1 .1 .0 ∙ c .before .before .before .before .before .before .before .before .before .before .before .before .before .before .before .before .before .before .before .before .loop .inv .results
 
 same-length-4 : tie.Need-same-length-4 Inv-loop μ-loop
-same-length-4 c = c .before .before .before .before .before .before .before .before .before .add-configuration .kept .1 .1 .1 .1 .1 .1 .1 .1 .1 .1 .0 ∙ c .before .before .before .before .before .before .before .before .before .before .before .before .before .before .before .before .before .before .before .before .loop .inv .squareds ∙ c .before .before .before .before .before .before .before .before .before .before .before .before .before .before .before .before .before .before .before .before .before .before .before .before .before .before .before .before .fill .kept .0
+same-length-4 c = c .before .before .before .before .before .before .before .before .before .add-configuration .kept .1 .1 .1 .1 .1 .1 .1 .1 .1 .0 ∙ c .before .before .before .before .before .before .before .before .before .before .before .before .before .before .before .before .before .before .before .before .loop .inv .squareds ∙ c .before .before .before .before .before .before .before .before .before .before .before .before .before .before .before .before .before .before .before .before .before .before .before .before .before .before .before .before .fill .kept .0
 
 same-length-5 : tie.Need-same-length-5 Inv-loop μ-loop
-same-length-5 c = c .before .before .before .before .before .before .before .before .before .add-configuration .kept .1 .1 .1 .1 .1 .1 .1 .1 .1 .1 .1 .0 ∙ c .before .before .before .before .before .before .before .before .before .before .before .before .before .before .before .before .before .before .before .before .loop .inv .fourthds ∙ c .before .before .before .before .before .before .before .before .before .before .before .before .before .before .before .before .before .before .before .before .before .before .before .before .fill2 .kept .0
+same-length-5 c = c .before .before .before .before .before .before .before .before .before .add-configuration .kept .1 .1 .1 .1 .1 .1 .1 .1 .1 .1 .0 ∙ c .before .before .before .before .before .before .before .before .before .before .before .before .before .before .before .before .before .before .before .before .loop .inv .fourthds ∙ c .before .before .before .before .before .before .before .before .before .before .before .before .before .before .before .before .before .before .before .before .before .before .before .before .fill2 .kept .0
 
 returns : tie.Need-returns Inv-loop μ-loop
 returns c =
@@ -72,7 +72,7 @@ returns c =
     let t : l .j < s .args .samples = omega (arith, c .before .before .before .before .before .before .before .before .before .before .before .before .before .before .before .before .before .before .before .loop-test .taken) in
     let no : true ≡ false → ⊥ = λ z. (let z′ : _≡_ {A = ℕ} 0 1 = cc in omega arith) in
     λ J of.
-    let said = a .ensures (J (l .j)) (signed-of (J (l .j)) (s .args .plan .now) (s .args .factors .now) _ _ (length (s .args .signs .now)) (s .args .betas) (s .args .shape) q (of (l .j))) in
+    let said = a .ensures (J (l .j)) (signed-of (J (l .j)) (s .args .plan .now) (s .args .factors .now) _ _ (length (s .args .signs .now)) (s .args .shape) q (of (l .j))) in
     (not-passed _ _ _ (l .j) _ _ (l .inv .passed J of) _ (said .0) _ t (not-true _ (c .if1 .taken)), λ z. absurd (no (sym z)))
 
 add-j : tie.Need-add-j Inv-loop μ-loop
@@ -96,11 +96,11 @@ loop-again c =
       generator = words-more _ _ _ _ _ (i .generator) (e .ensures .1 ∙ ap (λ (k : ℕ). drawn (l .rng .s) (wordsPerSample k)) (i .marks));
       rooms = a .kept .0 ∙ i .rooms;
       marks = e .kept .0 ∙ i .marks;
-      results = a .kept .1 .1 .1 .1 .1 .1 .1 .1 .1 .0 ∙ i .results;
-      squareds = a .kept .1 .1 .1 .1 .1 .1 .1 .1 .1 .1 .0 ∙ i .squareds;
-      fourthds = a .kept .1 .1 .1 .1 .1 .1 .1 .1 .1 .1 .1 .0 ∙ i .fourthds;
+      results = a .kept .1 .1 .1 .1 .1 .1 .1 .1 .0 ∙ i .results;
+      squareds = a .kept .1 .1 .1 .1 .1 .1 .1 .1 .1 .0 ∙ i .squareds;
+      fourthds = a .kept .1 .1 .1 .1 .1 .1 .1 .1 .1 .1 .0 ∙ i .fourthds;
       passed = λ J of.
-          let said = a .ensures (J (l .j)) (signed-of (J (l .j)) (s .args .plan .now) (s .args .factors .now) _ _ (length (s .args .signs .now)) (s .args .betas) (s .args .shape) q (of (l .j))) in
+          let said = a .ensures (J (l .j)) (signed-of (J (l .j)) (s .args .plan .now) (s .args .factors .now) _ _ (length (s .args .signs .now)) (s .args .shape) q (of (l .j))) in
           passed-more _ _ _ (l .j) _ _ (i .passed J of) _ (said .0) _ _ yes (said .1 yes);
     }
 

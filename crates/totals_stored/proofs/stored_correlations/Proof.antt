@@ -15,10 +15,10 @@ use Rattle.totals_stored.proofs.stored_correlations.Statement.{statemen
 use Rattle.totals_stored.proofs.stored_correlations.Tie as tie
 
 abbrev Inv-loop : tie.InvT-loop
-Inv-loop room₀ plan shape us vs order factors betas tree signs₀ free c₀ stored₀ all x₀ room signs c stored x = (all ≡ 2 ^ free) × Keeping plan us vs factors tree betas shape x all room₀ room signs₀ signs c₀ c stored₀ stored
+Inv-loop room₀ plan shape us vs order factors tree signs₀ free c₀ stored₀ all x₀ room signs c stored x = (all ≡ 2 ^ free) × Keeping plan us vs factors tree shape x all room₀ room signs₀ signs c₀ c stored₀ stored
 
 abbrev μ-loop : tie.MeasureT-loop
-μ-loop room₀ plan shape us vs order factors betas tree signs₀ free c₀ stored₀ all x₀ room signs c stored x = all - x
+μ-loop room₀ plan shape us vs order factors tree signs₀ free c₀ stored₀ all x₀ room signs c stored x = all - x
 
 returns : tie.Need-returns Inv-loop μ-loop
 returns c =
@@ -53,7 +53,7 @@ store-configuration-requires c κs =
     let p = c .before .before .before .before .before .before .before .before .before .before .before .before .before .before .before .before .before .before .before .before .before .before .pre in
     let i = c .before .before .before .before .before .before .before .before .before .loop .inv in
     let m = c .before .before .before .before .before .before .enumerated-signs .kept .0 ∙ i .1 .marks ∙ p .2 .matched in
-    (stage-with (p .0) m (i .1 .rooms) (i .1 .results), factors-with (p .1) m, c .before .before .before .before .before .before .before .before .loop-test .taken, i .1 .storeds ∙ p .4 ∙ ap (λ (k : ℕ). c .before .before .before .before .before .before .before .before .before .before .before .before .before .before .before .before .before .before .before .before .before .before .args .betas * length (c .before .before .before .before .before .before .before .before .before .before .before .before .before .before .before .before .before .before .before .before .before .before .args .us .now) * k) (sym (i .0)))
+    (stage-with (p .0) m (i .1 .rooms) (i .1 .results), factors-with (p .1) m, c .before .before .before .before .before .before .before .before .loop-test .taken, i .1 .storeds ∙ p .4 ∙ ap (λ (k : ℕ). c .before .before .before .before .before .before .before .before .before .before .before .before .before .before .before .before .before .before .before .before .before .before .args .shape .betas * length (c .before .before .before .before .before .before .before .before .before .before .before .before .before .before .before .before .before .before .before .before .before .before .args .us .now) * k) (sym (i .0)))
 
 same-length : tie.Need-same-length Inv-loop μ-loop
 same-length c = c .before .before .before .before .before .before .before .store-configuration .kept .0 ∙ c .before .before .before .before .before .before .before .before .before .before .before .before .before .before .before .before .before .loop .inv .1 .rooms
@@ -62,10 +62,10 @@ same-length-2 : tie.Need-same-length-2 Inv-loop μ-loop
 same-length-2 c = c .before .before .before .before .before .before .before .before .before .before .before .before .before .before .enumerated-signs .kept .0 ∙ c .before .before .before .before .before .before .before .before .before .before .before .before .before .before .before .before .before .loop .inv .1 .marks
 
 same-length-3 : tie.Need-same-length-3 Inv-loop μ-loop
-same-length-3 c = c .before .before .before .before .before .before .before .store-configuration .kept .1 .1 .1 .1 .1 .1 .1 .1 .1 .1 .1 .0 ∙ c .before .before .before .before .before .before .before .before .before .before .before .before .before .before .before .before .before .loop .inv .1 .results
+same-length-3 c = c .before .before .before .before .before .before .before .store-configuration .kept .1 .1 .1 .1 .1 .1 .1 .1 .1 .1 .0 ∙ c .before .before .before .before .before .before .before .before .before .before .before .before .before .before .before .before .before .loop .inv .1 .results
 
 same-length-4 : tie.Need-same-length-4 Inv-loop μ-loop
-same-length-4 c = c .before .before .before .before .before .before .before .store-configuration .kept .1 .1 .1 .1 .1 .1 .1 .1 .1 .1 .1 .1 .0 ∙ c .before .before .before .before .before .before .before .before .before .before .before .before .before .before .before .before .before .loop .inv .1 .storeds
+same-length-4 c = c .before .before .before .before .before .before .before .store-configuration .kept .1 .1 .1 .1 .1 .1 .1 .1 .1 .1 .1 .0 ∙ c .before .before .before .before .before .before .before .before .before .before .before .before .before .before .before .before .before .loop .inv .1 .storeds
 
 returns-2 : tie.Need-returns-2 Inv-loop μ-loop
 returns-2 c =
@@ -77,7 +77,7 @@ returns-2 c =
     let t : l .x < 2 ^ s .args .free = omega (arith, c .before .before .before .before .before .before .before .before .before .before .before .before .before .before .before .before .loop-test .taken, i .0) in
     let no : true ≡ false → ⊥ = λ z. (let z′ : _≡_ {A = ℕ} 0 1 = cc in omega arith) in
     λ J of.
-    let said = a .ensures (J (l .x)) (signed-of (J (l .x)) (s .args .plan .now) (s .args .factors .now) _ _ _ (s .args .betas) (s .args .shape) q (of (l .x))) in
+    let said = a .ensures (J (l .x)) (signed-of (J (l .x)) (s .args .plan .now) (s .args .factors .now) _ _ _ (s .args .shape) q (of (l .x))) in
     (one-failed _ (l .x) _ (said .0) _ t (not-true _ (c .if2 .taken)), λ z. absurd (no (sym z)))
 
 add-x : tie.Need-add-x Inv-loop μ-loop
@@ -105,10 +105,10 @@ loop-again c =
         below = omega arith;
         rooms = a .kept .0 ∙ i .1 .rooms;
         marks = e .kept .0 ∙ i .1 .marks;
-        results = a .kept .1 .1 .1 .1 .1 .1 .1 .1 .1 .1 .1 .0 ∙ i .1 .results;
-        storeds = a .kept .1 .1 .1 .1 .1 .1 .1 .1 .1 .1 .1 .1 .0 ∙ i .1 .storeds;
+        results = a .kept .1 .1 .1 .1 .1 .1 .1 .1 .1 .1 .0 ∙ i .1 .results;
+        storeds = a .kept .1 .1 .1 .1 .1 .1 .1 .1 .1 .1 .1 .0 ∙ i .1 .storeds;
         so-far = λ J of.
-            let said = a .ensures (J (l .x)) (signed-of (J (l .x)) (s .args .plan .now) (s .args .factors .now) _ _ _ (s .args .betas) (s .args .shape) q (of (l .x))) in
+            let said = a .ensures (J (l .x)) (signed-of (J (l .x)) (s .args .plan .now) (s .args .factors .now) _ _ _ (s .args .shape) q (of (l .x))) in
             let g = i .1 .so-far J of in
             (one-passed _ (l .x) _ (said .0) (g .0) yes, stored-next _ _ _ (l .x) _ (said .1 yes _ (λ k b. refl) (g .1)));
       },

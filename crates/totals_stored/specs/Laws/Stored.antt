@@ -14,7 +14,7 @@ use Rattle.list_laws.specs.Tabulate.{tabulate}
 use Rattle.list_laws.specs.Laws.Tabulate.{tabulated}
 use Rattle.transfer_matrix.specs.Job.{Job}
 use Rattle.pair_correlations.specs.Sound.{unsound}
-use Rattle.totals_configuration.specs.declared.SweepShape.{SweepShape}
+use Rattle.totals_configuration.specs.declared.JobShape.{JobShape}
 use Rattle.totals_configuration.specs.Signed.{PlanOfAll}
 use Rattle.totals_configuration.specs.Powers.{correlationAt}
 use Rattle.totals_stored.specs.Stored.{Stored}
@@ -87,12 +87,12 @@ pub record Placing (all x first : ℕ) (c : List Float) (p : ℕ) (stored₀ sto
       → Stored value all n x (first + p) stored
 
 -- Before beta b of configuration x.
-pub record Storing (plan us vs : List ℕ) (factors : List Float) (signs : List Bool) (betas : ℕ) (s : SweepShape) (all x b : ℕ)
+pub record Storing (plan us vs : List ℕ) (factors : List Float) (signs : List Bool) (s : JobShape) (all x b : ℕ)
     (room₀ room c₀ c stored₀ stored : List Float) : Type 0 where
-  pub below : b ≤ betas
+  pub below : b ≤ s .betas
   pub rooms : length room ≡ length room₀
   pub results : length c ≡ length c₀
   pub storeds : length stored ≡ length stored₀
-  pub so-far : (J : ℕ → Job Float) → PlanOfAll J plan factors (length signs) signs betas s → (some (λ i. unsound (J i) us vs) b ≡ false)
-      × ((value : ℕ → ℕ → Float) → ((k : ℕ) → k < betas * length us → correlationAt J us vs k ≡ value x k)
-      → Stored value all (betas * length us) x 0 stored₀ → Stored value all (betas * length us) x (b * length us) stored)
+  pub so-far : (J : ℕ → Job Float) → PlanOfAll J plan factors (length signs) signs s → (some (λ i. unsound (J i) us vs) b ≡ false)
+      × ((value : ℕ → ℕ → Float) → ((k : ℕ) → k < s .betas * length us → correlationAt J us vs k ≡ value x k)
+      → Stored value all (s .betas * length us) x 0 stored₀ → Stored value all (s .betas * length us) x (b * length us) stored)

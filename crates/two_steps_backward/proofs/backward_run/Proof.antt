@@ -8,7 +8,7 @@ use Rattle.step_tables.specs.Rule.{mix}
 use Rattle.step_runs.specs.Laws.Fours.{after-one, after-two, after-three, after-four, after-five, after-six, after-seven, same-eight, four}
 use Rattle.step_runs.specs.Laws.Iteration.{Iteration, iteration-of, word, less-by-two, even-next, two-more}
 use Rattle.step_runs.specs.Laws.OpposedIteration.{Last, last-of, held}
-use Rattle.two_steps_backward.specs.Inward.{inward-none}
+use Rattle.two_steps_backward.specs.Laws.Inward.{inward-none}
 use Rattle.two_steps_backward.proofs.BackwardIteration.{runList, run-iteration}
 use Rattle.two_steps_backward.proofs.backward_run.Statement.{statement}
 use Rattle.two_steps_backward.proofs.backward_run.Tie as tie

@@ -7,7 +7,7 @@ use Rattle.list_laws.specs.Part.{Apart}
 use Rattle.step_runs.specs.AtRun.{TwoRuns}
 use Rattle.step_runs.specs.Laws.AtRun.{readable, AtRun, first-run, next-run, run-size, run-even, run-ends, second-16}
 use Rattle.step_runs.specs.Laws.Opposite.{opposed-16}
-use Rattle.two_steps_backward.specs.Inward.{inward-none}
+use Rattle.two_steps_backward.specs.Laws.Inward.{inward-none}
 use Rattle.two_steps_backward.proofs.BackwardRuns.{stepped, run-targets, run-apart, runs-iteration}
 use Rattle.two_steps_backward.proofs.backward_runs.Statement.{statement}
 use Rattle.two_steps_backward.proofs.backward_runs.Tie as tie

@@ -18,7 +18,8 @@ use Rattle.step_runs.specs.Laws.Quarter.{half-is}
 use Rattle.step_runs.specs.OpposedRule.{endWeights}
 use Rattle.two_steps_backward.specs.Rule.{frontTwice, endTwice}
 use Rattle.two_steps_backward.specs.Laws.Rule.{backward-same}
-use Rattle.two_steps_backward.specs.Inward.{inward, inward-together}
+use Rattle.two_steps_backward.specs.Inward.{inward}
+use Rattle.two_steps_backward.specs.Laws.Inward.{inward-together}
 
 -- ---- one step by its tables t, from the half h
 

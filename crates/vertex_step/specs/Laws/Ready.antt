@@ -13,7 +13,7 @@ use Rattle.pair_sums.specs.Terms.{halfAt}
 use Rattle.vertex_step.specs.Frame.{Fits}
 use Rattle.vertex_step.specs.Laws.Frame.{moving-fits, half-held, Wrote, wrote-length, wrote-other, wrote-drop}
 use Rattle.vertex_step.specs.Laws.Same.{symmetric-ext}
-use Rattle.vertex_step.specs.Ready.{Ready, Swept, Still}
+use Rattle.vertex_step.specs.Ready.{Ready, BothSwept, Still}
 
 -- a moving place lies in the room
 pub moving-place : (plan : List ℕ) (len n w scales p : ℕ) → Ready plan len n w scales → p < 2 → Place len w p
@@ -49,7 +49,7 @@ still-half : (r₀ r : List Float) (w scales p : ℕ) → Still r₀ r w scales 
 still-half r₀ r w scales p s h f v e = symmetric-ext e (half-held r₀ r w p (s .places p h f))
 
 pub still-swept : (J : Job Float) (plan : List ℕ) (r₀ r : List Float) (n w scales : ℕ) → Ready plan (length r₀) n w scales → Still r₀ r w scales
-    → Swept J plan r₀ n w scales → Swept J plan r n w scales
+    → BothSwept J plan r₀ n w scales → BothSwept J plan r n w scales
 still-swept J plan r₀ r n w scales p s k =
     record {
       forward = record {

@@ -4,7 +4,7 @@ use native.Mathlib.Omega.{arith}
 use lib.ListN.{length}
 use Rattle.list_laws.specs.Laws.Tabulate.{tabulate-length}
 use Rattle.vertex_step.specs.Ready.{Ready}
-use Rattle.totals_signs.specs.Signed.{signedFactors}
+use Rattle.totals_signs.specs.Signed.{factorsInUse}
 use Rattle.totals_configuration.proofs.Staging.{outcome-of}
 use borrow.Author.Needs.{needs}
 use Rattle.totals_configuration.proofs.configuration.answer_signed.Statement.{statement}
@@ -38,7 +38,7 @@ returns : tie.Need-returns
 returns c =
     let s = c .before .before .before .before .before .before .before .before .before .before .before .before .before .before .before .before .before .before .before .before .before .before .before .before in
     let a = s .args in
-    let x = signedFactors (a .factors .now) (length (a .signs .now)) (a .b) (a .signs .now) in
+    let x = factorsInUse (a .factors .now) (length (a .signs .now)) (a .b) (a .signs .now) in
     let t = tabulate-length _ (length (a .signs .now)) in
     outcome-of (a .plan .now) (a .us .now) (a .vs .now) x (a .room .now) _ _ _ _ _ _ _ _ _ _ (s .pre .0 .ready) (c .before .before .before .before .before .before .before .before .before .before .before .before .before .lay-signed .ensures) (ap (λ (k : ℕ). a .shape .scales + a .shape .n + k) t ∙ s .pre .0 .ends) (c .before .before .before .before .before .before .before .before .before .sweep .ensures .0) (c .before .before .before .before .before .before .before .before .before .sweep .ensures .1) (c .before .before .before .before .answer-pairs .ensures .0) (c .before .before .before .before .answer-pairs .ensures .1)
 

@@ -15,10 +15,10 @@ use Rattle.totals_stored.proofs.configuration.store_configuration.State
 use Rattle.totals_stored.proofs.configuration.store_configuration.Tie as tie
 
 abbrev Inv-loop : tie.InvT-loop
-Inv-loop room₀ plan shape us vs order factors betas signs x all c₀ stored₀ b₀ room c stored b = Storing plan us vs factors signs betas shape all x b room₀ room c₀ c stored₀ stored
+Inv-loop room₀ plan shape us vs order factors signs x all c₀ stored₀ b₀ room c stored b = Storing plan us vs factors signs shape all x b room₀ room c₀ c stored₀ stored
 
 abbrev μ-loop : tie.MeasureT-loop
-μ-loop room₀ plan shape us vs order factors betas signs x all c₀ stored₀ b₀ room c stored b = betas - b
+μ-loop room₀ plan shape us vs order factors signs x all c₀ stored₀ b₀ room c stored b = shape .betas - b
 
 loop-holds : tie.Need-loop-holds Inv-loop μ-loop
 loop-holds c =
@@ -32,52 +32,52 @@ loop-holds c =
 
 answer-signed-requires : tie.Need-answer-signed-requires Inv-loop μ-loop
 answer-signed-requires c κs =
-    let p = c .before .before .before .before .before .before .before .before .before .before .before .before .before .pre in
-    let i = c .before .before .before .loop .inv in
+    let p = c .before .before .before .before .before .before .before .before .before .before .before .before .before .before .pre in
+    let i = c .before .before .before .before .loop .inv in
     (stage-keep (p .0) (i .rooms) (i .results), factors-first _ (p .1) (omega arith))
 
 same-length : tie.Need-same-length Inv-loop μ-loop
-same-length c = c .before .before .before .before .before .answer-signed .kept .0 ∙ c .before .before .before .before .before .before .before .before .before .loop .inv .rooms
+same-length c = c .before .before .before .before .before .answer-signed .kept .0 ∙ c .before .before .before .before .before .before .before .before .before .before .loop .inv .rooms
 
 same-length-2 : tie.Need-same-length-2 Inv-loop μ-loop
-same-length-2 c = c .before .before .before .before .before .answer-signed .kept .1 .1 .1 .1 .1 .1 .1 .1 .1 .1 .0 ∙ c .before .before .before .before .before .before .before .before .before .loop .inv .results
+same-length-2 c = c .before .before .before .before .before .answer-signed .kept .1 .1 .1 .1 .1 .1 .1 .1 .1 .1 .0 ∙ c .before .before .before .before .before .before .before .before .before .before .loop .inv .results
 
 same-length-3 : tie.Need-same-length-3 Inv-loop μ-loop
-same-length-3 c = c .before .before .before .before .before .before .before .before .before .loop .inv .storeds
+same-length-3 c = c .before .before .before .before .before .before .before .before .before .before .loop .inv .storeds
 
 returns : tie.Need-returns Inv-loop μ-loop
 returns c =
-    let l = c .before .before .before .before .before .before .before .before .before .loop in
+    let l = c .before .before .before .before .before .before .before .before .before .before .loop in
     let a = c .before .before .before .before .before .answer-signed in
     let no : true ≡ false → ⊥ = λ z. (let z′ : _≡_ {A = ℕ} 0 1 = cc in omega arith) in
-    λ J of. (some-unsound J _ _ _ (l .b) _ (a .ensures (J (l .b)) (of (l .b) (omega arith)) (λ z. absurd (omega arith)) .0) _ (omega arith) (not-true _ (c .if1 .taken)), λ z. absurd (no (sym z)))
+    λ J of. (some-unsound J _ _ _ (l .b) _ (a .ensures (J (l .b)) (of (l .b) (omega arith)) (λ z. absurd (omega arith)) .0) _ (omega arith) (not-true _ (c .if2 .taken)), λ z. absurd (no (sym z)))
 
 mul-store-results : tie.Need-mul-store-results Inv-loop μ-loop
 mul-store-results c =
-    let s = c .before .before .before .before .before .before .before .before .before .before .before .before .before .before .before .before .before .before .before .before in
-    let l = c .before .before .before .before .before .before .before .before .before .before .loop in
+    let s = c .before .before .before .before .before .before .before .before .before .before .before .before .before .before .before .before .before .before .before .before .before in
+    let l = c .before .before .before .before .before .before .before .before .before .before .before .loop in
     let np = length (s .args .us .now) in
-    let h = part-of (l .b) (s .args .betas) np (omega arith) in
-    omega (arith, h, number-small (s .args .all) (s .args .betas * np) 0 (omega (arith, s .pre .2)), s .pre .3, s .good)
+    let h = part-of (l .b) (s .args .shape .betas) np (omega arith) in
+    omega (arith, h, number-small (s .args .all) (s .args .shape .betas * np) 0 (omega (arith, s .pre .2)), s .pre .3, s .good)
 
 store-results-requires : tie.Need-store-results-requires Inv-loop μ-loop
 store-results-requires c κs =
-    let s = c .before .before .before .before .before .before .before .before .before .before .before .before .before .before .before .before .before .before .before .before .before in
-    let l = c .before .before .before .before .before .before .before .before .before .before .before .loop in
+    let s = c .before .before .before .before .before .before .before .before .before .before .before .before .before .before .before .before .before .before .before .before .before .before in
+    let l = c .before .before .before .before .before .before .before .before .before .before .before .before .loop in
     let i = l .inv in
     let np = length (s .args .us .now) in
     let e : length (c .before .before .before .before .before .before .before .answer-signed .last .1 .1 .1 .1 .1 .1 .1 .1 .1 .1 .0) ≡ np = c .before .before .before .before .before .before .before .answer-signed .kept .1 .1 .1 .1 .1 .1 .1 .1 .1 .1 .0 ∙ i .results ∙ s .pre .0 .fitting in
-    (s .pre .2, rw (e, i .storeds, s .pre .3) (part-stored (l .b) (s .args .betas) np (s .args .all) (omega arith)))
+    (s .pre .2, rw (e, i .storeds, s .pre .3) (part-stored (l .b) (s .args .shape .betas) np (s .args .all) (omega arith)))
 
 loop-again : tie.Need-loop-again Inv-loop μ-loop
 loop-again c =
-    let s = c .before .before .before .before .before .before .before .before .before .before .before .before .before .before .before .before .before .before .before .before .before .before .before .before in
-    let l = c .before .before .before .before .before .before .before .before .before .before .before .before .before .before .loop in
+    let s = c .before .before .before .before .before .before .before .before .before .before .before .before .before .before .before .before .before .before .before .before .before .before .before .before .before in
+    let l = c .before .before .before .before .before .before .before .before .before .before .before .before .before .before .before .loop in
     let i = l .inv in
     let a = c .before .before .before .before .before .before .before .before .before .before .answer-signed in
     let r = c .before .before .store-results in
-    let yes = not-false _ (c .before .before .before .before .before .if1 .left) in
-    let t : l .b < s .args .betas = omega (arith, c .before .before .before .before .before .before .before .before .before .before .before .before .before .loop-test .taken) in
+    let yes = not-false _ (c .before .before .before .before .before .if2 .left) in
+    let t : l .b < s .args .shape .betas = omega (arith, c .before .before .before .before .before .before .before .before .before .before .before .before .before .if1 .taken) in
     let e = a .kept .1 .1 .1 .1 .1 .1 .1 .1 .1 .1 .0 ∙ i .results in
     let m : l .b * length (s .args .us .now) + length (s .args .us .now) ≡ (l .b + 1) * length (s .args .us .now) = omega arith in
     record {
@@ -90,24 +90,24 @@ loop-again c =
           let g = i .so-far J of in (
             sound-more J _ _ _ (l .b) _ o (g .0) yes,
             λ value same h. rw (e ∙ s .pre .0 .fitting, m) at
-                (r .ensures value _ (λ p k. results-value J (s .args .us .now) (s .args .vs .now) value (s .args .all) _ (s .args .betas) (l .b) _ same t (o .values yes) p (rw (e ∙ s .pre .0 .fitting) at k)) (g .1 value same h)),
+                (r .ensures value _ (λ p k. results-value J (s .args .us .now) (s .args .vs .now) value (s .args .all) _ (s .args .shape .betas) (l .b) _ same t (o .values yes) p (rw (e ∙ s .pre .0 .fitting) at k)) (g .1 value same h)),
           );
     }
 
 same-length-4 : tie.Need-same-length-4 Inv-loop μ-loop
-same-length-4 c = c .before .loop .inv .rooms
+same-length-4 c = c .before .before .loop .inv .rooms
 
 same-length-5 : tie.Need-same-length-5 Inv-loop μ-loop
-same-length-5 c = c .before .loop .inv .results
+same-length-5 c = c .before .before .loop .inv .results
 
 same-length-6 : tie.Need-same-length-6 Inv-loop μ-loop
-same-length-6 c = c .before .loop .inv .storeds
+same-length-6 c = c .before .before .loop .inv .storeds
 
 returns-2 : tie.Need-returns-2 Inv-loop μ-loop
 returns-2 c =
-    let s = c .before .before .before .before .before .before .before .before .before .before .before in
-    let i = c .before .loop .inv in
-    let e : c .before .loop .b ≡ s .args .betas = omega (arith, i .below) in
+    let s = c .before .before .before .before .before .before .before .before .before .before .before .before in
+    let i = c .before .before .loop .inv in
+    let e : c .before .before .loop .b ≡ s .args .shape .betas = omega (arith, i .below) in
     λ J of. let g = rw e at (i .so-far J of) in (sym (ap not (g .0)), λ _. g .1)
 
 pub store-configuration-spec : {M : Type 1} → statement M
