@@ -94,11 +94,11 @@ pub fn rising(s: Strip, x: usize, y: usize) -> Bond
     ensures { λ r. ⌜ listed r ≡ rising s x y ⌝ }
 {
     let w = s.w;
-    let next = (y + 1) % w;
+    let to = (y + 1) % w;
     bond_if(
         rises(s) & (x + 1 < s.l) & has_next(s, y),
         vertex_at(w, x, y),
-        vertex_at(w, x + 1, next),
+        vertex_at(w, x + 1, to),
     )
 }
 
@@ -107,10 +107,10 @@ pub fn falling(s: Strip, x: usize, y: usize) -> Bond
     ensures { λ r. ⌜ listed r ≡ falling s x y ⌝ }
 {
     let w = s.w;
-    let next = (y + 1) % w;
+    let from = (y + 1) % w;
     bond_if(
         falls(s) & (x + 1 < s.l) & has_next(s, y),
-        vertex_at(w, x, next),
+        vertex_at(w, x, from),
         vertex_at(w, x + 1, y),
     )
 }
