@@ -4,7 +4,7 @@ use Rattle.strip_bonds.proofs.rises.Statement.{statement}
 use Rattle.strip_bonds.proofs.rises.Tie as tie
 
 returns : tie.Need-returns
-returns c = cc
+returns c = rw (c .before .before .is-eight .ensures, c .before .is-tri .ensures)
 
 pub rises-spec : {M : Type 1} → statement M
 rises-spec = tie.close (tie.spec (λ c κs. search needs) (λ c κs. search needs) returns)
