@@ -90,6 +90,18 @@ module _ (s : Strip) (S : Sides (s .w) (s .l)) where
       go false f b true false e = omega arith
       go false f b false d e = omega arith
 
+  pub reach-double : reach s ≤ 2 * s .w
+  unfolding reach
+  reach-double =
+      go (ltb 1 (s .l)) (isEight (s .kind) && s .periodic && ltb 2 (s .w)) (rises s && ltb 1 (s .w)) (not (isHoney (s .kind)) && s .periodic && ltb 2 (s .w))
+    where
+      go : (a f b c : Bool) → cond a (cond f (2 * s .w - 1) (cond b (s .w + 1) (s .w))) (cond c (s .w - 1) 1) ≤ 2 * s .w
+      go true true b c = omega arith
+      go true false true c = omega (arith, S .wide)
+      go true false false c = omega arith
+      go false f b true = omega arith
+      go false f b false = omega (arith, S .wide)
+
   -- the reach of two columns or more
   reach-two : ltb 1 (s .l) ≡ true
       → reach s ≡ cond (isEight (s .kind) && s .periodic && ltb 2 (s .w)) (2 * s .w - 1) (cond (rises s && ltb 1 (s .w)) (s .w + 1) (s .w))
@@ -112,7 +124,7 @@ module _ (s : Strip) (S : Sides (s .w) (s .l)) where
       go true false q = omega arith
       go false b q = omega arith
 
-  reach-round : ltb 1 (s .l) ≡ true → isEight (s .kind) ≡ true → s .periodic ≡ true → 2 < s .w → 2 * s .w - 1 ≤ reach s
+  pub reach-round : ltb 1 (s .l) ≡ true → isEight (s .kind) ≡ true → s .periodic ≡ true → 2 < s .w → 2 * s .w - 1 ≤ reach s
   reach-round h e p k = rw (reach-two h, e, p, lt-ltb 2 (s .w) k) (omega arith)
 
 module _ (s : Strip) (S : Sides (s .w) (s .l)) (x y : ℕ) (row : y < s .w) (column : x < s .l) where
