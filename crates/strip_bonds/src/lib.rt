@@ -1,6 +1,6 @@
 // The local rules: what a strip has at a site, as one edge or none.
 ghost use mathlib.Core.Path.{_≡_};
-ghost use Prim.Native.Nat.{_+_, _≤_};
+ghost use Prim.Native.Nat.{_+_, _%_, _≤_, _<_};
 ghost use Rattle.strip_bonds.specs.Edges.{edge, given, brick, rises, falls, hasNext, across, wrap, along, rising, falling};
 ghost use Rattle.strip.specs.Sides.{Site};
 ghost use Rattle.strip_bonds.specs.Bonds.{listed};
@@ -53,6 +53,18 @@ fn has_next(s: Strip, y: usize) -> bool
     (y + 1 < s.w) | (s.periodic & (2 < s.w))
 }
 
+// The vertex across that follows y, which round a cylinder is the first; found without a division.
+fn next_across(w: usize, y: usize) -> usize
+    requires { ⌜ (y < w) × (w ≤ 1024) ⌝ }
+    ensures { λ r. ⌜ (r ≡ (y + 1) % w) × (r < w) ⌝ }
+{
+    let next = y + 1;
+    if next < w {
+        return next;
+    }
+    0
+}
+
 pub fn across(s: Strip, x: usize, y: usize) -> Bond
     requires { ⌜ Site s x y ⌝ }
     ensures { λ r. ⌜ listed r ≡ across s x y ⌝ }
@@ -94,7 +106,7 @@ pub fn rising(s: Strip, x: usize, y: usize) -> Bond
     ensures { λ r. ⌜ listed r ≡ rising s x y ⌝ }
 {
     let w = s.w;
-    let to = (y + 1) % w;
+    let to = next_across(w, y);
     bond_if(
         rises(s) & (x + 1 < s.l) & has_next(s, y),
         vertex_at(w, x, y),
@@ -107,7 +119,7 @@ pub fn falling(s: Strip, x: usize, y: usize) -> Bond
     ensures { λ r. ⌜ listed r ≡ falling s x y ⌝ }
 {
     let w = s.w;
-    let from = (y + 1) % w;
+    let from = next_across(w, y);
     bond_if(
         falls(s) & (x + 1 < s.l) & has_next(s, y),
         vertex_at(w, x, from),

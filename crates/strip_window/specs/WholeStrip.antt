@@ -16,7 +16,7 @@ use Rattle.transfer_matrix.specs.Job as Job
 use Rattle.refusals.specs.Edges.{Kept, keptAt, keptOf, kept, isZero, keptEarly, keptLate}
 use Rattle.refusals.specs.Key.{Key}
 use Rattle.refusals.specs.Laws.First.{here, past}
-use Rattle.refusals.specs.Refusal.{refusal, ofRoom}
+use Rattle.refusals.specs.Refusal.{refusal, ofGraph, ofRoom}
 use Rattle.refusals.specs.Request.{Request, oversized, someOversized, badVertices, badLists, badEdges, badEnds, badSizes, parallelEdges, windowIn, wideWindow, roomRequest}
 use Rattle.strip.specs.Kinds.{isEight}
 use Rattle.strip.specs.Requests.{oddCylinder}
@@ -159,6 +159,10 @@ module _ {s : Strip} {r : Request} (S : Sides (s .w) (s .l)) (o : oddCylinder s 
   -- 5
   apart-pass : parallelEdges r ≡ false
   apart-pass = rw (W .ones, W .others, W .magnitudes, kept-early, kept-late) (none-twice s S o)
+
+  -- So none of the checks of a graph refuses it.
+  pub graph-passes : 0 ≡ refusal ofGraph r
+  graph-passes = past _ _ _ _ vertices-pass (past _ _ _ _ lists-pass (past _ _ _ _ edges-pass (past _ _ _ _ sizes-pass (past _ _ _ _ apart-pass refl))))
 
   -- The window of the call is the strip's, or the floor.
   pub whole-window : windowIn r ≡ max (r .floor) (windowOf s)
