@@ -3,8 +3,9 @@ use mathlib.Core.Path.{_≡_, refl}
 use mathlib.Core.Bool.{true, false}
 use mathlib.Core.List.{List, []}
 use Prim.Native.Nat.{ℕ, _*_, _^_, _≤_, _<_}
-use lib.Ieee.{Float}
-use lib.ListN.{length}
+use lib.Ieee.{Float, nan, binary64}
+use lib.ListN.{length, getD}
+use Rattle.rounding.specs.Powers.{Ordered}
 use Rattle.transfer_matrix.specs.Job.{Job}
 use Rattle.refusals.specs.declared.Answer.the-variants.{Number}
 use Rattle.strip.specs.declared.strip.Strip.{Strip}
@@ -19,9 +20,9 @@ use Rattle.demands.specs.Configurations.{free, configuration, drawnConfi
 use Rattle.demands.specs.OneJob.{Exact, Bounded}
 use Rattle.demands.specs.Accurate.{Accurate}
 use Rattle.demands.specs.Correlations.{result-is, result-exact, result-within, result-accurate}
-use Rattle.demands.specs.Exhaustive.{enumeration-exact, enumeration-within, enumeration-accurate}
+use Rattle.demands.specs.Exhaustive.{enumeration-exact, enumeration-bounded, enumeration-within, enumeration-accurate}
 use Rattle.demands.specs.Storing.{stored-exact, stored-at, stored-within, stored-accurate}
-use Rattle.demands.specs.Sampling.{sampling-exact, sampling-within, sampling-accurate}
+use Rattle.demands.specs.Sampling.{sampling-exact, sampling-bounded, sampling-within, sampling-accurate}
 
 -- Demands 2 and 3 of a job and its pairs, and how far its answers are from the textbook's, where a bound is told.
 pub record Demanded (J : Job Float) (us vs : List ℕ) (told : ErrorBound) : Type 0 where
@@ -65,6 +66,12 @@ module _ (s : Strip) (floor : ℕ) (m : List Float) (us vs : List ℕ) (factors 
           accurate = λ bound e. enumeration-accurate call bound e x beta h l;
         }
 
+    -- whose totals are in order too,
+    pub strip-totals : {count : ℕ} {squares squares′ fourths fourths′ work work′ : List Float}
+        → Enumerated n floor a b m us vs betas factors manner (Number count) squares squares′ fourths fourths′ work work′
+        → (k : ℕ) → k < length betas * length us → Ordered binary64 (getD fourths′ k nan) (getD squares′ k nan) count
+    strip-totals call = enumeration-bounded call
+
     -- of `exhaustive_c`, the same,
     pub strip-stored : {count : ℕ} {stored stored′ work work′ : List Float}
         → EnumeratedEach n floor a b m us vs betas factors manner (Number count) stored stored′ work work′
@@ -76,7 +83,7 @@ module _ (s : Strip) (floor : ℕ) (m : List Float) (us vs : List ℕ) (factors 
           accurate = λ bound e. record { correlation = λ p k. rw (stored-at call x beta p h l k) at (stored-accurate call bound e x beta p h l k) };
         }
 
-    -- and of `sample`, every sample and beta.
+    -- and of `sample`, every sample and beta, and its totals.
     pub strip-sampling : {seed from to samples count : ℕ} {squares squares′ fourths fourths′ work work′ : List Float}
         → Sampled n floor a b m us vs betas factors manner seed from to samples (Number count) squares squares′ fourths fourths′ work work′
         → (chunk j beta : ℕ) → from ≤ chunk → chunk < to → j < samples → beta < length betas
@@ -87,3 +94,8 @@ module _ (s : Strip) (floor : ℕ) (m : List Float) (us vs : List ℕ) (factors 
           bounded = sampling-within call chunk j beta u v i l;
           accurate = λ bound e. sampling-accurate call bound e chunk j beta u v i l;
         }
+
+    pub strip-sampled-totals : {seed from to samples count : ℕ} {squares squares′ fourths fourths′ work work′ : List Float}
+        → Sampled n floor a b m us vs betas factors manner seed from to samples (Number count) squares squares′ fourths fourths′ work work′
+        → (k : ℕ) → k < length betas * length us → Ordered binary64 (getD fourths′ k nan) (getD squares′ k nan) count
+    strip-sampled-totals call = sampling-bounded call
