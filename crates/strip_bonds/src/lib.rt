@@ -32,6 +32,7 @@ fn has_brick(kind: Kind, x: usize, y: usize) -> bool
     !is_honey(kind) | ((x + y) % 2 == 0)
 }
 
+// Returns whether the strip has the diagonals to the next vertex across,
 pub fn rises(s: Strip) -> bool
     ensures { λ r. ⌜ r ≡ rises s ⌝ }
 {
@@ -39,6 +40,7 @@ pub fn rises(s: Strip) -> bool
     is_eight(kind) | (is_tri(kind) & s.periodic)
 }
 
+// and those from it.
 fn falls(s: Strip) -> bool
     ensures { λ r. ⌜ r ≡ falls s ⌝ }
 {
@@ -46,6 +48,7 @@ fn falls(s: Strip) -> bool
     is_eight(kind) | (is_tri(kind) & !s.periodic)
 }
 
+// Returns whether some vertex across follows y.
 fn has_next(s: Strip, y: usize) -> bool
     requires { ⌜ y ≤ 1024 ⌝ }
     ensures { λ r. ⌜ r ≡ hasNext s y ⌝ }

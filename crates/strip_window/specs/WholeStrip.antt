@@ -3,7 +3,7 @@
 use mathlib.Core.Path.{_≡_, refl, sym, _∙_}
 use mathlib.Core.Bool.{true, false}
 use mathlib.Core.List.{List, [], _∷_, _++_, map, map-append}
-use Prim.Native.Nat.{ℕ, zero, suc, _+_, _-_, _*_, _≤_, _<_, max}
+use Prim.Native.Nat.{ℕ, zero, suc, _*_, _≤_, _<_, max}
 use native.Mathlib.Nat.{min-eq-left, max-eq-right, max-le, le-trans, le-max-right, mul-le-mul-left}
 use native.Mathlib.Omega.{arith}
 use lib.Ieee.{Float, nan, eq, le, neg, ofBits}
@@ -13,7 +13,7 @@ use borrow.Author.Tests.{eq-eqb, ne-eqb, lt-ltb, le-ltb, lt-leb}
 use Rattle.limits.specs.Limits.{mostVertices, mostEdges, mostPairs, mostBetas, mostWindow}
 use Rattle.list_laws.specs.Laws.Search.{start, none-of}
 use Rattle.transfer_matrix.specs.Job as Job
-use Rattle.refusals.specs.Edges.{Kept, keptAt, keptOf, kept, isZero, keptEarly, keptLate}
+use Rattle.refusals.specs.Edges.{Kept, keptAt, keptOf, isZero, keptEarly, keptLate}
 use Rattle.refusals.specs.Key.{Key}
 use Rattle.refusals.specs.Laws.First.{here, past}
 use Rattle.refusals.specs.Refusal.{refusal, ofGraph, ofRoom}

@@ -1,6 +1,6 @@
 -- The window of a strip is its reach: no edge is longer, and some edge is as long.
 use mathlib.Core.Path.{_≡_, refl, _∙_}
-use mathlib.Core.Bool.{Bool, true, false, cond, not, _||_, _&&_}
+use mathlib.Core.Bool.{Bool, true, false, cond, not, _&&_}
 use mathlib.Core.List.{List, [], _∷_, _++_}
 use Prim.Native.Nat.{ℕ, zero, suc, _+_, _-_, _*_, _/_, _%_, _≤_, _<_}
 use native.Mathlib.Nat.{mod-eq-of-lt, mod-self, div-eq-of-lt, max-le, le-max-left, le-max-right, le-trans, le-antisymm, mul-le-mul-left}

@@ -1,7 +1,7 @@
 -- What holds of the edge list of every strip that is not refused: its edges lie inside, smaller end first, no two join the same vertices, there are
 -- at most 4,096, and the longest reaches as far as `reach` says.
 use mathlib.Core.Path.{_≡_, refl, sym, _∙_}
-use mathlib.Core.Bool.{Bool, true, false, not, _||_, _&&_}
+use mathlib.Core.Bool.{Bool, true, false, _&&_}
 use mathlib.Core.List.{List, [], _∷_, _++_, append-nil}
 use mathlib.Core.Logic.{dite}
 use Prim.Native.Nat.{ℕ, zero, suc, _+_, _-_, _*_, _/_, _%_, _≤_, _<_}
@@ -12,7 +12,7 @@ use native.Mathlib.Omega.{arith}
 use lib.Dec.{eqb, ltb}
 use lib.ListN.{length, getD, length-append, length-map, List·getD-append, List·getD-map}
 use lib.Seq.{getD-at}
-use borrow.Author.Tests.{ltb-true, le-ltb, eqb-true, ne-eqb, not-true}
+use borrow.Author.Tests.{ltb-true, le-ltb, eqb-true, ne-eqb}
 use Rattle.list_laws.specs.Search.{some}
 use Rattle.list_laws.specs.Laws.Search.{none-of}
 use Rattle.refusals.specs.Request.{joinedTwice, sameEnds}
