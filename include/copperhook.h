@@ -76,8 +76,8 @@ enum copperhook_limit {
 /* How often a sweep is rescaled: by every step's largest entry, or by every fourth's. Any number but 0 is block. */
 enum copperhook_manner { COPPERHOOK_PER_ELEMENT = 0, COPPERHOOK_BLOCK = 1 };
 
-/* The lattice of a strip. Any number but 0 and 1 is honeycomb. */
-enum copperhook_kind { COPPERHOOK_SQUARE = 0, COPPERHOOK_TRIANGULAR = 1, COPPERHOOK_HONEYCOMB = 2 };
+/* The lattice of a strip; a site of COPPERHOOK_EIGHT has both diagonals, so eight neighbours. Any number but 0, 1 and 3 is honeycomb. */
+enum copperhook_kind { COPPERHOOK_SQUARE = 0, COPPERHOOK_TRIANGULAR = 1, COPPERHOOK_HONEYCOMB = 2, COPPERHOOK_EIGHT = 3 };
 
 /* ---- Correlations of one configuration. */
 
@@ -298,8 +298,8 @@ size_t copperhook_pairs(size_t kind, size_t w, size_t l, bool periodic, size_t *
                         uint8_t *labels, size_t labels_len, size_t *pairs);
 
 /*
- * Whether a name, of name_len bytes and no zero behind them, means a kind: square or sq, tri or triangular, honey, honeycomb or hex.
- * *kind is then its number, and else as it was.
+ * Whether a name, of name_len bytes and no zero behind them, means a kind: square or sq, tri or triangular, honey, honeycomb or hex,
+ * eight. *kind is then its number, and else as it was.
  */
 bool copperhook_kind_parse(const uint8_t *name, size_t name_len, size_t *kind);
 

@@ -11,10 +11,11 @@ pub fn number_of(kind: Kind) -> usize
         Kind::Square => 0,
         Kind::Tri => 1,
         Kind::Honey => 2,
+        Kind::Eight => 3,
     }
 }
 
-// 0 is square, 1 triangular and any other number honeycomb, so that no number is a bad kind.
+// 0 is square, 1 triangular, 3 eight and any other number honeycomb, so that no number is a bad kind.
 pub fn kind_numbered(number: usize) -> Kind
     ensures { λ r. ⌜ r ≡ kindNumbered number ⌝ }
 {
@@ -23,6 +24,9 @@ pub fn kind_numbered(number: usize) -> Kind
     }
     if number == 1 {
         return Kind::Tri;
+    }
+    if number == 3 {
+        return Kind::Eight;
     }
     Kind::Honey
 }

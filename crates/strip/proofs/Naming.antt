@@ -10,7 +10,8 @@ use borrow.Author.Tests.{eq-eqb, eqb-true}
 use Rattle.refusals.specs.Laws.First.{told}
 use Rattle.strip.specs.Spelling.{spelled}
 use Rattle.strip.specs.Names.{same, isWord, parsed}
-use Rattle.strip.specs.declared.kinds.Kind.the-variants.{Square, Tri, Honey}
+use Rattle.strip.specs.declared.kinds.Kind.the-variants.{Square, Tri, Honey, Eight}
+use Rattle.strip.specs.declared.kinds.Parsed.{Parsed}
 use Rattle.strip.specs.declared.kinds.Parsed.the-variants.{Known, NoKind}
 
 same-self : (a : List ℕ) → same a a ≡ true
@@ -63,6 +64,14 @@ module _ (name : List ℕ) {a : Bool} (p : a ≡ (isWord name "square" || isWord
       unfolding parsed
       parsed-honey t = take-past _ _ _ _ (told p p′) (take-past _ _ _ _ (told q q′) (take-here _ _ _ (told r t)))
 
-      pub parsed-none : c ≡ false → NoKind ≡ parsed name
-      unfolding parsed
-      parsed-none t = take-past _ _ _ _ (told p p′) (take-past _ _ _ _ (told q q′) (take-past _ _ _ _ (told r t) refl))
+      module _ (r′ : c ≡ false) {d : Bool} (u : d ≡ isWord name "eight") where
+        -- past the words of the other three kinds
+        past-three : {k : Parsed} → k ≡ cond (isWord name "eight") (Known Eight) NoKind → k ≡ parsed name
+        unfolding parsed
+        past-three e = take-past _ _ _ _ (told p p′) (take-past _ _ _ _ (told q q′) (take-past _ _ _ _ (told r r′) e))
+
+        pub parsed-eight : d ≡ true → Known Eight ≡ parsed name
+        parsed-eight t = past-three (take-here _ _ _ (told u t))
+
+        pub parsed-none : d ≡ false → NoKind ≡ parsed name
+        parsed-none t = past-three (take-past _ _ _ _ (told u t) refl)

@@ -7,7 +7,7 @@ use lib.Dec.{eqb}
 use lib.ListN.{take, replicate}
 use Rattle.strip.specs.Spelling.{spelled}
 use Rattle.strip.specs.declared.kinds.Kind.{Kind}
-use Rattle.strip.specs.declared.kinds.Kind.the-variants.{Square, Tri, Honey}
+use Rattle.strip.specs.declared.kinds.Kind.the-variants.{Square, Tri, Honey, Eight}
 use Rattle.strip.specs.declared.kinds.Parsed.{Parsed}
 use Rattle.strip.specs.declared.kinds.Parsed.the-variants.{Known, NoKind}
 
@@ -26,12 +26,14 @@ parsed name =
     cond (isWord name "square" || isWord name "sq") (Known Square)
     (cond (isWord name "tri" || isWord name "triangular") (Known Tri)
     (cond (isWord name "honey" || isWord name "honeycomb" || isWord name "hex") (Known Honey)
-    NoKind))
+    (cond (isWord name "eight") (Known Eight)
+    NoKind)))
 
 abbrev pub nameOf : Kind → List ℕ
 nameOf Square = spelled "square"
 nameOf Tri = spelled "tri"
 nameOf Honey = spelled "honey"
+nameOf Eight = spelled "eight"
 
 abbrev pub boundaryOf : Bool → List ℕ
 boundaryOf true = spelled "cyl"

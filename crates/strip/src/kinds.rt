@@ -1,13 +1,14 @@
 // The kinds of a strip's lattice, and the words that name kinds and boundaries.
 ghost use mathlib.Core.Path.{_≡_};
 ghost use lib.ListN.{length};
-ghost use Rattle.strip.specs.Kinds.{isHoney, isTri};
+ghost use Rattle.strip.specs.Kinds.{isHoney, isTri, isEight};
 ghost use Rattle.strip.specs.Names.{parsed, nameOf, padded};
 
 pub enum Kind {
     Square,
     Tri,
     Honey,
+    Eight,
 }
 
 // The kind that a name means, if it means one.
@@ -36,6 +37,9 @@ impl Kind {
         if honey | check::same(name, b"hex") {
             return Parsed::Known(Kind::Honey);
         }
+        if check::same(name, b"eight") {
+            return Parsed::Known(Kind::Eight);
+        }
         Parsed::NoKind
     }
 
@@ -46,6 +50,7 @@ impl Kind {
             Kind::Square => six(*b"square", 6),
             Kind::Tri => six(*b"tri\0\0\0", 3),
             Kind::Honey => six(*b"honey\0", 5),
+            Kind::Eight => six(*b"eight\0", 5),
         }
     }
 }
@@ -63,6 +68,7 @@ pub fn is_honey(kind: Kind) -> bool
         Kind::Square => false,
         Kind::Tri => false,
         Kind::Honey => true,
+        Kind::Eight => false,
     }
 }
 
@@ -73,5 +79,17 @@ pub fn is_tri(kind: Kind) -> bool
         Kind::Square => false,
         Kind::Tri => true,
         Kind::Honey => false,
+        Kind::Eight => false,
+    }
+}
+
+pub fn is_eight(kind: Kind) -> bool
+    ensures { λ r. ⌜ r ≡ isEight kind ⌝ }
+{
+    match kind {
+        Kind::Square => false,
+        Kind::Tri => false,
+        Kind::Honey => false,
+        Kind::Eight => true,
     }
 }

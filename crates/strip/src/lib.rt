@@ -7,6 +7,7 @@ mod vertices;
 pub use kinds::Kind;
 pub use kinds::Parsed;
 pub use kinds::Word;
+pub use kinds::is_eight;
 pub use kinds::is_honey;
 pub use kinds::is_tri;
 pub use kinds::six;

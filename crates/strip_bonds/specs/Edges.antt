@@ -4,7 +4,7 @@ use mathlib.Core.List.{List, [], _∷_, _++_, map}
 use Prim.Native.Nat.{ℕ, zero, suc, _+_, _*_, _/_, _%_}
 use lib.Dec.{eqb, ltb}
 use lib.Ieee.{Float, binary64, ofBits}
-use Rattle.strip.specs.Kinds.{isHoney, isTri}
+use Rattle.strip.specs.Kinds.{isHoney, isTri, isEight}
 use Rattle.strip.specs.declared.kinds.Kind.{Kind}
 use Rattle.strip.specs.Vertices.{vertex}
 use Rattle.strip.specs.declared.strip.Strip.{Strip}
@@ -24,6 +24,17 @@ given test e = cond test (e ∷ []) []
 abbrev pub brick : Kind → ℕ → ℕ → Bool
 brick k x y = not (isHoney k) || eqb ((x + y) % 2) 0
 
+-- A triangular cylinder has the rising diagonals, a free triangular strip the falling ones, the strip of eight neighbours both.
+abbrev pub rises : Strip → Bool
+rises s = isEight (s .kind) || (isTri (s .kind) && s .periodic)
+
+abbrev pub falls : Strip → Bool
+falls s = isEight (s .kind) || (isTri (s .kind) && not (s .periodic))
+
+-- There is a vertex at y + 1: round a cylinder wider than 2 it is the first.
+abbrev pub hasNext : Strip → ℕ → Bool
+hasNext s y = ltb (y + 1) (s .w) || (s .periodic && ltb 2 (s .w))
+
 -- ---- the local rules: what a strip has at (x, y)
 abbrev pub Rule : Type 0
 Rule = Strip → ℕ → ℕ → List Edge
@@ -41,17 +52,13 @@ wrap s x y =
 unfoldable pub along : Rule
 along s x y = given (ltb (x + 1) (s .l)) (edge (vertex (s .w) x y) (vertex (s .w) (x + 1) y))
 
--- the diagonal of a triangular cylinder, which goes round where it is wider than 2
+-- the diagonal from (x, y) to (x + 1, y + 1)
 unfoldable pub rising : Rule
-rising s x y =
-    given (isTri (s .kind) && s .periodic && ltb (x + 1) (s .l) && (ltb 2 (s .w) || ltb (y + 1) (s .w)))
-    (edge (vertex (s .w) x y) (vertex (s .w) (x + 1) ((y + 1) % s .w)))
+rising s x y = given (rises s && ltb (x + 1) (s .l) && hasNext s y) (edge (vertex (s .w) x y) (vertex (s .w) (x + 1) ((y + 1) % s .w)))
 
--- the diagonal of a free triangular strip
+-- the diagonal from (x, y + 1) to (x + 1, y)
 unfoldable pub falling : Rule
-falling s x y =
-    given (isTri (s .kind) && not (s .periodic) && ltb (x + 1) (s .l) && ltb (y + 1) (s .w))
-    (edge (vertex (s .w) x (y + 1)) (vertex (s .w) (x + 1) y))
+falling s x y = given (falls s && ltb (x + 1) (s .l) && hasNext s y) (edge (vertex (s .w) x ((y + 1) % s .w)) (vertex (s .w) (x + 1) y))
 
 abbrev pub rules : List Rule
 rules = across ∷ wrap ∷ along ∷ rising ∷ falling ∷ []

@@ -1,3 +1,4 @@
 -- What is proved of the definitions.
 pub mod Square
+pub mod Eight
 pub mod Sites

@@ -1,11 +1,12 @@
 // The local rules: what a strip has at a site, as one edge or none.
 ghost use mathlib.Core.Path.{_≡_};
-ghost use Prim.Native.Nat.{_+_, _≤_};
-ghost use Rattle.strip_bonds.specs.Edges.{edge, given, brick, across, wrap, along, rising, falling};
+ghost use Prim.Native.Nat.{_+_, _%_, _≤_, _<_};
+ghost use Rattle.strip_bonds.specs.Edges.{edge, given, brick, rises, falls, hasNext, across, wrap, along, rising, falling};
 ghost use Rattle.strip.specs.Sides.{Site};
 ghost use Rattle.strip_bonds.specs.Bonds.{listed};
 use strip::Kind;
 use strip::Strip;
+use strip::is_eight;
 use strip::is_honey;
 use strip::is_tri;
 use strip::vertex_at;
@@ -29,6 +30,42 @@ fn has_brick(kind: Kind, x: usize, y: usize) -> bool
     ensures { λ r. ⌜ r ≡ brick kind x y ⌝ }
 {
     !is_honey(kind) | ((x + y) % 2 == 0)
+}
+
+// Returns whether the strip has the diagonals to the next vertex across,
+pub fn rises(s: Strip) -> bool
+    ensures { λ r. ⌜ r ≡ rises s ⌝ }
+{
+    let kind = s.kind;
+    is_eight(kind) | (is_tri(kind) & s.periodic)
+}
+
+// and those from it.
+fn falls(s: Strip) -> bool
+    ensures { λ r. ⌜ r ≡ falls s ⌝ }
+{
+    let kind = s.kind;
+    is_eight(kind) | (is_tri(kind) & !s.periodic)
+}
+
+// Returns whether some vertex across follows y.
+fn has_next(s: Strip, y: usize) -> bool
+    requires { ⌜ y ≤ 1024 ⌝ }
+    ensures { λ r. ⌜ r ≡ hasNext s y ⌝ }
+{
+    (y + 1 < s.w) | (s.periodic & (2 < s.w))
+}
+
+// The vertex across that follows y, which round a cylinder is the first; found without a division.
+fn next_across(w: usize, y: usize) -> usize
+    requires { ⌜ (y < w) × (w ≤ 1024) ⌝ }
+    ensures { λ r. ⌜ (r ≡ (y + 1) % w) × (r < w) ⌝ }
+{
+    let next = y + 1;
+    if next < w {
+        return next;
+    }
+    0
 }
 
 pub fn across(s: Strip, x: usize, y: usize) -> Bond
@@ -72,13 +109,11 @@ pub fn rising(s: Strip, x: usize, y: usize) -> Bond
     ensures { λ r. ⌜ listed r ≡ rising s x y ⌝ }
 {
     let w = s.w;
-    let kind = s.kind;
-    let diagonal = is_tri(kind) & s.periodic & (x + 1 < s.l);
-    let next = (2 < w) | (y + 1 < w);
+    let to = next_across(w, y);
     bond_if(
-        diagonal & next,
+        rises(s) & (x + 1 < s.l) & has_next(s, y),
         vertex_at(w, x, y),
-        vertex_at(w, x + 1, (y + 1) % w),
+        vertex_at(w, x + 1, to),
     )
 }
 
@@ -87,11 +122,10 @@ pub fn falling(s: Strip, x: usize, y: usize) -> Bond
     ensures { λ r. ⌜ listed r ≡ falling s x y ⌝ }
 {
     let w = s.w;
-    let kind = s.kind;
-    let diagonal = is_tri(kind) & !s.periodic & (x + 1 < s.l);
+    let from = next_across(w, y);
     bond_if(
-        diagonal & (y + 1 < w),
-        vertex_at(w, x, y + 1),
+        falls(s) & (x + 1 < s.l) & has_next(s, y),
+        vertex_at(w, x, from),
         vertex_at(w, x + 1, y),
     )
 }

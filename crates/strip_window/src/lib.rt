@@ -10,9 +10,10 @@ ghost use Rattle.strip_window.specs.Reach.{reach};
 use refusals::Answer;
 use strip::Strip;
 use strip::bad_sides;
+use strip::is_eight;
 use strip::is_honey;
-use strip::is_tri;
 use strip::odd_cylinder;
+use strip_bonds::rises;
 
 fn reach(s: Strip) -> usize
     requires { ⌜ Sides (s .w) (s .l) ⌝ }
@@ -21,7 +22,10 @@ fn reach(s: Strip) -> usize
     let w = s.w;
     let kind = s.kind;
     if 1 < s.l {
-        if is_tri(kind) & s.periodic & (1 < w) {
+        if is_eight(kind) & s.periodic & (2 < w) {
+            return 2 * w - 1;
+        }
+        if rises(s) & (1 < w) {
             return w + 1;
         }
         return w;

@@ -3,6 +3,7 @@
 use crate::draw::Draw;
 use oracle::lattice::{Kind, Strip};
 use oracle::rules::lists::{Edges, Pairs};
+use oracle::rules::strips::eight_edges;
 use std::collections::HashSet;
 
 pub const KINDS: [Kind; 3] = [Kind::Square, Kind::Tri, Kind::Honey];
@@ -100,10 +101,11 @@ pub struct Reach {
 
 /// A graph that checks 1 to 7 pass, of that window at most.
 pub fn swept_graph(draw: &mut Draw, reach: Reach) -> Edges {
-    let mut edges = match draw.below(8) {
+    let mut edges = match draw.below(10) {
         0..=2 => strip(draw, reach, false),
         3 => strip(draw, reach, true),
-        4 => path(draw, reach),
+        4 => eight(draw, reach),
+        5 => path(draw, reach),
         _ => sparse(draw, reach),
     };
     if draw.once_in(3) {
@@ -121,7 +123,7 @@ fn has_four(edges: &Edges) -> bool {
     back.iter().any(|&count| count > 4)
 }
 
-/// A strip of any kind with its edges, or diluted with its window as the floor.
+/// A strip of the original's kinds with its edges, or diluted with its window as the floor.
 fn strip(draw: &mut Draw, reach: Reach, diluted: bool) -> Edges {
     let (kind, periodic) = (draw.of(&KINDS), draw.once_in(2));
     let most = if kind == Kind::Tri && periodic { reach.window.saturating_sub(1).max(1) } else { reach.window };
@@ -136,6 +138,21 @@ fn strip(draw: &mut Draw, reach: Reach, diluted: bool) -> Edges {
     }
     if diluted && draw.once_in(2) && strip.graph().win <= reach.window {
         edges.floor = strip.graph().win;
+    }
+    edges
+}
+
+/// A strip of eight neighbours, whole or diluted; its window, where it is the floor, is that of the whole one.
+fn eight(draw: &mut Draw, reach: Reach) -> Edges {
+    let (periodic, diluted) = (draw.once_in(2), draw.once_in(3));
+    let most = if periodic { reach.window.div_ceil(2) } else { reach.window.saturating_sub(1) };
+    let w = draw.within(1, most.min(reach.n).max(1));
+    let l = draw.within(1, (reach.n / w).max(1));
+    let mut edges = Edges::new(w * l, &eight_edges(w, l, periodic));
+    let window = edges.window();
+    if diluted {
+        edges.m.iter_mut().for_each(|m| *m = draw.of(&[0.0, -0.0, 0.5, 1.5, *m]));
+        edges.floor = draw.of(&[0, window]);
     }
     edges
 }

@@ -4,11 +4,16 @@ use crate::draw::Draw;
 use crate::guarded::{equal, same, Guarded};
 use crate::shapes::KINDS;
 use copperhook::sys;
-use oracle::lattice::{Kind, Strip};
+use oracle::lattice::{Graph, Kind, Strip};
 use oracle::rng::Rng;
+use oracle::rules::lists::Edges;
 use oracle::rules::refusals::{first, unless, StripCall};
+use oracle::rules::strips::eight_edges;
 
-/// A strip as numbers; a kind above 2 is honeycomb too.
+/// The number of the kind that the original does not have.
+const EIGHT: usize = 3;
+
+/// A strip as numbers; a kind above 3 is honeycomb too.
 struct Numbers {
     kind: usize,
     w: usize,
@@ -25,11 +30,47 @@ impl Numbers {
             1 => (w, l) = draw.of(&[(1, 1024), (1024, 1), (2, 512), (512, 2), (32, 32), (31, 33), (3, 341), (1, 1)]),
             _ => (),
         }
-        Numbers { kind: draw.of(&[0, 1, 2, 0, 1, 2, 3, usize::MAX]), w, l, periodic: draw.once_in(2) }
+        Numbers { kind: draw.of(&[0, 1, 2, 0, 1, 2, EIGHT, EIGHT, 4, usize::MAX]), w, l, periodic: draw.once_in(2) }
     }
 
+    /// The original's strip; the square one in the place of the one of eight neighbours, whose vertices and pairs are the same.
     fn original(&self) -> Strip {
-        Strip { kind: KINDS[self.kind.min(2)], w: self.w, l: self.l, periodic: self.periodic }
+        let kind = if self.kind == EIGHT { Kind::Square } else { KINDS[self.kind.min(2)] };
+        Strip { kind, w: self.w, l: self.l, periodic: self.periodic }
+    }
+
+    /// The edges by the original or, where it has none, by document 02.
+    fn edges(&self) -> Vec<(usize, usize, f64)> {
+        if self.kind == EIGHT {
+            eight_edges(self.w, self.l, self.periodic)
+        } else {
+            self.original().raw_edges()
+        }
+    }
+
+    fn window(&self) -> usize {
+        if self.kind == EIGHT {
+            Edges::new(self.w * self.l, &self.edges()).window()
+        } else {
+            self.original().graph().win
+        }
+    }
+
+    fn name(&self) -> &'static str {
+        if self.kind == EIGHT {
+            "eight"
+        } else {
+            self.original().kind.name()
+        }
+    }
+
+    /// The diluted graph by the original or, where it has none, its graph of these edges.
+    fn diluted(&self, [keep, low, high]: [f64; 3], seed: u64, edges: &[(usize, usize, f64)]) -> Graph {
+        if self.kind == EIGHT {
+            Graph::new(self.w * self.l, edges)
+        } else {
+            self.original().diluted(keep, low, high, seed)
+        }
     }
 
     fn refusal(&self, with_edges: bool, dilution: Option<[f64; 3]>) -> usize {
@@ -72,13 +113,14 @@ fn vertices(draw: &mut Draw, s: &Numbers) -> Result<(), String> {
     equal("n", n, if sides == 0 { s.original().n() } else { BEFORE })?;
     equal("inside", inside, if sides == 0 { lies } else { before })?;
     equal("vertex", vertex, if lies { s.original().vid(x, y) } else { BEFORE })?;
-    equal("window", window, if edges == 0 { s.original().graph().win } else { BEFORE })
+    equal("window", window, if edges == 0 { s.window() } else { BEFORE })
 }
 
 /// Bytes that often are a kind's name.
 fn some_name(draw: &mut Draw) -> Vec<u8> {
-    let names = ["square", "sq", "tri", "triangular", "honey", "honeycomb", "hex", "", "Square", "sqr", "honeycom", "triangula"];
-    let mut name = draw.of(&names).as_bytes().to_vec();
+    let known = ["square", "sq", "tri", "triangular", "honey", "honeycomb", "hex", "eight", "eight"];
+    let unknown = ["", "Square", "sqr", "honeycom", "triangula", "8", "eigh", "Eight"];
+    let mut name = if draw.once_in(3) { draw.of(&unknown) } else { draw.of(&known) }.as_bytes().to_vec();
     if draw.once_in(6) && !name.is_empty() {
         let i = draw.below(name.len());
         name[i] = draw.word() as u8;
@@ -93,13 +135,15 @@ fn names(draw: &mut Draw, s: &Numbers) -> Result<(), String> {
     let bytes = some_name(draw);
     let (name, mut kind) = (Guarded::new(&bytes), BEFORE);
     let known = unsafe { sys::copperhook_kind_parse(name.pointer(), name.len(), &mut kind) };
-    let expected = std::str::from_utf8(&bytes).ok().and_then(Kind::parse);
+    let theirs = std::str::from_utf8(&bytes).ok().and_then(Kind::parse);
+    let numbered = theirs.map(|k| KINDS.iter().position(|&l| l == k).unwrap());
+    let expected = if bytes == *b"eight" { Some(EIGHT) } else { numbered };
     equal("whether a name is known", known, expected.is_some())?;
-    equal("the kind of a name", kind, expected.map_or(BEFORE, |k| KINDS.iter().position(|&l| l == k).unwrap()))?;
+    equal("the kind of a name", kind, expected.unwrap_or(BEFORE))?;
     name.holds("name", &bytes)?;
     let mut word = Guarded::new(&[7u8; 6]);
     let length = unsafe { sys::copperhook_kind_name(s.kind, word.pointer_mut()) };
-    spelled(&word, length, s.original().kind.name())?;
+    spelled(&word, length, s.name())?;
     let length = unsafe { sys::copperhook_boundary_name(s.periodic, word.pointer_mut()) };
     spelled(&word, length, s.original().bc())
 }
@@ -148,7 +192,7 @@ impl Buffers {
 
 fn raw_edges(draw: &mut Draw, s: &Numbers) -> Result<usize, String> {
     let refusal = s.refusal(true, None);
-    let edges = if refusal == 0 { s.original().raw_edges() } else { Vec::new() };
+    let edges = if refusal == 0 { s.edges() } else { Vec::new() };
     let mut to = Buffers::draw(draw, if refusal == 0 { edges.len() } else { 4 });
     let lengths = (to.early.len(), to.late.len(), to.mag.len());
     let (early, late, mag) = (to.early.pointer_mut(), to.late.pointer_mut(), to.mag.pointer_mut());
@@ -182,15 +226,16 @@ fn dilution(draw: &mut Draw) -> [f64; 3] {
 }
 
 /// The edges as the original draws them; its graph keeps those whose magnitude is not zero.
-fn drawn_edges(s: &Strip, [keep, low, high]: [f64; 3], seed: u64) -> Result<Vec<(usize, usize, f64)>, String> {
+fn drawn_edges(s: &Numbers, by: [f64; 3], seed: u64) -> Result<Vec<(usize, usize, f64)>, String> {
+    let [keep, low, high] = by;
     let mut rng = Rng::new(seed ^ 0xD11);
-    let mut edges = s.raw_edges();
+    let mut edges = s.edges();
     for e in &mut edges {
         let kept = rng.uniform() < keep;
         let magnitude = low + (high - low) * rng.uniform();
         e.2 = if kept { magnitude } else { 0.0 };
     }
-    let graph = s.diluted(keep, low, high, seed);
+    let graph = s.diluted(by, seed, &edges);
     let kept = edges.iter().filter(|e| e.2 != 0.0).map(|&(a, b, m)| ((a.min(b), a.max(b)), m.to_bits()));
     let theirs = graph.edges.iter().copied().zip(graph.mag.iter().map(|m| m.to_bits()));
     if kept.eq(theirs) {
@@ -203,7 +248,7 @@ fn drawn_edges(s: &Strip, [keep, low, high]: [f64; 3], seed: u64) -> Result<Vec<
 fn diluted(draw: &mut Draw, s: &Numbers) -> Result<usize, String> {
     let (by, seed) = (dilution(draw), draw.word());
     let refusal = s.refusal(true, Some(by));
-    let edges = if refusal == 0 { drawn_edges(&s.original(), by, seed)? } else { Vec::new() };
+    let edges = if refusal == 0 { drawn_edges(s, by, seed)? } else { Vec::new() };
     let mut to = Buffers::draw(draw, if refusal == 0 { edges.len() } else { 4 });
     let lengths = (to.early.len(), to.late.len(), to.mag.len());
     let (early, late, mag) = (to.early.pointer_mut(), to.late.pointer_mut(), to.mag.pointer_mut());

@@ -14,17 +14,18 @@ numbered! {
     Square = 0, "the square lattice";
     Triangular = 1, "the triangular lattice";
     Honeycomb = 2, "the honeycomb lattice";
+    Eight = 3, "the square lattice with both diagonals";
 }
 
 impl Kind {
-    /// Returns the kind that a name means, if it means one: square or sq, tri or triangular, honey, honeycomb or hex.
+    /// Returns the kind that a name means, if it means one: square or sq, tri or triangular, honey, honeycomb or hex, eight.
     pub fn parse(name: &str) -> Option<Kind> {
         let mut kind = 0;
         let known = call!(copperhook_kind_parse(; read name; tell kind));
         known.then(|| Kind::from_number(kind).unwrap_or_else(|| unreachable!("the library returned {kind}, which is no kind")))
     }
 
-    /// Returns "square", "tri" or "honey".
+    /// Returns "square", "tri", "honey" or "eight".
     pub fn name(self) -> String {
         // SAFETY: six bytes, as the call writes.
         short_name(|name| unsafe { sys::copperhook_kind_name(self.number(), name) })

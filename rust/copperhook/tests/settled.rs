@@ -213,6 +213,52 @@ fn limits() {
     assert_eq!(near(5).room(), Err(Refusal::BackEdges));
 }
 
+/// A strip of eight neighbours.
+fn eight(width: usize, length: usize, periodic: bool) -> Strip {
+    Strip { kind: Kind::Eight, width, length, periodic }
+}
+
+#[test]
+fn small_strips_of_eight_neighbours() {
+    let joined = |strip: Strip| strip.edge_list().map(|list| list.a.into_iter().zip(list.b).collect::<Vec<_>>());
+    let four = vec![(0, 1), (0, 2), (0, 3), (1, 2), (1, 3), (2, 3)];
+    assert_eq!((joined(eight(2, 2, false)), joined(eight(2, 2, true))), (Ok(four.clone()), Ok(four)));
+    let round = [(0, 1), (0, 3), (0, 4), (1, 3), (1, 2), (1, 4), (1, 5), (2, 4), (0, 2), (2, 5), (2, 3), (0, 5), (3, 4), (4, 5), (3, 5)];
+    assert_eq!(joined(eight(3, 2, true)), Ok(round.to_vec()));
+    assert_eq!(eight(3, 2, true).labelled_pairs(), Strip { kind: Kind::Square, ..eight(3, 2, true) }.labelled_pairs());
+    // no other number is this kind
+    let mut name = [0; 6];
+    let named = |kind, name: &mut [u8; 6]| unsafe { copperhook::sys::copperhook_kind_name(kind, name.as_mut_ptr()) };
+    assert!(named(3, &mut name) == 5 && name == *b"eight\0");
+    assert!([2, 4, 259, usize::MAX].iter().all(|&kind| named(kind, &mut name) == 5 && name == *b"honey\0"));
+}
+
+#[test]
+fn windows_of_strips_of_eight_neighbours() {
+    let windows = [(1, 5, false), (1, 5, true), (2, 5, false), (2, 5, true), (7, 2, false), (7, 2, true), (7, 1, false), (7, 1, true)];
+    let told: Vec<_> = windows.iter().map(|&(w, l, periodic)| eight(w, l, periodic).window().unwrap()).collect();
+    assert_eq!(told, [1, 1, 3, 3, 8, 13, 1, 6]);
+    let room = |width, length, floor| {
+        let list = eight(width, length, true).edge_list().unwrap();
+        Job { graph: list.graph(width * length).with_floor(floor), us: &[0], vs: &[width * length - 1] }.room()
+    };
+    // a cylinder of width 12 is the widest, and a floor above its window makes five edges back from a vertex shorter than that
+    assert!(room(12, 2, 0).is_ok() && room(12, 2, 23).is_ok() && eight(13, 2, true).window() == Ok(25));
+    assert_eq!((room(13, 2, 0), room(12, 2, 24)), (Err(Refusal::Window), Err(Refusal::BackEdges)));
+    assert_eq!((room(3, 2, 5).is_ok(), room(3, 2, 6)), (true, Err(Refusal::BackEdges)));
+}
+
+#[test]
+fn a_cylinder_of_twelve_is_swept_and_one_of_thirteen_refused() {
+    for (width, answer) in [(12, Ok(())), (13, Err(Refusal::Window))] {
+        let list = eight(width, 2, true).edge_list().unwrap();
+        let job = Job { graph: list.graph(2 * width), us: &[0], vs: &[1] };
+        let (mut results, mut work) = ([7.0], vec![0.0; job.room().unwrap_or(1)]);
+        assert_eq!(job.correlations(&vec![1.1; list.m.len()], Manner::Block, &mut results, &mut work), answer);
+        assert!(answer.is_err() == (results == [7.0]) && (answer.is_err() || 0.0 < results[0] && results[0] < 1.0));
+    }
+}
+
 #[test]
 fn a_partition_sum_that_overflows_clears_results_and_room() {
     let job = Job { graph: Graph::new(2, &[0], &[1], &[1.0]), us: &[0], vs: &[1] };
@@ -238,11 +284,11 @@ fn a_diluted_strip_keeps_the_strips_edges() {
 
 #[test]
 fn names() {
-    for (name, kind) in [("sq", Kind::Square), ("triangular", Kind::Triangular), ("hex", Kind::Honeycomb)] {
+    for (name, kind) in [("sq", Kind::Square), ("triangular", Kind::Triangular), ("hex", Kind::Honeycomb), ("eight", Kind::Eight)] {
         assert_eq!(Kind::parse(name), Some(kind));
         assert_eq!(Kind::parse(&kind.name()), Some(kind));
     }
-    assert_eq!((Kind::parse("Square"), Kind::parse("")), (None, None));
+    assert_eq!((Kind::parse("Square"), Kind::parse(""), Kind::parse("8")), (None, None, None));
     let strip = |periodic| Strip { kind: Kind::Square, width: 2, length: 3, periodic };
     assert_eq!((strip(true).boundary(), strip(false).boundary()), ("cyl".to_string(), "free".to_string()));
     assert_eq!((strip(false).vertex(2, 1), strip(false).vertex(3, 0)), (Ok(Some(5)), Ok(None)));

@@ -1,7 +1,7 @@
 //! What the original does where docs/DIFFERENCES.md says that Copperhook does something else, or that document 01's words alone would.
 
 use oracle::glass::{correlations, exhaustive, Plan};
-use oracle::lattice::Graph;
+use oracle::lattice::{Graph, Kind};
 
 /// The original's answer for one pair, block manner, from couplings.
 fn answer(n: usize, edges: &[(usize, usize)], window: usize, couplings: &[f64], pair: (usize, usize)) -> f64 {
@@ -47,6 +47,11 @@ fn vertices_that_are_not_joined_are_far_apart() {
 #[test]
 fn a_component_is_named_by_its_root() {
     assert_eq!(Graph::new(2, &[(0, 1, 1.0)]).components(), [1, 1]);
+}
+
+#[test]
+fn it_has_no_strip_of_eight_neighbours() {
+    assert!(Kind::parse("eight").is_none());
 }
 
 #[test]

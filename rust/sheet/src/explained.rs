@@ -3,7 +3,7 @@
 use crate::options::Options;
 use crate::trouble::Trouble;
 use crate::values::spelled;
-use copperhook::{limits, Refusal, Strip};
+use copperhook::{limits, Kind, Refusal, Strip};
 
 pub fn refused(told: String, refusal: Refusal) -> Trouble {
     Trouble::Refused { told, number: refusal.number() }
@@ -28,6 +28,7 @@ pub fn of_strip(options: &Options, refusal: Refusal) -> Trouble {
 /// Where it is known how the window comes from the width, that is told.
 pub fn window(strip: &Strip, window: usize) -> String {
     let from = match window.checked_sub(strip.width) {
+        _ if strip.kind == Kind::Eight && window + 1 == 2 * strip.width => " (2 width - 1)".to_string(),
         Some(0) => " (the width)".to_string(),
         Some(more) if more <= 2 => format!(" (width + {more})"),
         _ => String::new(),

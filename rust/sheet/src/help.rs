@@ -11,9 +11,10 @@ make, which an option as the first word means, works a sheet out. verify works o
 record that it carries, compares it cell by cell (with --bits bit for bit, else digit by digit) and tells what differs.
 
 the strip
-    --kind K                 square, tri or honey
-    --width N --length N     vertices across and along; up to 1,024 in all. The window, the width or
-                             for a triangular cylinder one more, goes up to 24
+    --kind K                 square, tri (with a diagonal), honey, or eight (with both diagonals)
+    --width N --length N     vertices across and along; up to 1,024 in all. The window, which is the width, for a
+                             triangular cylinder and for eight one more, and for a cylinder of eight that is wider
+                             than 2 twice the width less 1, goes up to 24
     --cylinder               periodic across; without it free
     --dilute KEEP,LO,HI,SEED each edge is kept with probability KEEP, its magnitude drawn from LO to HI
 what is asked of it
@@ -58,6 +59,7 @@ examples
     sheet --kind tri --width 3 --length 8 --cylinder --beta 0.3 --seed 7 --format csv
     sheet --kind tri --width 6 --length 20 --beta 0.5 --sample 100 --chunks 40 --threads 4
     sheet --kind honey --width 4 --length 5 --beta 1 --dilute 0.9,0.5,1.5,11 --pairs 0-19,0-1 --bits
+    sheet --kind eight --width 5 --length 9 --cylinder --beta 0.2,0.3 --seed 4
     sheet verify board.csv
     sheet --kind square --width 8 --length 12 --beta 0.2,0.44,0.8 --signs plus --format svg --output plot.svg
 

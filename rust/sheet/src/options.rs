@@ -240,7 +240,7 @@ impl Written {
         }
         Ok(Options {
             wanted: self.wanted()?,
-            kind: needed(self.kind, "--kind", "square, tri or honey")?,
+            kind: needed(self.kind, "--kind", "square, tri, honey or eight")?,
             width: needed(self.width, "--width", "vertices across")?,
             length: needed(self.length, "--length", "vertices along")?,
             cylinder: self.cylinder,
@@ -333,7 +333,7 @@ mod tests {
     #[test]
     fn what_is_missing_is_named() {
         for (line, told) in [
-            ("--width 2", "--kind is required (square, tri or honey)"),
+            ("--width 2", "--kind is required (square, tri, honey or eight)"),
             ("--kind sq --length 2", "--width is required (vertices across)"),
             ("--kind sq --width 2", "--length is required (vertices along)"),
             ("--kind sq --width 2 --length 2", "--beta is required (inverse temperatures, as 0.44,0.6)"),

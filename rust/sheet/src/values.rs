@@ -3,12 +3,12 @@
 use crate::options::{Dilution, Format, Wanted};
 
 /// The names that the library takes for a kind.
-const KINDS: [&str; 7] = ["square", "sq", "tri", "triangular", "honey", "honeycomb", "hex"];
+const KINDS: [&str; 8] = ["square", "sq", "tri", "triangular", "honey", "honeycomb", "hex", "eight"];
 
 pub fn kind(text: &str) -> Result<String, String> {
     match KINDS.contains(&text) {
         true => Ok(text.to_string()),
-        false => Err("there is no such kind; use square, tri or honey".to_string()),
+        false => Err("there is no such kind; use square, tri, honey or eight".to_string()),
     }
 }
 

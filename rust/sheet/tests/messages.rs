@@ -15,8 +15,8 @@ fn refused(line: &str, message: &str) {
 #[test]
 fn options_that_do_not_fit() {
     refused("", "nothing is asked for; sheet --help tells how to ask");
-    refused("--width 3 --length 4 --beta 1", "--kind is required (square, tri or honey)");
-    refused("--kind cube", "--kind cube: there is no such kind; use square, tri or honey");
+    refused("--width 3 --length 4 --beta 1", "--kind is required (square, tri, honey or eight)");
+    refused("--kind cube", "--kind cube: there is no such kind; use square, tri, honey or eight");
     refused(SMALL, "--beta is required (inverse temperatures, as 0.44,0.6)");
     refused(&format!("{SMALL} --beta 1 --signs plus --seed 3"), "--signs and --seed cannot be combined");
     refused(&format!("{SMALL} --beta 1 --sample 0"), "--sample must be at least 1");
@@ -32,6 +32,11 @@ fn strips_that_cannot_be() {
     let vertices = "340282366920938463426481119284349108225 vertices; at most 1,024 (refusal 15)";
     refused(&format!("--kind sq --width {most} --length {most} --beta 1"), &format!("{most} x {most} = {vertices}"));
     refused("--kind tri --width 24 --length 9 --cylinder --beta 1", "this strip needs a window of 25 (width + 1); at most 24 (refusal 6)");
+    refused(
+        "--kind eight --width 13 --length 2 --cylinder --beta 1",
+        "this strip needs a window of 25 (2 width - 1); at most 24 (refusal 6)",
+    );
+    refused("--kind eight --width 24 --length 2 --beta 1", "this strip needs a window of 25 (width + 1); at most 24 (refusal 6)");
     refused("--kind sq --width 25 --length 3 --beta 1", "this strip needs a window of 25 (the width); at most 24 (refusal 6)");
     refused(&format!("{SMALL} --beta 1 --dilute inf,0,1,3"), "--dilute: keep is inf; it must be finite (refusal 17)");
     let magnitudes = "--dilute: magnitudes 0 to 1025; both must be finite and of size 1,024 at most (refusal 17)";

@@ -5,6 +5,7 @@ use common::{body, folder, printed, table, SQUARE};
 use oracle::glass::{correlations, exhaustive, sample, Acc, Plan};
 use oracle::lattice::{Graph, Kind, Strip};
 use oracle::rng::Rng;
+use oracle::rules::strips::eight_edges;
 use std::process::Command;
 
 #[test]
@@ -81,6 +82,30 @@ fn strips_are_the_originals() {
     }
 }
 
+/// A strip of eight neighbours: the original has its pairs, which are the square's, and takes its edges as a graph.
+fn eight(w: usize, l: usize, periodic: bool) -> (Strip, Graph) {
+    (Strip { kind: Kind::Square, w, l, periodic }, Graph::new(w * l, &eight_edges(w, l, periodic)))
+}
+
+#[test]
+fn strips_of_eight_neighbours_are_the_originals_of_their_edges() {
+    for (w, l, periodic) in [(4, 6, false), (1, 9, false), (2, 5, true), (5, 4, true), (7, 3, true)] {
+        let (strip, graph) = eight(w, l, periodic);
+        let cylinder = if periodic { "--cylinder" } else { "" };
+        let line = format!("--kind eight --width {w} --length {l} {cylinder} --beta 0.7 --seed 12 --format csv --bits");
+        assert_eq!(labels_and_bits(&printed(&line), "correlation"), original(&strip, &graph, 0.7, 12), "{line}");
+        let mut rng = Rng::new(99 ^ 0xD11);
+        let drawn = |(a, b, _): (usize, usize, f64)| {
+            let kept = rng.uniform() < 0.8;
+            (a, b, if kept { 0.5 + rng.uniform() } else { rng.uniform() * 0.0 })
+        };
+        let mut diluted = Graph::new(w * l, &eight_edges(w, l, periodic).into_iter().map(drawn).collect::<Vec<_>>());
+        diluted.win = graph.win;
+        let line = format!("{line} --dilute 0.8,0.5,1.5,99");
+        assert_eq!(labels_and_bits(&printed(&line), "correlation"), original(&strip, &diluted, 0.7, 12), "{line}");
+    }
+}
+
 #[test]
 fn the_settled_squares_totals() {
     let expected = "\
@@ -121,11 +146,18 @@ fn estimated(strip: &Strip, betas: &[f64], total: &Acc) -> [Vec<(String, u64)>; 
 #[test]
 fn totals_are_the_originals() {
     let betas = [0.3, 0.8];
-    for (kind, name, w, l, periodic) in
-        [(Kind::Square, "square", 3, 5, false), (Kind::Tri, "tri", 2, 5, false), (Kind::Honey, "honey", 4, 4, true)]
-    {
+    let lattice = |kind, w, l, periodic| {
         let strip = Strip { kind, w, l, periodic };
-        let graph = strip.graph();
+        (strip.clone(), strip.graph())
+    };
+    for (name, (strip, graph)) in [
+        ("square", lattice(Kind::Square, 3, 5, false)),
+        ("tri", lattice(Kind::Tri, 2, 5, false)),
+        ("honey", lattice(Kind::Honey, 4, 4, true)),
+        ("eight", eight(2, 4, false)),
+        ("eight", eight(3, 2, true)),
+    ] {
+        let Strip { w, l, periodic, .. } = strip;
         let pairs: Vec<(usize, usize)> = strip.pairs().iter().map(|p| (p.1, p.2)).collect();
         let plan = Plan::new(&graph, &pairs);
         let cylinder = if periodic { "--cylinder" } else { "" };

@@ -1,7 +1,7 @@
 -- What holds of the edge list of every strip that is not refused: its edges lie inside, smaller end first, no two join the same vertices, there are
 -- at most 4,096, and the longest reaches as far as `reach` says.
 use mathlib.Core.Path.{_≡_, refl, sym, _∙_}
-use mathlib.Core.Bool.{Bool, true, false, not, _||_, _&&_}
+use mathlib.Core.Bool.{Bool, true, false, _&&_}
 use mathlib.Core.List.{List, [], _∷_, _++_, append-nil}
 use mathlib.Core.Logic.{dite}
 use Prim.Native.Nat.{ℕ, zero, suc, _+_, _-_, _*_, _/_, _%_, _≤_, _<_}
@@ -12,14 +12,13 @@ use native.Mathlib.Omega.{arith}
 use lib.Dec.{eqb, ltb}
 use lib.ListN.{length, getD, length-append, length-map, List·getD-append, List·getD-map}
 use lib.Seq.{getD-at}
-use borrow.Author.Tests.{ltb-true, le-ltb, eqb-true, ne-eqb, not-true}
+use borrow.Author.Tests.{ltb-true, le-ltb, eqb-true, ne-eqb}
 use Rattle.list_laws.specs.Search.{some}
 use Rattle.list_laws.specs.Laws.Search.{none-of}
 use Rattle.refusals.specs.Request.{joinedTwice, sameEnds}
 use Rattle.strip.specs.Laws.Tests.{and-true}
-use Rattle.strip.specs.Kinds.{isTri}
 use Rattle.strip.specs.Vertices.{vertex}
-use Rattle.strip_bonds.specs.Edges.{Edge, edge, given, brick, across, wrap, along, rising, falling, rules, added, edgesBelow, edges, earlyEnds, lateEnds}
+use Rattle.strip_bonds.specs.Edges.{Edge, edge, given, brick, rises, falls, hasNext, across, wrap, along, rising, falling, rules, added, edgesBelow, edges, earlyEnds, lateEnds}
 use Rattle.strip.specs.Requests.{oddCylinder}
 use Rattle.strip.specs.Sides.{Sides}
 use Rattle.strip_bonds.specs.Sites.{siteCount}
@@ -105,23 +104,20 @@ module _ (s : Strip) (S : Sides (s .w) (s .l)) (o : oddCylinder s ≡ false) (x 
   rising-sorted : Sorted s (5 * vertex (s .w) x y + 3) es → Sorted s (5 * vertex (s .w) x y + 3 + 1) (es ++ rising s x y)
   unfolding rising
   rising-sorted T =
-      let k = ltb 2 (s .w) || ltb (y + 1) (s .w) in
-      sorted-given T (isTri (s .kind) && s .periodic && ltb (x + 1) (s .l) && k) (edge (vertex (s .w) x y) (vertex (s .w) (x + 1) ((y + 1) % s .w)))
+      sorted-given T (rises s && ltb (x + 1) (s .l) && hasNext s y) (edge (vertex (s .w) x y) (vertex (s .w) (x + 1) ((y + 1) % s .w)))
       (λ t.
-      let a = and-true (isTri (s .kind) && s .periodic && ltb (x + 1) (s .l)) k t in
-      let b = and-true (isTri (s .kind) && s .periodic) (ltb (x + 1) (s .l)) (a .0) in
-      let c = and-true (isTri (s .kind)) (s .periodic) (b .0) in
-      rising-sound s S x y row column (c .0) (c .1) (ltb-true (x + 1) (s .l) (b .1)) (a .1))
+      let a = and-true (rises s && ltb (x + 1) (s .l)) (hasNext s y) t in
+      let b = and-true (rises s) (ltb (x + 1) (s .l)) (a .0) in
+      rising-sound s S x y row column (b .0) (ltb-true (x + 1) (s .l) (b .1)) (a .1))
 
   falling-sorted : Sorted s (5 * vertex (s .w) x y + 4) es → Sorted s (5 * vertex (s .w) x y + 4 + 1) (es ++ falling s x y)
   unfolding falling
   falling-sorted T =
-      sorted-given T (isTri (s .kind) && not (s .periodic) && ltb (x + 1) (s .l) && ltb (y + 1) (s .w)) (edge (vertex (s .w) x (y + 1)) (vertex (s .w) (x + 1) y))
+      sorted-given T (falls s && ltb (x + 1) (s .l) && hasNext s y) (edge (vertex (s .w) x ((y + 1) % s .w)) (vertex (s .w) (x + 1) y))
       (λ t.
-      let a = and-true (isTri (s .kind) && not (s .periodic) && ltb (x + 1) (s .l)) (ltb (y + 1) (s .w)) t in
-      let b = and-true (isTri (s .kind) && not (s .periodic)) (ltb (x + 1) (s .l)) (a .0) in
-      let c = and-true (isTri (s .kind)) (not (s .periodic)) (b .0) in
-      falling-sound s S x y row column (not-true (s .periodic) (c .1)) (ltb-true (x + 1) (s .l) (b .1)) (ltb-true (y + 1) (s .w) (a .1)))
+      let a = and-true (falls s && ltb (x + 1) (s .l)) (hasNext s y) t in
+      let b = and-true (falls s) (ltb (x + 1) (s .l)) (a .0) in
+      falling-sound s S x y row column (b .0) (ltb-true (x + 1) (s .l) (b .1)) (a .1))
 
 -- ---- all sites
 none-below : (s : Strip) → edgesBelow s 0 ≡ []
@@ -201,15 +197,14 @@ unfolding across wrap along rising falling
 site-most s x y =
     let c = edge (vertex (s .w) x y) (vertex (s .w) (x + 1) y) in
     let d = edge (vertex (s .w) x y) (vertex (s .w) (x + 1) ((y + 1) % s .w)) in
-    let f = edge (vertex (s .w) x (y + 1)) (vertex (s .w) (x + 1) y) in
-    let k = ltb 2 (s .w) || ltb (y + 1) (s .w) in
+    let f = edge (vertex (s .w) x ((y + 1) % s .w)) (vertex (s .w) (x + 1) y) in
     let both = apart (s .periodic) (ltb 2 (s .w)) (brick (s .kind) x y) (decLt (y + 1) (s .w)) in
     omega (
       arith,
       both,
       one-most (ltb (x + 1) (s .l)) c,
-      one-most (isTri (s .kind) && s .periodic && ltb (x + 1) (s .l) && k) d,
-      one-most (isTri (s .kind) && not (s .periodic) && ltb (x + 1) (s .l) && ltb (y + 1) (s .w)) f,
+      one-most (rises s && ltb (x + 1) (s .l) && hasNext s y) d,
+      one-most (falls s && ltb (x + 1) (s .l) && hasNext s y) f,
     )
   where
     apart : (p t k : Bool) → Dec (y + 1 < s .w)

@@ -1,13 +1,14 @@
 //! Answers within their proved bounds, against exact fractions: jobs of up to 11 vertices with factors up to the ends of what a bound is known
-//! for. The worst error over its bound is printed. `cargo test --release --package compare --test exact -- 100000` takes as many jobs, and the
+//! for, and small strips of eight neighbours, which the original does not have. The worst error over its bound is printed. `cargo test --release --package compare --test exact -- 100000` takes as many jobs, and the
 //! seed is from the clock then and printed; `COPPERHOOK_SEED=N` takes another.
 
 mod natural;
 mod sums;
 
-use copperhook::{estimate, Estimate, Graph, Job, Manner, Sampling};
+use copperhook::{estimate, Estimate, Graph, Job, Kind, Manner, Sampling, Strip};
 use natural::Natural;
 use oracle::rng::Rng;
+use oracle::rules::strips::eight_edges;
 use std::time::{Instant, SystemTime, UNIX_EPOCH};
 use sums::{parts, Sums};
 
@@ -15,6 +16,8 @@ const MANNERS: [Manner; 2] = [Manner::PerElement, Manner::Block];
 /// Jobs without an argument, of correlations; those of totals are fewer.
 const JOBS: u64 = 600;
 const SEED: u64 = 20261116;
+/// Strips of eight neighbours, of which the last has 1,024 configurations.
+const EIGHT: [(usize, usize, bool); 5] = [(2, 2, false), (2, 2, true), (1, 4, true), (2, 3, false), (3, 2, true)];
 
 struct Draw(Rng);
 
@@ -53,6 +56,17 @@ impl Shape {
             }
             edges.extend(lengths.iter().map(|d| (t - d, t)));
         }
+        Shape { n, window, near, edges }
+    }
+
+    /// A strip of eight neighbours, as the library lists it.
+    fn eight(width: usize, length: usize, periodic: bool) -> Shape {
+        let list = Strip { kind: Kind::Eight, width, length, periodic }.edge_list().unwrap();
+        let edges: Vec<(usize, usize)> = list.a.into_iter().zip(list.b).collect();
+        let of_02 = eight_edges(width, length, periodic);
+        assert!(of_02.iter().map(|e| (e.0, e.1)).eq(edges.iter().copied()));
+        let (n, window) = (width * length, edges.iter().map(|e| e.1 - e.0).max().unwrap());
+        let near = (0..n).map(|v| edges.iter().filter(|e| e.1 == v && v - e.0 < window).count()).max().unwrap();
         Shape { n, window, near, edges }
     }
 
@@ -342,6 +356,10 @@ fn main() {
     for job in 0..jobs.div_ceil(6) {
         let (n, least, most) = if job % 50 == 0 { (7, 11, 11) } else { (6, 0, 6) };
         let shape = shape_with_free_edges(&mut draw, n, least, most);
+        totals(&mut draw, &shape, [&mut stored, &mut means, &mut drawn]);
+    }
+    for (width, length, periodic) in EIGHT {
+        let shape = Shape::eight(width, length, periodic);
         totals(&mut draw, &shape, [&mut stored, &mut means, &mut drawn]);
     }
     stored.say("stored correlations", start);

@@ -98,7 +98,8 @@ pub struct StripCall {
 impl StripCall {
     /// Checks 15 and 16 of a strip, and 17 of a dilution.
     pub fn refusal(&self) -> usize {
-        let odd_cylinder = self.kind >= 2 && self.periodic && self.w % 2 == 1;
+        let honeycomb = ![0, 1, 3].contains(&self.kind);
+        let odd_cylinder = honeycomb && self.periodic && self.w % 2 == 1;
         if self.w == 0 || self.l == 0 || self.w as u128 * self.l as u128 > 1024 {
             15
         } else if self.with_edges && odd_cylinder {
