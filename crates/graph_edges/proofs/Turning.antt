@@ -17,7 +17,7 @@ use Rattle.list_laws.specs.Tabulate.{tabulate}
 use Rattle.list_laws.specs.Laws.Tabulate.{tabulate-suc, tabulate-length, tabulated}
 use Rattle.list_laws.specs.Front.{over}
 use Rattle.list_laws.specs.Laws.Front.{over-more, over-behind, over-front, over-over}
-use Rattle.refusals.specs.Edges.{Kept, kept, earlyEnds, lateEnds, keptEarly, keptLate}
+use Rattle.refusals.specs.Edges.{Kept, kept, earlyEnds, lateEnds, places, keptEarly, keptLate}
 use Rattle.kept_edges.specs.Keep.{Written}
 use Rattle.graph_edges.specs.Graphs.{Set, Turned, turned, rotate}
 use Rattle.graph_edges.specs.declared.Graph.{Graph}
@@ -159,29 +159,30 @@ graphOf other (Made.Kept g) = g
 graphOf other (Made.Refused k) = other
 
 -- a refused graph has nothing to turn
-pub refused-turned : (K : ℕ) {n floor k : ℕ} {es : List Kept} {r : Made} {early early′ late late′ : List ℕ} {mag mag′ : List Float} → r ≡ Made.Refused k
-    → Set K n floor es r early early′ late late′ mag mag′ → Set K n floor (rotate n es) (Made.Refused k) early early′ late late′ mag mag′
+pub refused-turned : (K : ℕ) {n floor k : ℕ} {es : List Kept} {r : Made} {early early′ late late′ : List ℕ} {mag mag′ : List Float} {raw raw′ : List ℕ} → r ≡ Made.Refused k
+    → Set K n floor es r early early′ late late′ mag mag′ raw raw′ → Set K n floor (rotate n es) (Made.Refused k) early early′ late late′ mag mag′ raw raw′
 refused-turned zero p S = let apart = ap refusals (sym p ∙ S .answer) in absurd (omega arith)
-refused-turned (suc j) p S = record { answer = sym p ∙ S .answer; earlies = S .earlies; lates = S .lates; mags = S .mags }
+refused-turned (suc j) p S = record { answer = sym p ∙ S .answer; earlies = S .earlies; lates = S .lates; mags = S .mags; raws = S .raws }
 
 -- an accepted one was not refused, and its edges were written
-pub record Given (K n floor : ℕ) (g : Graph) (a b : List ℕ) (m : List Float) (early early′ late late′ : List ℕ) (mag mag′ : List Float) : Type 0 where
+pub record Given (K n floor : ℕ) (g : Graph) (a b : List ℕ) (m : List Float) (early early′ late late′ : List ℕ) (mag mag′ : List Float) (raw raw′ : List ℕ) : Type 0 where
   pub accepted : K ≡ 0
   pub graph : g ≡ record { n = n; win = windowOf floor (keptEarly a b m) (keptLate a b m); edges = length (kept a b m) }
   pub written : Written a b m (length a) (g .edges) early early′ late late′ mag mag′
+  pub raws : raw′ ≡ over (places (kept a b m)) raw
 
-pub given : (K : ℕ) {n floor : ℕ} {g : Graph} {a b : List ℕ} {m : List Float} {r : Made} {early early′ late late′ : List ℕ} {mag mag′ : List Float} → r ≡ Made.Kept g
-    → Set K n floor (kept a b m) r early early′ late late′ mag mag′ → Given K n floor g a b m early early′ late late′ mag mag′
+pub given : (K : ℕ) {n floor : ℕ} {g : Graph} {a b : List ℕ} {m : List Float} {r : Made} {early early′ late late′ : List ℕ} {mag mag′ : List Float} {raw raw′ : List ℕ} → r ≡ Made.Kept g
+    → Set K n floor (kept a b m) r early early′ late late′ mag mag′ raw raw′ → Given K n floor g a b m early early′ late late′ mag mag′ raw raw′
 given zero {g = g} p S =
     let same = ap (graphOf g) (sym p ∙ S .answer) in
-    record { accepted = refl; graph = same; written = record { edges = ap (λ x. x .edges) same; earlies = S .earlies; lates = S .lates; mags = S .mags } }
+    record { accepted = refl; graph = same; written = record { edges = ap (λ x. x .edges) same; earlies = S .earlies; lates = S .lates; mags = S .mags }; raws = S .raws }
 given (suc j) p S = let apart = ap refusals (sym p ∙ S .answer) in absurd (omega arith)
 
 -- the turned graph as the entry leaves it
-pub rotated-given : (K : ℕ) {n floor : ℕ} {g : Graph} {a b : List ℕ} {m : List Float} {early₀ early early′ late₀ late late′ : List ℕ} {mag₀ mag : List Float}
-    → Given K n floor g a b m early₀ early late₀ late mag₀ mag → some (badEnds n a b) (length a) ≡ false → Turned n (g .edges) early early′ late late′
-    → Set K n floor (rotate n (kept a b m)) (Made.Kept g) early₀ early′ late₀ late′ mag₀ mag
-rotated-given zero {n} {floor} {a = a} {b = b} {m = m} {mag₀ = mag₀} G ok T =
+pub rotated-given : (K : ℕ) {n floor : ℕ} {g : Graph} {a b : List ℕ} {m : List Float} {early₀ early early′ late₀ late late′ : List ℕ} {mag₀ mag : List Float} {raw₀ raw : List ℕ}
+    → Given K n floor g a b m early₀ early late₀ late mag₀ mag raw₀ raw → some (badEnds n a b) (length a) ≡ false → Turned n (g .edges) early early′ late late′
+    → Set K n floor (rotate n (kept a b m)) (Made.Kept g) early₀ early′ late₀ late′ mag₀ mag raw₀ raw
+rotated-given zero {n} {floor} {a = a} {b = b} {m = m} {mag₀ = mag₀} {raw₀ = raw₀} G ok T =
     let W = G .written in
     let turn = turned-kept W (W .edges) T in
     let es = kept a b m in
@@ -190,5 +191,6 @@ rotated-given zero {n} {floor} {a = a} {b = b} {m = m} {mag₀ = mag₀} G ok T 
       earlies = turn .0;
       lates = turn .1;
       mags = W .mags ∙ ap (λ l. over l mag₀) (sym (map-map (λ u. u .magnitude) _ es));
+      raws = G .raws ∙ ap (λ l. over l raw₀) (sym (map-map (λ u. u .place) _ es));
     }
 rotated-given (suc j) G ok T = let z = G .accepted in absurd (omega arith)
