@@ -5,7 +5,7 @@ use mathlib.Core.List.{List, [], _∷_, map, map-map}
 use Prim.Native.Nat.{ℕ, zero, suc, _+_, _-_, _≤_, _<_, max}
 use native.Mathlib.Numerals.{add-one}
 use native.Mathlib.Omega.{arith}
-use lib.Ieee.{Float, nan}
+use lib.Ieee.{Float}
 use lib.ListN.{length, getD, set, length-set, length-map}
 use Rattle.list_laws.specs.Search.{some}
 use Rattle.list_laws.specs.Most.{most}
@@ -13,6 +13,7 @@ use Rattle.list_laws.specs.Laws.Most.{most-ext}
 use Rattle.transfer_matrix.specs.Job.{longest, windowOf}
 use Rattle.refusals.specs.Request.{badEnds}
 use Rattle.refusals.specs.Laws.Accepted.{kept-inside}
+use Rattle.refusals.specs.Laws.Places.{column-at}
 use Rattle.list_laws.specs.Tabulate.{tabulate}
 use Rattle.list_laws.specs.Laws.Tabulate.{tabulate-suc, tabulate-length, tabulated}
 use Rattle.list_laws.specs.Front.{over}
@@ -73,14 +74,6 @@ turning-all {n} {k} {e = e} T h =
 
 -- ---- a column of the turned edges is the turned column
 
-none : Kept
-none = record { early = 0; late = 0; magnitude = nan; place = 0 }
-
-map-at : (f : Kept → ℕ) (es : List Kept) (i : ℕ) → i < length es → getD (map f es) i 0 ≡ f (getD es i none)
-map-at f [] i h = absurd (omega arith)
-map-at f (e ∷ es) zero h = refl
-map-at f (e ∷ es) (suc i) h = map-at f es i (omega arith)
-
 column-turned : (n : ℕ) (f : Kept → ℕ) (es : List Kept) (l l₀ : List ℕ) (k : ℕ) → k ≡ length es → l ≡ over (map f es) l₀
     → tabulate (λ e. turned n (getD l e 0)) k ≡ map (λ e. turned n (f e)) es
 column-turned n f es l l₀ k p q =
@@ -88,8 +81,8 @@ column-turned n f es l l₀ k p q =
   where
     at : (i : ℕ) → i < length es → getD (map (λ e. turned n (f e)) es) i 0 ≡ turned n (getD (over (map f es) l₀) i 0)
     at i h =
-        map-at (λ e. turned n (f e)) es i h
-        ∙ ap (turned n) (sym (over-front (map f es) l₀ i 0 (rw (length-map es f) h) ∙ map-at f es i h))
+        column-at (λ e. turned n (f e)) es i 0 h
+        ∙ ap (turned n) (sym (over-front (map f es) l₀ i 0 (rw (length-map es f) h) ∙ column-at f es i 0 h))
 
 -- turned after they were kept
 pub turned-kept : {n : ℕ} {a b : List ℕ} {m : List Float} {j k : ℕ} {early₀ early late₀ late : List ℕ} {mag₀ mag : List Float} {early′ late′ : List ℕ}
@@ -125,10 +118,10 @@ window-turned n floor a b m ok = ap (λ k. max 1 (max floor k)) (lengths ∙ sym
         → getD (lateEnds es) e 0 - getD (earlyEnds es) e 0 ≡ getD (map (λ k. turned n (k .early)) es) e 0 - getD (map (λ k. turned n (k .late)) es) e 0
     same e h =
         let i = kept-inside n a b m ok e h in
-        let p = map-at (λ k. k .early) es e h in
-        let q = map-at (λ k. k .late) es e h in
-        let p′ = map-at (λ k. turned n (k .early)) es e h in
-        let q′ = map-at (λ k. turned n (k .late)) es e h in
+        let p = column-at (λ k. k .early) es e 0 h in
+        let q = column-at (λ k. k .late) es e 0 h in
+        let p′ = column-at (λ k. turned n (k .early)) es e 0 h in
+        let q′ = column-at (λ k. turned n (k .late)) es e 0 h in
         omega (arith, i .0, i .1)
 
     lengths : span (earlyEnds es) (lateEnds es) ≡ span (map (λ k. turned n (k .late)) es) (map (λ k. turned n (k .early)) es)
