@@ -1,6 +1,6 @@
 -- What `Graph::new` and `rotated` answer and leave.
 use mathlib.Core.Path.{_≡_}
-use mathlib.Core.Bool.{Bool, _||_}
+use mathlib.Core.Bool.{Bool, cond, _||_}
 use mathlib.Core.List.{List, map}
 use Prim.Native.Nat.{ℕ, zero, suc, _-_}
 use lib.Dec.{ltb}
@@ -19,6 +19,14 @@ use Rattle.graph_edges.specs.declared.Made.the-variants.{Kept, Refused}
 -- k edges do not fit into four buffers
 abbrev pub tooShort : ℕ → List ℕ → List ℕ → List Float → List ℕ → Bool
 tooShort k early late mag raw = ltb (length early) k || ltb (length late) k || ltb (length mag) k || ltb (length raw) k
+
+-- kept edges with their raw places at the fronts of four lists; or 12, and the lists as they were
+pub record WrittenKept (es : List Edges.Kept) (r : ℕ) (early early′ late late′ : List ℕ) (mag mag′ : List Float) (raw raw′ : List ℕ) : Type 0 where
+  pub refusal : r ≡ cond (tooShort (length es) early late mag raw) 12 0
+  pub earlies : early′ ≡ left r (over (earlyEnds es) early) early
+  pub lates : late′ ≡ left r (over (lateEnds es) late) late
+  pub mags : mag′ ≡ left r (over (magnitudes es) mag) mag
+  pub raws : raw′ ≡ left r (over (places es) raw) raw
 
 -- the graph of some kept edges, or the refusal
 abbrev pub made : ℕ → Graph → Made

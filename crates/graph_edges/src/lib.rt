@@ -7,7 +7,7 @@ ghost use lib.ListN.{length, getD};
 ghost use Rattle.refusals.specs.Edges.{kept};
 ghost use Rattle.refusals.specs.Request.{graphRequest};
 ghost use Rattle.refusals.specs.Refusal.{refusal, ofGraphWithBuffers};
-ghost use Rattle.graph_edges.specs.Graphs.{tooShort, Set, rotate, Turned};
+ghost use Rattle.graph_edges.specs.Graphs.{tooShort, WrittenKept, Set, rotate, Turned};
 use kept_edges::build::build;
 use kept_edges::keep::keep;
 use kept_edges::keep::keep_places;
@@ -54,12 +54,11 @@ impl Graph {
             return Made::Refused(refusal);
         }
         let edges = g.edges;
-        if is_too_short(edges, early.len(), late.len(), mag.len(), raw.len()) {
-            return Made::Refused(12);
-        }
         let win = window_of(floor, &first[..edges], &second[..edges]);
-        keep(a, b, m, early, late, mag);
-        keep_places(m, raw);
+        let short = write_kept(edges, a, b, m, early, late, mag, raw);
+        if short != 0 {
+            return Made::Refused(short);
+        }
         Made::Kept(Graph { n, win, edges })
     }
 
@@ -103,6 +102,29 @@ fn is_too_short(edges: usize, early: usize, late: usize, mag: usize, raw: usize)
         return true;
     }
     raw < edges
+}
+
+// Writes the kept edges and their raw places to the fronts of four lists. Returns 0, or 12 where a list is too short.
+pub fn write_kept(
+    edges: usize,
+    a: &[usize],
+    b: &[usize],
+    m: &[f64],
+    early: &mut [usize],
+    late: &mut [usize],
+    mag: &mut [f64],
+    raw: &mut [usize],
+) -> usize
+    requires { ⌜ (length (now b) ≡ length (now a)) × (length (now m) ≡ length (now a)) × (edges ≡ length (kept (now a) (now b) (now m))) ⌝ }
+    ensures { λ r. ⌜ WrittenKept (kept (now (a .entry)) (now (b .entry)) (now (m .entry))) r (now (early .entry)) (now (early .exit))
+        (now (late .entry)) (now (late .exit)) (now (mag .entry)) (now (mag .exit)) (now (raw .entry)) (now (raw .exit)) ⌝ }
+{
+    if is_too_short(edges, early.len(), late.len(), mag.len(), raw.len()) {
+        return 12;
+    }
+    keep(a, b, m, early, late, mag);
+    keep_places(m, raw);
+    0
 }
 
 // The first edges with their ends turned, v to n - 1 - v: the later end comes first.
