@@ -1,16 +1,14 @@
 -- The list that `diluted` wrote, and the graph of what is kept of it.
 use mathlib.Core.Path.{_≡_, refl, sym, ap, ap₂, _∙_}
 use mathlib.Core.Bool.{cond}
-use mathlib.Core.List.{List, map}
-use Prim.Native.Nat.{ℕ, zero, suc, _*_, _≤_, max}
+use mathlib.Core.List.{List}
+use Prim.Native.Nat.{ℕ, zero, suc, _*_, _≤_}
 use native.Mathlib.Omega.{arith}
 use lib.Ieee.{Float}
-use lib.ListN.{length, take, drop, length-map, length-take}
-use lib.Seq.{take-at}
+use lib.ListN.{length, take, length-map, length-take}
 use Rattle.list_laws.specs.Front.{over}
-use Rattle.list_laws.specs.Most.{most}
 use Rattle.list_laws.specs.Laws.Tabulate.{tabulate-length}
-use Rattle.transfer_matrix.specs.Job.{longest, windowOf}
+use Rattle.transfer_matrix.specs.Job.{windowOf}
 use Rattle.refusals.specs.Answers.{answered, left}
 use Rattle.refusals.specs.StripRequest.{Dilution}
 use Rattle.refusals.specs.Edges.{Kept, kept}
@@ -27,9 +25,11 @@ use Rattle.strip.specs.declared.strip.Strip.{Strip}
 use Rattle.strip_bonds.specs.Edges.{edges, earlyEnds, lateEnds}
 use Rattle.strip_dilution.specs.Diluted.{magnitude, stateAt, magnitudes, dilutedRefusal}
 use Rattle.strip_window.specs.Window as Strips
-use Rattle.strip_window.specs.Laws.EdgeLaws.{ends-inside, few-edges}
+use Rattle.strip_window.specs.Laws.EdgeLaws.{few-edges}
 use Rattle.strip_graph.specs.DilutedGraph.{dilutedEdges, graphRefusal}
 use Rattle.strip_graph.specs.Laws.Accepted.{AcceptedStrip, list-accepted, list-refused}
+use Rattle.strip_graph.specs.Laws.Lists.{front, same-kept}
+use Rattle.strip_graph.specs.Laws.Window.{strip-ordered, strip-window}
 
 -- ---- the kept edges are counted by their places
 
@@ -59,9 +59,6 @@ pub record Drawn (s : Strip) (d : Dilution) (seed k : ℕ) (first second : List 
   pub passed : (early late : List ℕ) (mag : List Float) (raw : List ℕ)
       → cond (tooShort (length (dilutedEdges s d seed)) early late mag raw) 12 0 ≡ graphRefusal s d seed early late mag raw
 
-front : {A : Type 0} (new old l : List A) (k n : ℕ) → length new ≡ n → k ≡ n → l ≡ over new old → take k l ≡ new
-front new old l k n p q e = rw e (take-at new (drop (length new) old) k (p ∙ sym q))
-
 pub drawn : (s : Strip) (d : Dilution) (seed k : ℕ) (first second : List ℕ) (size : List Float) {r : Answer} {first′ second′ : List ℕ} {size′ : List Float}
     → r ≡ Number k → r ≡ answered (dilutedRefusal s d first second size) (length (edges s))
     → first′ ≡ left (dilutedRefusal s d first second size) (over (earlyEnds (edges s)) first) first
@@ -88,11 +85,7 @@ drawn s d seed k first second size {r = r} {first′ = first′} {second′ = se
 module _ {s : Strip} {d : Dilution} {seed k : ℕ} {first second : List ℕ} {size : List Float} (D : Drawn s d seed k first second size) where
   -- its edges need no check
   pub drawn-ordered : Ordered (take k first) (take k second)
-  drawn-ordered =
-      let p = length-map (edges s) (λ e. e .early) in
-      let q = length-map (edges s) (λ e. e .late) in
-      rw (D .firsts, D .seconds)
-      (record { lengths = q ∙ sym p; ends = λ i h. ends-inside s (D .accepted .sides) (D .accepted .even) i (omega (arith, p)) .0 })
+  drawn-ordered = rw (D .firsts, D .seconds) (strip-ordered s (D .accepted .sides) (D .accepted .even))
 
   pub drawn-sizes : length (take k size) ≡ length (take k first)
   drawn-sizes =
@@ -126,15 +119,6 @@ module _ {s : Strip} {d : Dilution} {seed k : ℕ} {first second : List ℕ} {si
 
   pub size-fits : k ≤ length size
   size-fits = front-fits size size-part
-
--- the window of all its edges is the strip's
-strip-window : (s : Strip) → windowOf 0 (earlyEnds (edges s)) (lateEnds (edges s)) ≡ Strips.windowOf s
-unfolding windowOf longest
-strip-window s = rw (length-map (edges s) (λ e. e .early)) (omega arith)
-
--- the kept edges of equal lists
-same-kept : {a a′ b b′ : List ℕ} {m m′ : List Float} → a ≡ a′ → b ≡ b′ → m ≡ m′ → kept a b m ≡ kept a′ b′ m′
-same-kept p q r = rw (p, q, r)
 
 -- what is left by a call for a graph, whose refusal, vertices, floor and edges are known otherwise
 moved : {K K′ n n′ floor floor′ : ℕ} {es es′ : List Kept} {r : Made} {early early′ late late′ : List ℕ} {mag mag′ : List Float} {raw raw′ : List ℕ}

@@ -1,5 +1,5 @@
 -- What a call for a graph leaves, from the refusal that was found and the lists as they were written.
-use mathlib.Core.Path.{_≡_, refl, ap, ap₂}
+use mathlib.Core.Path.{_≡_, refl, sym, ap, ap₂, _∙_}
 use mathlib.Core.List.{List}
 use Prim.Native.Nat.{ℕ, zero, suc}
 use native.Mathlib.Omega.{arith}
@@ -8,6 +8,7 @@ use lib.ListN.{length}
 use Rattle.transfer_matrix.specs.Job.{windowOf}
 use Rattle.refusals.specs.Edges.{Kept, earlyEnds, lateEnds}
 use Rattle.graph_edges.specs.Graphs.{WrittenKept, Set}
+use Rattle.graph_edges.specs.declared.Made.{Made}
 use Rattle.graph_edges.specs.declared.Made.the-variants as Made
 
 -- refused before anything was written
@@ -37,3 +38,15 @@ module _ {es : List Kept} {early early′ late late′ : List ℕ} {mag mag′ :
         raws = rw z at (W .raws);
       }
   kept-set (suc j) n floor w k r e z W q p = absurd (omega arith)
+
+-- two accepted calls for the graph of the same edges, whose lists held the same, answer and leave the same
+pub alike : {K K′ n floor : ℕ} {es : List Kept} {r r′ : Made} {early early′ early″ late late′ late″ : List ℕ} {mag mag′ mag″ : List Float} {raw raw′ raw″ : List ℕ}
+    → K ≡ 0 → K′ ≡ 0 → Set K n floor es r early early′ late late′ mag mag′ raw raw′ → Set K′ n floor es r′ early early″ late late″ mag mag″ raw raw″
+    → (r ≡ r′) × (early′ ≡ early″) × (late′ ≡ late″) × (mag′ ≡ mag″) × (raw′ ≡ raw″)
+alike p q S T = (
+  rw p at (S .answer) ∙ sym (rw q at (T .answer)),
+  rw p at (S .earlies) ∙ sym (rw q at (T .earlies)),
+  rw p at (S .lates) ∙ sym (rw q at (T .lates)),
+  rw p at (S .mags) ∙ sym (rw q at (T .mags)),
+  rw p at (S .raws) ∙ sym (rw q at (T .raws)),
+)

@@ -1,5 +1,6 @@
--- No kept edge is longer than the edges that it is kept of.
+-- No kept edge is longer than the edges that it is kept of, and these are the strip's.
 use mathlib.Core.Path.{_≡_, sym, ap, _∙_}
+use mathlib.Core.Bool.{false}
 use mathlib.Core.List.{List}
 use Prim.Native.Nat.{ℕ, _-_, _≤_, _<_, max}
 use native.Mathlib.Nat.{le-trans}
@@ -13,6 +14,12 @@ use Rattle.refusals.specs.Edges.{kept, keptAt, keptEarly, keptLate}
 use Rattle.refusals.specs.Places.{edgeOf}
 use Rattle.refusals.specs.Laws.Places.{column-at, kept-remember}
 use Rattle.kept_edges.specs.Keep.{Ordered}
+use Rattle.strip.specs.Requests.{oddCylinder}
+use Rattle.strip.specs.Sides.{Sides}
+use Rattle.strip.specs.declared.strip.Strip.{Strip}
+use Rattle.strip_bonds.specs.Edges.{edges, earlyEnds, lateEnds}
+use Rattle.strip_window.specs.Window as Strips
+use Rattle.strip_window.specs.Laws.EdgeLaws.{ends-inside}
 
 module _ (a b : List ℕ) (m : List Float) (O : Ordered a b) where
   kept-near : (i : ℕ) → i < length (kept a b m) → getD (keptLate a b m) i 0 - getD (keptEarly a b m) i 0 ≤ most (λ e. getD b e 0 - getD a e 0) (length a)
@@ -34,3 +41,14 @@ module _ (a b : List ℕ) (m : List Float) (O : Ordered a b) where
       let l = most-least (λ e. getD (keptLate a b m) e 0 - getD (keptEarly a b m) e 0) (length (keptEarly a b m)) (most (λ e. getD b e 0 - getD a e 0) (length a))
       (λ i h. kept-near i (omega (arith, length-map (kept a b m) (λ e. e .early)))) in
       omega arith
+
+-- the edges of a strip, smaller end first, and their window
+pub strip-ordered : (s : Strip) → Sides (s .w) (s .l) → oddCylinder s ≡ false → Ordered (earlyEnds (edges s)) (lateEnds (edges s))
+strip-ordered s S o =
+    let p = length-map (edges s) (λ e. e .early) in
+    let q = length-map (edges s) (λ e. e .late) in
+    record { lengths = q ∙ sym p; ends = λ i h. ends-inside s S o i (omega (arith, p)) .0 }
+
+pub strip-window : (s : Strip) → windowOf 0 (earlyEnds (edges s)) (lateEnds (edges s)) ≡ Strips.windowOf s
+unfolding windowOf longest
+strip-window s = rw (length-map (edges s) (λ e. e .early)) (omega arith)
