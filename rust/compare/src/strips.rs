@@ -1,4 +1,6 @@
-//! Strips: vertices, window, edges, dilution, standard pairs and names.
+//! Strips: vertices, window, edges, dilution and its graph, standard pairs and names.
+
+mod graphs;
 
 use crate::draw::Draw;
 use crate::guarded::{equal, same, Guarded};
@@ -48,7 +50,7 @@ pub fn try_one(draw: &mut Draw) -> Result<usize, String> {
 fn all_entries(draw: &mut Draw, s: &Numbers) -> Result<usize, String> {
     vertices(draw, s)?;
     names(draw, s)?;
-    let answers = [raw_edges(draw, s)?, diluted(draw, s)?, pairs(draw, s)?];
+    let answers = [raw_edges(draw, s)?, diluted(draw, s)?, graphs::diluted_graph(draw, s)?, pairs(draw, s)?];
     Ok(answers.into_iter().max().unwrap_or(0))
 }
 

@@ -269,7 +269,9 @@ fn largest_calls() -> Result<(), Refusal> {
     job.correlations(&vec![1.5; edges.m.len()], Manner::Block, &mut results, &mut work)?;
     let records: Vec<Pair> = pairs.iter().map(|p| Pair { u: p.u, v: p.v }).collect();
     graph.correlations_of(&records, &vec![1.5; edges.m.len()], Manner::Block, &mut results, &mut work)?;
-    graph.rotated(&mut [0; 4096], &mut [0; 4096], &mut [0.0; 4096])?;
+    graph.rotated(&mut [0; 4096], &mut [0; 4096], &mut [0.0; 4096], &mut [0; 4096])?;
+    let by = Dilution { keep: 0.9, low: 0.5, high: 1.5, seed: 7 };
+    strip.diluted_graph(&by, &mut [0; 4096], &mut [0; 4096], &mut [0.0; 4096], &mut [0; 4096])?;
     graph.spanning_forest(&mut vec![false; edges.m.len()])?;
     graph.components(&mut vec![0; 1024])?;
     graph.error_bound(&vec![1.5; edges.m.len()])?;
