@@ -7,7 +7,7 @@ use crate::guarded::{equal, same, Guarded};
 use crate::shapes::KINDS;
 use copperhook::sys;
 use oracle::lattice::{Kind, Strip};
-use oracle::rng::Rng;
+use oracle::rules::dilution::drawn;
 use oracle::rules::refusals::{first, unless, StripCall};
 
 /// A strip as numbers; a kind above 2 is honeycomb too.
@@ -185,13 +185,7 @@ fn dilution(draw: &mut Draw) -> [f64; 3] {
 
 /// The edges as the original draws them; its graph keeps those whose magnitude is not zero.
 fn drawn_edges(s: &Strip, [keep, low, high]: [f64; 3], seed: u64) -> Result<Vec<(usize, usize, f64)>, String> {
-    let mut rng = Rng::new(seed ^ 0xD11);
-    let mut edges = s.raw_edges();
-    for e in &mut edges {
-        let kept = rng.uniform() < keep;
-        let magnitude = low + (high - low) * rng.uniform();
-        e.2 = if kept { magnitude } else { 0.0 };
-    }
+    let edges = drawn(s.raw_edges(), [keep, low, high], seed);
     let graph = s.diluted(keep, low, high, seed);
     let kept = edges.iter().filter(|e| e.2 != 0.0).map(|&(a, b, m)| ((a.min(b), a.max(b)), m.to_bits()));
     let theirs = graph.edges.iter().copied().zip(graph.mag.iter().map(|m| m.to_bits()));

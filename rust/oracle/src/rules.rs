@@ -3,6 +3,7 @@
 //! and hold it against the original elsewhere.
 
 pub mod configurations;
+pub mod dilution;
 pub mod lists;
 pub mod refusals;
 pub mod sweeps;
