@@ -87,7 +87,7 @@ fn numbers(lent: &Lent, refusal: usize, original: Option<&Graph>) -> Result<(), 
 }
 
 /// `front` at the front of `before`.
-fn over<T: Copy>(front: &[T], before: &[T]) -> Vec<T> {
+pub fn over<T: Copy>(front: &[T], before: &[T]) -> Vec<T> {
     [front, &before[front.len()..]].concat()
 }
 

@@ -76,7 +76,14 @@ impl Strip {
 
     /// Writes the kept ones of the diluted edges to the fronts of three lists, and to that of `raw` where each stands in the strip's edge
     /// list; the window is the whole strip's.
-    pub fn diluted_graph(&self, by: &Dilution, early: &mut [usize], late: &mut [usize], mag: &mut [f64], raw: &mut [usize]) -> Result<Kept, Refusal> {
+    pub fn diluted_graph(
+        &self,
+        by: &Dilution,
+        early: &mut [usize],
+        late: &mut [usize],
+        mag: &mut [f64],
+        raw: &mut [usize],
+    ) -> Result<Kept, Refusal> {
         let (mut window, mut edges) = (0, 0);
         let number = call_of_strip!(copperhook_diluted_graph(
             self; with by.keep, by.low, by.high, by.seed; write early, late, mag, raw; tell window, edges

@@ -267,6 +267,8 @@ fn kept_edges_remember_their_raw_places() {
     assert_eq!((&turned.edges.a[..], &turned.edges.b[..], &turned.raw[..]), (&[2, 0, 0][..], &[3, 2, 1][..], &[0, 2, 3][..]));
     assert_eq!((kept.edges.m, kept.window), (turned.edges.m, turned.window));
     assert_eq!(graph.kept(&mut [0; 3], &mut [0; 3], &mut [0.0; 3], &mut [0; 2]), Err(Refusal::Buffer));
+    let mut raw = [7];
+    assert!(Graph::new(2, &[], &[], &[]).kept(&mut [], &mut [], &mut [], &mut raw).is_ok() && raw == [7]);
 }
 
 /// The graph of a diluted strip is that of its list, with the whole strip's window.
@@ -282,6 +284,8 @@ fn a_diluted_graph_has_the_strips_places_and_window() {
         let places: Vec<usize> = (0..list.m.len()).filter(|&place| list.m[place] != 0.0).collect();
         assert_eq!((kept.raw, kept.window), (places, window));
     }
+    let strip = Strip { kind: Kind::Square, width: 1, length: 3, periodic: false };
+    assert_eq!(strip.diluted_kept(&Dilution { keep: 0.5, low: 1.0, high: 1.0, seed: 2 }).unwrap().raw, [1]);
 }
 
 /// Correlations, totals and every graph entry, on as many vertices as there may be.

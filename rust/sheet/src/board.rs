@@ -47,7 +47,9 @@ pub fn strip(options: &Options) -> Result<(Strip, EdgeList), Trouble> {
 
 /// How it is diluted, where it is.
 pub fn diluted(options: &Options) -> Option<String> {
-    options.dilution.map(|by| format!("keep {}, magnitudes {} to {}, seed {}", spelled(by.keep), spelled(by.low), spelled(by.high), by.seed))
+    options
+        .dilution
+        .map(|by| format!("keep {}, magnitudes {} to {}, seed {}", spelled(by.keep), spelled(by.low), spelled(by.high), by.seed))
 }
 
 /// A strip with its vertices, kept edges and window, on one line.

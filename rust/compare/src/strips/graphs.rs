@@ -2,6 +2,7 @@
 
 use super::{dilution, drawn_edges, Numbers, BEFORE};
 use crate::draw::Draw;
+use crate::graphs::over;
 use crate::guarded::{equal, same, Guarded};
 use copperhook::sys;
 use oracle::rules::lists::Edges;
@@ -27,7 +28,7 @@ fn expected(s: &Numbers, [keep, low, high]: [f64; 3], seed: u64) -> Result<Expec
 /// `front` at the front of `before`, where the call was accepted.
 fn held<T: Copy>(accepted: bool, front: &[T], before: &[T]) -> Vec<T> {
     if accepted {
-        [front, &before[front.len()..]].concat()
+        over(front, before)
     } else {
         before.to_vec()
     }
