@@ -1,5 +1,5 @@
 -- What an accepted call for the graph of a diluted strip says of raw places, of the window, and of a call for the graph of `diluted`'s list.
-use mathlib.Core.Path.{_≡_, refl, sym, ap, ap₂, _∙_, subst}
+use mathlib.Core.Path.{_≡_, refl, sym, ap, _∙_, subst}
 use mathlib.Core.List.{List}
 use Prim.Native.Nat.{ℕ, _*_, _<_, min, max}
 use native.Mathlib.Omega.{arith}
@@ -8,7 +8,7 @@ use lib.ListN.{length, getD, take, length-map}
 use Rattle.list_laws.specs.Front.{over}
 use Rattle.list_laws.specs.Laws.Tabulate.{tabulate-at, tabulate-length}
 use Rattle.transfer_matrix.specs.Job.{windowOf}
-use Rattle.refusals.specs.Edges.{Kept, kept, keptAt, earlyEnds as keptEarlyEnds, lateEnds as keptLateEnds}
+use Rattle.refusals.specs.Edges.{kept, keptAt, earlyEnds as keptEarlyEnds, lateEnds as keptLateEnds}
 use Rattle.refusals.specs.StripRequest.{Dilution}
 use Rattle.refusals.specs.Laws.Places.{kept-remember, agreeing-remember}
 use Rattle.graph_edges.specs.Graphs.{Set}

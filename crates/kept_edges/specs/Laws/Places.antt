@@ -1,11 +1,11 @@
 -- The places of the kept edges go by their magnitudes alone.
-use mathlib.Core.Path.{_≡_, refl, sym, ap, _∙_}
+use mathlib.Core.Path.{_≡_, refl}
 use mathlib.Core.Bool.{Bool, true, false, cond}
 use mathlib.Core.List.{List, [], _∷_, _++_, map-append}
-use Prim.Native.Nat.{ℕ, zero, suc, _≤_}
+use Prim.Native.Nat.{ℕ, zero, suc}
 use lib.Ieee.{Float, nan}
 use lib.ListN.{length, getD, length-map}
-use Rattle.refusals.specs.Edges.{Kept, keptAt, keptOf, kept, isZero, places}
+use Rattle.refusals.specs.Edges.{Kept, keptAt, keptOf, isZero, places}
 use Rattle.kept_edges.specs.Keep.{placesOf}
 
 pub places-alone : (a b : List ℕ) (m : List Float) (i : ℕ) → placesOf m i ≡ places (keptOf a b m i)

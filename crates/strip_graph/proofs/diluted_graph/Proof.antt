@@ -1,8 +1,7 @@
 -- The strip's edges are drawn, as `diluted` has it; where it accepts them, the kept ones make the graph.
 use borrow.Author.Needs.{needs}
 use native.Mathlib.Omega.{arith}
-use Rattle.strip_dilution.specs.Diluted.{dilution, dilutedRefusal}
-use Rattle.strip_graph.specs.Laws.Accepted.{AcceptedStrip, list-accepted, list-refused}
+use Rattle.strip_dilution.specs.Diluted.{dilution}
 use Rattle.strip_graph.proofs.Diluting.{Drawn, drawn, drawn-few, drawn-ordered, drawn-sizes, first-part, second-part, size-part, first-fits, second-fits, size-fits, drawn-set, refused-drawn}
 use Rattle.strip_graph.proofs.diluted_graph.Statement.{statement}
 use Rattle.strip_graph.proofs.diluted_graph.Tie as tie

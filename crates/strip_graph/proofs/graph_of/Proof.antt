@@ -1,6 +1,5 @@
 -- The kept edges are counted by their places; then they are written out, if the lists hold them.
 use mathlib.Core.Path.{_∙_}
-use native.Mathlib.Omega.{arith}
 use Rattle.graph_edges.specs.Laws.Setting.{short-set, kept-set}
 use Rattle.strip_graph.specs.Laws.Window.{window-stays}
 use Rattle.strip_graph.proofs.Diluting.{few-places, places-counted}

@@ -8,7 +8,7 @@ use lib.Dec.{eqb, ltb}
 use lib.Ieee.{Float}
 use lib.ListN.{length}
 use borrow.Author.Tests.{le-ltb}
-use Rattle.refusals.specs.StripRequest.{Dilution, badSides, badDilution}
+use Rattle.refusals.specs.StripRequest.{Dilution, badDilution}
 use Rattle.refusals.specs.Laws.First.{unless}
 use Rattle.graph_edges.specs.Graphs.{tooShort}
 use Rattle.strip.specs.Requests.{oddCylinder, dilutedRequest}

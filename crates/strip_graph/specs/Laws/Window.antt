@@ -2,15 +2,14 @@
 use mathlib.Core.Path.{_≡_, sym, ap, _∙_}
 use mathlib.Core.Bool.{false}
 use mathlib.Core.List.{List}
-use Prim.Native.Nat.{ℕ, _-_, _≤_, _<_, max}
-use native.Mathlib.Nat.{le-trans}
+use Prim.Native.Nat.{ℕ, _-_, _≤_, _<_}
 use native.Mathlib.Omega.{arith}
 use lib.Ieee.{Float}
 use lib.ListN.{length, getD, length-map}
 use Rattle.list_laws.specs.Most.{most}
 use Rattle.list_laws.specs.Laws.Most.{most-above, most-least}
 use Rattle.transfer_matrix.specs.Job.{longest, windowOf}
-use Rattle.refusals.specs.Edges.{kept, keptAt, keptEarly, keptLate}
+use Rattle.refusals.specs.Edges.{kept, keptEarly, keptLate}
 use Rattle.refusals.specs.Places.{edgeOf}
 use Rattle.refusals.specs.Laws.Places.{column-at, kept-remember}
 use Rattle.kept_edges.specs.Keep.{Ordered}
