@@ -208,21 +208,22 @@ size_t copperhook_totals_error_bound(size_t n, size_t floor, const size_t *a, si
 /* ---- Graphs. */
 
 /*
- * The kept edges, the smaller end first, at the fronts of `early`, `late` and `mag`; what lies behind them stays. *window is the largest
- * of 1, `floor` and the longest kept edge, and *edges the number of kept edges.
+ * The kept edges, the smaller end first, at the fronts of `early`, `late` and `mag`, and in `raw` each one's place in the lists `a`, `b`
+ * and `m`, counted from 0 and rising; what lies behind them stays. *window is the largest of 1, `floor` and the longest kept edge, and
+ * *edges the number of kept edges.
  * Refusals: 1 to 5, 12 (too short).
  */
 size_t copperhook_graph(size_t n, size_t floor, const size_t *a, size_t a_len, const size_t *b, size_t b_len, const double *m,
                         size_t m_len, size_t *early, size_t early_len, size_t *late, size_t late_len, double *mag, size_t mag_len,
-                        size_t *window, size_t *edges);
+                        size_t *raw, size_t raw_len, size_t *window, size_t *edges);
 
 /*
- * The same of the graph turned by 180 degrees, vertex v being n - 1 - v; the edges keep their order.
+ * The same of the graph turned by 180 degrees, vertex v being n - 1 - v; the edges keep their order and their places in `a`, `b` and `m`.
  * Refusals: 1 to 5, 12 (too short).
  */
 size_t copperhook_rotated(size_t n, size_t floor, const size_t *a, size_t a_len, const size_t *b, size_t b_len, const double *m,
                           size_t m_len, size_t *early, size_t early_len, size_t *late, size_t late_len, double *mag, size_t mag_len,
-                          size_t *window, size_t *edges);
+                          size_t *raw, size_t raw_len, size_t *window, size_t *edges);
 
 /* The window alone, in *window; one above 24 is answered too. Refusals: 1 to 5. */
 size_t copperhook_window(size_t n, size_t floor, const size_t *a, size_t a_len, const size_t *b, size_t b_len, const double *m,
@@ -288,6 +289,15 @@ size_t copperhook_raw_edges(size_t kind, size_t w, size_t l, bool periodic, size
 size_t copperhook_diluted(size_t kind, size_t w, size_t l, bool periodic, double keep, double low, double high, uint64_t seed,
                           size_t *early, size_t early_len, size_t *late, size_t late_len, double *mag, size_t mag_len,
                           size_t *edges);
+
+/*
+ * The graph of that list: the kept edges at the fronts of `early`, `late` and `mag`, and in `raw` each one's place in the strip's edge
+ * list, counted from 0 and rising; what lies behind them stays. *window is the whole strip's, and *edges the number of kept edges.
+ * Refusals: 15, 16, 17, 12 (too short).
+ */
+size_t copperhook_diluted_graph(size_t kind, size_t w, size_t l, bool periodic, double keep, double low, double high, uint64_t seed,
+                                size_t *early, size_t early_len, size_t *late, size_t late_len, double *mag, size_t mag_len,
+                                size_t *raw, size_t raw_len, size_t *window, size_t *edges);
 
 /*
  * The standard pairs at the fronts of `us` and `vs`, their labels in `labels`, one after another, each closed by a zero byte, and how many

@@ -81,15 +81,16 @@ pairs-told k ps us vs labels u v l q t =
 
 -- ---- the kept edges of a graph
 
-pub kept-told : (k n floor : ℕ) (es : List Edges.Kept) {a : Made} {r : ℕ} {early early′ late late′ : List ℕ} {mag mag′ : List Float} {window window′ count count′ : ℕ}
-    → Set k n floor es a early early′ late late′ mag mag′ → Graphs.Tells a r window window′ count count′
-    → Listed k floor es r early early′ late late′ mag mag′ window window′ count count′
+pub kept-told : (k n floor : ℕ) (es : List Edges.Kept) {a : Made} {r : ℕ} {early early′ late late′ : List ℕ} {mag mag′ : List Float} {raw raw′ : List ℕ} {window window′ count count′ : ℕ}
+    → Set k n floor es a early early′ late late′ mag mag′ raw raw′ → Graphs.Tells a r window window′ count count′
+    → Listed k floor es r early early′ late late′ mag mag′ raw raw′ window window′ count count′
 kept-told k n floor es {window = window} {count = count} q t =
     record {
       answer = t .number ∙ ap Graphs.numberOf (q .answer) ∙ GraphsLaws.number-made k _;
       earlies = q .earlies;
       lates = q .lates;
       mags = q .mags;
+      raws = q .raws;
       windowed = t .windowed ∙ ap (λ z. Graphs.windowIn z window) (q .answer) ∙ GraphsLaws.window-made k _ window;
       counted = t .counted ∙ ap (λ z. Graphs.edgesIn z count) (q .answer) ∙ GraphsLaws.edges-made k _ count;
     }

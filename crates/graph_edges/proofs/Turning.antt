@@ -1,11 +1,11 @@
 -- The ends of the edges turned one after the other, and the turned edges as a graph's.
 use mathlib.Core.Path.{_≡_, refl, sym, ap, ap₂, _∙_}
 use mathlib.Core.Bool.{false}
-use mathlib.Core.List.{List, [], _∷_, map, map-map}
+use mathlib.Core.List.{List, map, map-map}
 use Prim.Native.Nat.{ℕ, zero, suc, _+_, _-_, _≤_, _<_, max}
 use native.Mathlib.Numerals.{add-one}
 use native.Mathlib.Omega.{arith}
-use lib.Ieee.{Float, nan}
+use lib.Ieee.{Float}
 use lib.ListN.{length, getD, set, length-set, length-map}
 use Rattle.list_laws.specs.Search.{some}
 use Rattle.list_laws.specs.Most.{most}
@@ -13,11 +13,12 @@ use Rattle.list_laws.specs.Laws.Most.{most-ext}
 use Rattle.transfer_matrix.specs.Job.{longest, windowOf}
 use Rattle.refusals.specs.Request.{badEnds}
 use Rattle.refusals.specs.Laws.Accepted.{kept-inside}
+use Rattle.refusals.specs.Laws.Places.{column-at}
 use Rattle.list_laws.specs.Tabulate.{tabulate}
 use Rattle.list_laws.specs.Laws.Tabulate.{tabulate-suc, tabulate-length, tabulated}
 use Rattle.list_laws.specs.Front.{over}
 use Rattle.list_laws.specs.Laws.Front.{over-more, over-behind, over-front, over-over}
-use Rattle.refusals.specs.Edges.{Kept, kept, earlyEnds, lateEnds, keptEarly, keptLate}
+use Rattle.refusals.specs.Edges.{Kept, kept, earlyEnds, lateEnds, places, keptEarly, keptLate}
 use Rattle.kept_edges.specs.Keep.{Written}
 use Rattle.graph_edges.specs.Graphs.{Set, Turned, turned, rotate}
 use Rattle.graph_edges.specs.declared.Graph.{Graph}
@@ -73,14 +74,6 @@ turning-all {n} {k} {e = e} T h =
 
 -- ---- a column of the turned edges is the turned column
 
-none : Kept
-none = record { early = 0; late = 0; magnitude = nan; place = 0 }
-
-map-at : (f : Kept → ℕ) (es : List Kept) (i : ℕ) → i < length es → getD (map f es) i 0 ≡ f (getD es i none)
-map-at f [] i h = absurd (omega arith)
-map-at f (e ∷ es) zero h = refl
-map-at f (e ∷ es) (suc i) h = map-at f es i (omega arith)
-
 column-turned : (n : ℕ) (f : Kept → ℕ) (es : List Kept) (l l₀ : List ℕ) (k : ℕ) → k ≡ length es → l ≡ over (map f es) l₀
     → tabulate (λ e. turned n (getD l e 0)) k ≡ map (λ e. turned n (f e)) es
 column-turned n f es l l₀ k p q =
@@ -88,8 +81,8 @@ column-turned n f es l l₀ k p q =
   where
     at : (i : ℕ) → i < length es → getD (map (λ e. turned n (f e)) es) i 0 ≡ turned n (getD (over (map f es) l₀) i 0)
     at i h =
-        map-at (λ e. turned n (f e)) es i h
-        ∙ ap (turned n) (sym (over-front (map f es) l₀ i 0 (rw (length-map es f) h) ∙ map-at f es i h))
+        column-at (λ e. turned n (f e)) es i 0 h
+        ∙ ap (turned n) (sym (over-front (map f es) l₀ i 0 (rw (length-map es f) h) ∙ column-at f es i 0 h))
 
 -- turned after they were kept
 pub turned-kept : {n : ℕ} {a b : List ℕ} {m : List Float} {j k : ℕ} {early₀ early late₀ late : List ℕ} {mag₀ mag : List Float} {early′ late′ : List ℕ}
@@ -125,10 +118,10 @@ window-turned n floor a b m ok = ap (λ k. max 1 (max floor k)) (lengths ∙ sym
         → getD (lateEnds es) e 0 - getD (earlyEnds es) e 0 ≡ getD (map (λ k. turned n (k .early)) es) e 0 - getD (map (λ k. turned n (k .late)) es) e 0
     same e h =
         let i = kept-inside n a b m ok e h in
-        let p = map-at (λ k. k .early) es e h in
-        let q = map-at (λ k. k .late) es e h in
-        let p′ = map-at (λ k. turned n (k .early)) es e h in
-        let q′ = map-at (λ k. turned n (k .late)) es e h in
+        let p = column-at (λ k. k .early) es e 0 h in
+        let q = column-at (λ k. k .late) es e 0 h in
+        let p′ = column-at (λ k. turned n (k .early)) es e 0 h in
+        let q′ = column-at (λ k. turned n (k .late)) es e 0 h in
         omega (arith, i .0, i .1)
 
     lengths : span (earlyEnds es) (lateEnds es) ≡ span (map (λ k. turned n (k .late)) es) (map (λ k. turned n (k .early)) es)
@@ -159,29 +152,30 @@ graphOf other (Made.Kept g) = g
 graphOf other (Made.Refused k) = other
 
 -- a refused graph has nothing to turn
-pub refused-turned : (K : ℕ) {n floor k : ℕ} {es : List Kept} {r : Made} {early early′ late late′ : List ℕ} {mag mag′ : List Float} → r ≡ Made.Refused k
-    → Set K n floor es r early early′ late late′ mag mag′ → Set K n floor (rotate n es) (Made.Refused k) early early′ late late′ mag mag′
+pub refused-turned : (K : ℕ) {n floor k : ℕ} {es : List Kept} {r : Made} {early early′ late late′ : List ℕ} {mag mag′ : List Float} {raw raw′ : List ℕ} → r ≡ Made.Refused k
+    → Set K n floor es r early early′ late late′ mag mag′ raw raw′ → Set K n floor (rotate n es) (Made.Refused k) early early′ late late′ mag mag′ raw raw′
 refused-turned zero p S = let apart = ap refusals (sym p ∙ S .answer) in absurd (omega arith)
-refused-turned (suc j) p S = record { answer = sym p ∙ S .answer; earlies = S .earlies; lates = S .lates; mags = S .mags }
+refused-turned (suc j) p S = record { answer = sym p ∙ S .answer; earlies = S .earlies; lates = S .lates; mags = S .mags; raws = S .raws }
 
 -- an accepted one was not refused, and its edges were written
-pub record Given (K n floor : ℕ) (g : Graph) (a b : List ℕ) (m : List Float) (early early′ late late′ : List ℕ) (mag mag′ : List Float) : Type 0 where
+pub record Given (K n floor : ℕ) (g : Graph) (a b : List ℕ) (m : List Float) (early early′ late late′ : List ℕ) (mag mag′ : List Float) (raw raw′ : List ℕ) : Type 0 where
   pub accepted : K ≡ 0
   pub graph : g ≡ record { n = n; win = windowOf floor (keptEarly a b m) (keptLate a b m); edges = length (kept a b m) }
   pub written : Written a b m (length a) (g .edges) early early′ late late′ mag mag′
+  pub raws : raw′ ≡ over (places (kept a b m)) raw
 
-pub given : (K : ℕ) {n floor : ℕ} {g : Graph} {a b : List ℕ} {m : List Float} {r : Made} {early early′ late late′ : List ℕ} {mag mag′ : List Float} → r ≡ Made.Kept g
-    → Set K n floor (kept a b m) r early early′ late late′ mag mag′ → Given K n floor g a b m early early′ late late′ mag mag′
+pub given : (K : ℕ) {n floor : ℕ} {g : Graph} {a b : List ℕ} {m : List Float} {r : Made} {early early′ late late′ : List ℕ} {mag mag′ : List Float} {raw raw′ : List ℕ} → r ≡ Made.Kept g
+    → Set K n floor (kept a b m) r early early′ late late′ mag mag′ raw raw′ → Given K n floor g a b m early early′ late late′ mag mag′ raw raw′
 given zero {g = g} p S =
     let same = ap (graphOf g) (sym p ∙ S .answer) in
-    record { accepted = refl; graph = same; written = record { edges = ap (λ x. x .edges) same; earlies = S .earlies; lates = S .lates; mags = S .mags } }
+    record { accepted = refl; graph = same; written = record { edges = ap (λ x. x .edges) same; earlies = S .earlies; lates = S .lates; mags = S .mags }; raws = S .raws }
 given (suc j) p S = let apart = ap refusals (sym p ∙ S .answer) in absurd (omega arith)
 
 -- the turned graph as the entry leaves it
-pub rotated-given : (K : ℕ) {n floor : ℕ} {g : Graph} {a b : List ℕ} {m : List Float} {early₀ early early′ late₀ late late′ : List ℕ} {mag₀ mag : List Float}
-    → Given K n floor g a b m early₀ early late₀ late mag₀ mag → some (badEnds n a b) (length a) ≡ false → Turned n (g .edges) early early′ late late′
-    → Set K n floor (rotate n (kept a b m)) (Made.Kept g) early₀ early′ late₀ late′ mag₀ mag
-rotated-given zero {n} {floor} {a = a} {b = b} {m = m} {mag₀ = mag₀} G ok T =
+pub rotated-given : (K : ℕ) {n floor : ℕ} {g : Graph} {a b : List ℕ} {m : List Float} {early₀ early early′ late₀ late late′ : List ℕ} {mag₀ mag : List Float} {raw₀ raw : List ℕ}
+    → Given K n floor g a b m early₀ early late₀ late mag₀ mag raw₀ raw → some (badEnds n a b) (length a) ≡ false → Turned n (g .edges) early early′ late late′
+    → Set K n floor (rotate n (kept a b m)) (Made.Kept g) early₀ early′ late₀ late′ mag₀ mag raw₀ raw
+rotated-given zero {n} {floor} {a = a} {b = b} {m = m} {mag₀ = mag₀} {raw₀ = raw₀} G ok T =
     let W = G .written in
     let turn = turned-kept W (W .edges) T in
     let es = kept a b m in
@@ -190,5 +184,6 @@ rotated-given zero {n} {floor} {a = a} {b = b} {m = m} {mag₀ = mag₀} G ok T 
       earlies = turn .0;
       lates = turn .1;
       mags = W .mags ∙ ap (λ l. over l mag₀) (sym (map-map (λ u. u .magnitude) _ es));
+      raws = G .raws ∙ ap (λ l. over l raw₀) (sym (map-map (λ u. u .place) _ es));
     }
 rotated-given (suc j) G ok T = let z = G .accepted in absurd (omega arith)

@@ -7,9 +7,10 @@ ghost use lib.ListN.{length, getD};
 ghost use Rattle.refusals.specs.Edges.{kept};
 ghost use Rattle.refusals.specs.Request.{graphRequest};
 ghost use Rattle.refusals.specs.Refusal.{refusal, ofGraphWithBuffers};
-ghost use Rattle.graph_edges.specs.Graphs.{tooShort, Set, rotate, Turned};
+ghost use Rattle.graph_edges.specs.Graphs.{tooShort, WrittenKept, Set, rotate, Turned};
 use kept_edges::build::build;
 use kept_edges::keep::keep;
+use kept_edges::keep::keep_places;
 use kept_edges::window_of;
 use limits::EDGES;
 
@@ -27,7 +28,7 @@ pub enum Made {
 }
 
 impl Graph {
-    // The kept edges to the fronts of three lists, and the graph that they make.
+    // The kept edges and their raw places to the fronts of four lists, and the graph that they make.
     pub fn new(
         n: usize,
         floor: usize,
@@ -37,11 +38,12 @@ impl Graph {
         early: &mut [usize],
         late: &mut [usize],
         mag: &mut [f64],
+        raw: &mut [usize],
     ) -> Made
         ensures { λ r. ⌜ Set (refusal ofGraphWithBuffers (graphRequest n (now (a .entry)) (now (b .entry)) (now (m .entry))
-            (tooShort (length (kept (now (a .entry)) (now (b .entry)) (now (m .entry)))) (now (early .entry)) (now (late .entry)) (now (mag .entry)))))
+            (tooShort (length (kept (now (a .entry)) (now (b .entry)) (now (m .entry)))) (now (early .entry)) (now (late .entry)) (now (mag .entry)) (now (raw .entry)))))
             n floor (kept (now (a .entry)) (now (b .entry)) (now (m .entry))) r
-            (now (early .entry)) (now (early .exit)) (now (late .entry)) (now (late .exit)) (now (mag .entry)) (now (mag .exit)) ⌝ }
+            (now (early .entry)) (now (early .exit)) (now (late .entry)) (now (late .exit)) (now (mag .entry)) (now (mag .exit)) (now (raw .entry)) (now (raw .exit)) ⌝ }
     {
         let mut first = [0usize; EDGES];
         let mut second = [0usize; EDGES];
@@ -52,15 +54,15 @@ impl Graph {
             return Made::Refused(refusal);
         }
         let edges = g.edges;
-        if is_too_short(edges, early.len(), late.len(), mag.len()) {
-            return Made::Refused(12);
-        }
         let win = window_of(floor, &first[..edges], &second[..edges]);
-        keep(a, b, m, early, late, mag);
+        let short = write_kept(edges, a, b, m, early, late, mag, raw);
+        if short != 0 {
+            return Made::Refused(short);
+        }
         Made::Kept(Graph { n, win, edges })
     }
 
-    // The graph turned by 180 degrees, v to n - 1 - v; its edges keep their order, magnitudes and window.
+    // The graph turned by 180 degrees, v to n - 1 - v; its edges keep their order, magnitudes, raw places and window.
     pub fn rotated(
         n: usize,
         floor: usize,
@@ -70,13 +72,14 @@ impl Graph {
         early: &mut [usize],
         late: &mut [usize],
         mag: &mut [f64],
+        raw: &mut [usize],
     ) -> Made
         ensures { λ r. ⌜ Set (refusal ofGraphWithBuffers (graphRequest n (now (a .entry)) (now (b .entry)) (now (m .entry))
-            (tooShort (length (kept (now (a .entry)) (now (b .entry)) (now (m .entry)))) (now (early .entry)) (now (late .entry)) (now (mag .entry)))))
+            (tooShort (length (kept (now (a .entry)) (now (b .entry)) (now (m .entry)))) (now (early .entry)) (now (late .entry)) (now (mag .entry)) (now (raw .entry)))))
             n floor (rotate n (kept (now (a .entry)) (now (b .entry)) (now (m .entry)))) r
-            (now (early .entry)) (now (early .exit)) (now (late .entry)) (now (late .exit)) (now (mag .entry)) (now (mag .exit)) ⌝ }
+            (now (early .entry)) (now (early .exit)) (now (late .entry)) (now (late .exit)) (now (mag .entry)) (now (mag .exit)) (now (raw .entry)) (now (raw .exit)) ⌝ }
     {
-        match Graph::new(n, floor, a, b, m, early, late, mag) {
+        match Graph::new(n, floor, a, b, m, early, late, mag, raw) {
             Made::Kept(g) => {
                 turn(n, g.edges, early, late);
                 Made::Kept(g)
@@ -86,8 +89,8 @@ impl Graph {
     }
 }
 
-fn is_too_short(edges: usize, early: usize, late: usize, mag: usize) -> bool
-    ensures { λ r. ⌜ r ≡ (ltb early edges || ltb late edges || ltb mag edges) ⌝ }
+fn is_too_short(edges: usize, early: usize, late: usize, mag: usize, raw: usize) -> bool
+    ensures { λ r. ⌜ r ≡ (ltb early edges || ltb late edges || ltb mag edges || ltb raw edges) ⌝ }
 {
     if early < edges {
         return true;
@@ -95,7 +98,33 @@ fn is_too_short(edges: usize, early: usize, late: usize, mag: usize) -> bool
     if late < edges {
         return true;
     }
-    mag < edges
+    if mag < edges {
+        return true;
+    }
+    raw < edges
+}
+
+// Writes the kept edges and their raw places to the fronts of four lists. Returns 0, or 12 where a list is too short.
+pub fn write_kept(
+    edges: usize,
+    a: &[usize],
+    b: &[usize],
+    m: &[f64],
+    early: &mut [usize],
+    late: &mut [usize],
+    mag: &mut [f64],
+    raw: &mut [usize],
+) -> usize
+    requires { ⌜ (length (now b) ≡ length (now a)) × (length (now m) ≡ length (now a)) × (edges ≡ length (kept (now a) (now b) (now m))) ⌝ }
+    ensures { λ r. ⌜ WrittenKept (kept (now (a .entry)) (now (b .entry)) (now (m .entry))) r (now (early .entry)) (now (early .exit))
+        (now (late .entry)) (now (late .exit)) (now (mag .entry)) (now (mag .exit)) (now (raw .entry)) (now (raw .exit)) ⌝ }
+{
+    if is_too_short(edges, early.len(), late.len(), mag.len(), raw.len()) {
+        return 12;
+    }
+    keep(a, b, m, early, late, mag);
+    keep_places(m, raw);
+    0
 }
 
 // The first edges with their ends turned, v to n - 1 - v: the later end comes first.

@@ -13,11 +13,11 @@ use Rattle.refusals.specs.Edges.{Kept, keptAt, keptOf, kept, isZero, earlyEnds,
 use Rattle.kept_edges.specs.Keep.{Written, Holds}
 
 module _ (a b : List ℕ) (m : List Float) where
-  kept-dropped : (i : ℕ) → isZero (getD m i nan) ≡ true → keptOf a b m (i + 1) ≡ keptOf a b m i
+  pub kept-dropped : (i : ℕ) → isZero (getD m i nan) ≡ true → keptOf a b m (i + 1) ≡ keptOf a b m i
   unfolding keptOf
   kept-dropped i z = rw (add-one, z)
 
-  kept-more : (i : ℕ) → isZero (getD m i nan) ≡ false → keptOf a b m (i + 1) ≡ keptOf a b m i ++ (keptAt a b m i ∷ [])
+  pub kept-more : (i : ℕ) → isZero (getD m i nan) ≡ false → keptOf a b m (i + 1) ≡ keptOf a b m i ++ (keptAt a b m i ∷ [])
   unfolding keptOf
   kept-more i z = rw (add-one, z)
 
@@ -36,8 +36,17 @@ module _ (a b : List ℕ) (m : List Float) where
       let e : i + suc d ≡ suc (i + d) = omega arith in
       rw e (omega (arith, kept-grows i d, grown (i + d)))
 
+  -- before a kept edge there are fewer than in all
+  pub kept-below : (n i : ℕ) → i < n → isZero (getD m i nan) ≡ false → length (keptOf a b m i) < length (keptOf a b m n)
+  kept-below n i h z =
+      let e = kept-more i z in
+      let l = length-append (keptOf a b m i) (keptAt a b m i ∷ []) in
+      let s : i + 1 + (n - (i + 1)) ≡ n = omega arith in
+      let g : length (keptOf a b m (i + 1)) ≤ length (keptOf a b m n) = rw s at (kept-grows (i + 1) (n - (i + 1))) in
+      omega (arith, ap length e)
+
 -- one element more behind a buffer's front, which holds a column of the edges
-column-more : {A : Type 0} (f : Kept → A) (es : List Kept) (e : Kept) (l l₀ : List A) (x : A) (k : ℕ) → l ≡ over (map f es) l₀
+pub column-more : {A : Type 0} (f : Kept → A) (es : List Kept) (e : Kept) (l l₀ : List A) (x : A) (k : ℕ) → l ≡ over (map f es) l₀
     → k ≡ length es → k < length l₀ → x ≡ f e → set l k x ≡ over (map f (es ++ (e ∷ []))) l₀
 column-more f es e l l₀ x k h c r p =
     rw (h, p, map-append f es (e ∷ [])) (over-more (map f es) l₀ k (f e) (c ∙ sym (length-map es f)) r)
@@ -91,14 +100,7 @@ module _ {a b : List ℕ} {m : List Float} {i k : ℕ} {early₀ early late₀ l
 
   -- a kept edge has room in each buffer
   keep-room : isZero (getD m i nan) ≡ false → k < length (kept a b m)
-  keep-room z =
-      let e = kept-more a b m i z in
-      let l = length-append (keptOf a b m i) (keptAt a b m i ∷ []) in
-      let g : length (keptOf a b m (i + 1)) ≤ length (kept a b m) =
-      let s : i + 1 + (length a - (i + 1)) ≡ length a = omega arith in
-      rw s at (kept-grows a b m (i + 1) (length a - (i + 1))) in
-      let w = K .written .edges in
-      omega (arith, ap length e)
+  keep-room z = let l = kept-below a b m (length a) i i< z in let w = K .written .edges in omega arith
 
   pub keep-rooms : isZero (getD m i nan) ≡ false → (k < length early) × (k < length late) × (k < length mag)
   keep-rooms z =

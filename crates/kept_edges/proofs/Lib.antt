@@ -1,3 +1,4 @@
 mod Keeping
+mod Placing
 mod Chaining
 mod Building

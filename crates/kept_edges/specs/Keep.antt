@@ -1,12 +1,12 @@
 -- The kept edges on their way into three buffers: what a loop over the raw edges knows.
 use mathlib.Core.Path.{_≡_}
-use mathlib.Core.List.{List}
+use mathlib.Core.List.{List, []}
 use Prim.Native.Nat.{ℕ, _≤_, _<_}
 use lib.Ieee.{Float}
 use lib.ListN.{length, getD, take}
 use Rattle.limits.specs.Limits.{mostVertices}
 use Rattle.list_laws.specs.Front.{over}
-use Rattle.refusals.specs.Edges.{keptOf, earlyEnds, lateEnds, magnitudes}
+use Rattle.refusals.specs.Edges.{keptOf, earlyEnds, lateEnds, magnitudes, places}
 use Rattle.refusals.specs.Request.{jobRequest}
 use Rattle.refusals.specs.Refusal as Refusal
 use Rattle.refusals.specs.Refusal.{ofRawGraph, ofGraph}
@@ -17,6 +17,15 @@ pub record Written (a b : List ℕ) (m : List Float) (i k : ℕ) (early early′
   pub earlies : early′ ≡ over (earlyEnds (keptOf a b m i)) early
   pub lates : late′ ≡ over (lateEnds (keptOf a b m i)) late
   pub mags : mag′ ≡ over (magnitudes (keptOf a b m i)) mag
+
+-- the raw places of the kept ones of the first i raw edges: their ends do not matter
+abbrev pub placesOf : List Float → ℕ → List ℕ
+placesOf m i = places (keptOf [] [] m i)
+
+-- these k places were written to the front of a buffer; what lies past them stayed
+pub record Placed (m : List Float) (i k : ℕ) (raw raw′ : List ℕ) : Type 0 where
+  pub edges : k ≡ length (placesOf m i)
+  pub raws : raw′ ≡ over (placesOf m i) raw
 
 -- the buffers hold at least k
 pub record Holds (k : ℕ) (early late : List ℕ) (mag : List Float) : Type 0 where

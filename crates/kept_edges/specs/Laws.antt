@@ -1,3 +1,4 @@
 -- What is proved of the definitions.
 pub mod Fronts
 pub mod Buffers
+pub mod Places

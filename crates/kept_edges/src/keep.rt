@@ -1,9 +1,9 @@
 // Kept edges: zero magnitudes dropped, the rest in order, smaller end first.
 ghost use mathlib.Core.Path.{_≡_};
-ghost use Prim.Native.Nat.{min, max};
+ghost use Prim.Native.Nat.{min, max, _≤_};
 ghost use lib.ListN.{length};
 ghost use Rattle.refusals.specs.Edges.{kept};
-ghost use Rattle.kept_edges.specs.Keep.{Written, Holds};
+ghost use Rattle.kept_edges.specs.Keep.{Written, Holds, placesOf, Placed};
 
 fn smaller(x: usize, y: usize) -> usize
     ensures { λ r. ⌜ r ≡ min x y ⌝ }
@@ -40,6 +40,24 @@ pub fn keep(
             early[k] = x;
             late[k] = y;
             mag[k] = w;
+            k += 1;
+        }
+    }
+    k
+}
+
+// Writes the raw places of the kept edges to the front of a buffer, and returns how many there are.
+pub fn keep_places(m: &[f64], raw: &mut [usize]) -> usize
+    requires { ⌜ length (placesOf (now m) (length (now m))) ≤ length (now raw) ⌝ }
+    ensures { λ r. ⌜ Placed (now (m .entry)) (length (now (m .entry))) r (now (raw .entry)) (now (raw .exit)) ⌝ }
+{
+    let mut k: usize = 0;
+    let mut i: usize = 0;
+    while i < m.len() {
+        let place = i;
+        i += 1;
+        if m[place] != 0.0 {
+            raw[k] = place;
             k += 1;
         }
     }

@@ -38,6 +38,9 @@ lateEnds es = map (λ e. e .late) es
 abbrev pub magnitudes : List Kept → List Float
 magnitudes es = map (λ e. e .magnitude) es
 
+abbrev pub places : List Kept → List ℕ
+places es = map (λ e. e .place) es
+
 -- The columns of the edges that three raw lists keep: earlier ends, later ends, magnitudes.
 abbrev pub keptEarly : List ℕ → List ℕ → List Float → List ℕ
 keptEarly a b m = earlyEnds (kept a b m)

@@ -1,5 +1,6 @@
 -- Definitions,
 pub mod Edges
+pub mod Places
 pub mod Key
 pub mod Request
 pub mod Refusal

@@ -88,7 +88,8 @@ fn count_kept(n: usize, a: &[usize], b: &[usize], m: &[f64]) -> usize {
     let mut early = [0usize; 4096];
     let mut late = [0usize; 4096];
     let mut mag = [0.0f64; 4096];
-    kept_count(Graph::new(n, 0, a, b, m, &mut early, &mut late, &mut mag))
+    let mut raw = [0usize; 4096];
+    kept_count(Graph::new(n, 0, a, b, m, &mut early, &mut late, &mut mag, &mut raw))
 }
 
 fn mix_components(hash: u64, n: usize, a: &[usize], b: &[usize], m: &[f64], lent: usize) -> u64 {
@@ -115,31 +116,44 @@ fn mix_graph(hash: u64, n: usize, a: &[usize], b: &[usize], m: &[f64], lent: usi
     let mut first = [BEFORE; 4098];
     let mut second = [BEFORE; 4098];
     let mut third = [9.0f64; 4098];
+    let mut fourth = [BEFORE; 4098];
     if 4098 < lent {
         return hash;
     }
     let early = &mut first[..lent];
     let late = &mut second[..lent];
     let mag = &mut third[..lent];
-    let h = mix(hash, made_word(Graph::new(n, 0, a, b, m, early, late, mag)));
-    mix_doubles(mix_numbers(mix_numbers(h, early), late), mag)
+    let raw = &mut fourth[..lent];
+    let h = mix(
+        hash,
+        made_word(Graph::new(n, 0, a, b, m, early, late, mag, raw)),
+    );
+    mix_numbers(
+        mix_doubles(mix_numbers(mix_numbers(h, early), late), mag),
+        raw,
+    )
 }
 
 fn mix_rotated(hash: u64, n: usize, a: &[usize], b: &[usize], m: &[f64], lent: usize) -> u64 {
     let mut first = [BEFORE; 4098];
     let mut second = [BEFORE; 4098];
     let mut third = [9.0f64; 4098];
+    let mut fourth = [BEFORE; 4098];
     if 4098 < lent {
         return hash;
     }
     let early = &mut first[..lent];
     let late = &mut second[..lent];
     let mag = &mut third[..lent];
+    let raw = &mut fourth[..lent];
     let h = mix(
         hash,
-        made_word(Graph::rotated(n, 0, a, b, m, early, late, mag)),
+        made_word(Graph::rotated(n, 0, a, b, m, early, late, mag, raw)),
     );
-    mix_doubles(mix_numbers(mix_numbers(h, early), late), mag)
+    mix_numbers(
+        mix_doubles(mix_numbers(mix_numbers(h, early), late), mag),
+        raw,
+    )
 }
 
 fn hash_of(n: usize, a: &[usize], b: &[usize], m: &[f64], short: bool) -> u64 {

@@ -10,6 +10,7 @@ use crate::common::see_edges;
 use crate::common::strip_of;
 use crate::common::wide;
 use crate::common::word;
+use crate::diluted_graphs;
 use refusals::Answer;
 use strip::Strip;
 
@@ -60,11 +61,11 @@ fn number(a: Answer) -> usize {
     }
 }
 
-struct Dilution {
-    keep: f64,
-    low: f64,
-    high: f64,
-    seed: u64,
+pub(crate) struct Dilution {
+    pub keep: f64,
+    pub low: f64,
+    pub high: f64,
+    pub seed: u64,
 }
 
 // The diluted list into the first a, b and c elements of three buffers.
@@ -132,7 +133,7 @@ fn lengths_agree(s: Strip, x: Dilution, k: usize, hash: u64) -> bool {
         & exact_agrees(s, x, k, hash)
 }
 
-// A record: the strip, the seed, keep and the bounds; the kept edges, their checksum, the window.
+// A record: the strip, the seed, keep and the bounds; the kept edges, their checksum, the window; the strip's edges, and the checksum with the places.
 pub(crate) fn replay(list: &[u8], at: usize) -> bool {
     let s = strip_of(word(list, at, 0));
     let x = Dilution {
@@ -153,9 +154,10 @@ pub(crate) fn replay(list: &[u8], at: usize) -> bool {
     } else {
         floor
     };
-    is_number(answer, wide(k))
+    is_number(answer, word(list, at, 8))
         & (wide(kept.edges) == word(list, at, 5))
         & (kept.hash == word(list, at, 6))
         & (wide(win) == word(list, at, 7))
         & lengths_agree(s, x, k, kept.hash)
+        & diluted_graphs::agree(s, x, list, at)
 }

@@ -1,6 +1,7 @@
 // Replays the original's strips from the lists in data/: `answers strips`, `strip_edges`, `dilutions` and `strip_refusals` of rust/oracle made them
 // from the original, the last by its own reading of document 01.
 mod common;
+mod diluted_graphs;
 mod dilutions;
 mod edges;
 mod refused;
@@ -12,7 +13,7 @@ use edges::Tally;
 // bytes of a record of each list
 const STRIP: usize = 8 * 7;
 
-const DILUTION: usize = 8 * 8;
+const DILUTION: usize = 8 * 10;
 
 const REFUSAL: usize = 8 * 9;
 // stands for records of different sizes
@@ -27,7 +28,7 @@ fn replay(size: usize, list: &[u8], at: usize) -> bool {
 }
 
 fn count_same(size: usize, list: &[u8]) -> usize
-    requires { ⌜ (0 < size) × (size ≤ 72) ⌝ }
+    requires { ⌜ (0 < size) × (size ≤ 80) ⌝ }
 {
     let mut count: usize = 0;
     let mut at: usize = 0;
@@ -41,7 +42,7 @@ fn count_same(size: usize, list: &[u8]) -> usize
 }
 
 fn tally(size: usize, list: &[u8]) -> Tally
-    requires { ⌜ (0 < size) × (size ≤ 72) ⌝ }
+    requires { ⌜ (0 < size) × (size ≤ 80) ⌝ }
 {
     if size == EDGES {
         return edges::replay_all(list);
@@ -53,7 +54,7 @@ fn tally(size: usize, list: &[u8]) -> Tally
 }
 
 fn report(size: usize, path: &[u8], what: &[u8])
-    requires { ⌜ (0 < size) × (size ≤ 72) ⌝ }
+    requires { ⌜ (0 < size) × (size ≤ 80) ⌝ }
 {
     let mut list = [0u8; 98304];
     let n = replay_format::read_file(path, &mut list);
@@ -71,7 +72,7 @@ fn main() {
     report(
         DILUTION,
         b"dilutions.bin",
-        b" dilutions agree, buffers too short and exact\n",
+        b" dilutions agree, list and graph, buffers too short and exact\n",
     );
     report(
         REFUSAL,

@@ -1,4 +1,4 @@
-//! Graphs: the kept edges, as they are and turned, window, components, free edges, tree edges and distances.
+//! Graphs: the kept edges, as they are and turned, with their raw places, window, components, free edges, tree edges and distances.
 
 use crate::draw::Draw;
 use crate::guarded::{equal, same, Guarded};
@@ -87,23 +87,25 @@ fn numbers(lent: &Lent, refusal: usize, original: Option<&Graph>) -> Result<(), 
 }
 
 /// `front` at the front of `before`.
-fn over<T: Copy>(front: &[T], before: &[T]) -> Vec<T> {
+pub fn over<T: Copy>(front: &[T], before: &[T]) -> Vec<T> {
     [front, &before[front.len()..]].concat()
 }
 
 /// The kept edges, or those of the turned graph.
 fn kept(draw: &mut Draw, lent: &Lent, refusal: usize, original: Option<&Graph>, turned: bool) -> Result<usize, String> {
     let wanted = original.map_or(lent.edges.a.len().min(20), |g| g.edges.len());
-    let lengths = [wanted + draw.below(3), length(draw, wanted), length(draw, wanted)];
-    let before = (vec![5; lengths[0]], vec![6; lengths[1]], draw.held(lengths[2]));
-    let (mut early, mut late, mut mag) = (Guarded::new(&before.0), Guarded::new(&before.1), Guarded::new(&before.2));
+    let lengths = [wanted + draw.below(3), length(draw, wanted), length(draw, wanted), length(draw, wanted)];
+    let before = (vec![5; lengths[0]], vec![6; lengths[1]], draw.held(lengths[2]), vec![7; lengths[3]]);
+    let (mut early, mut late) = (Guarded::new(&before.0), Guarded::new(&before.1));
+    let (mut mag, mut raw) = (Guarded::new(&before.2), Guarded::new(&before.3));
     let (mut window, mut edges) = (BEFORE, BEFORE);
-    let (e, l, m) = (early.pointer_mut(), late.pointer_mut(), mag.pointer_mut());
+    let (e, l, m, r) = (early.pointer_mut(), late.pointer_mut(), mag.pointer_mut(), raw.pointer_mut());
     let floor = lent.edges.floor;
+    let [e_len, l_len, m_len, r_len] = lengths;
     let number = if turned {
-        call!(copperhook_rotated, lent, floor; e, lengths[0], l, lengths[1], m, lengths[2], &mut window, &mut edges)
+        call!(copperhook_rotated, lent, floor; e, e_len, l, l_len, m, m_len, r, r_len, &mut window, &mut edges)
     } else {
-        call!(copperhook_graph, lent, floor; e, lengths[0], l, lengths[1], m, lengths[2], &mut window, &mut edges)
+        call!(copperhook_graph, lent, floor; e, e_len, l, l_len, m, m_len, r, r_len, &mut window, &mut edges)
     };
     let expected = first(refusal, || unless(lengths.iter().all(|&length| wanted <= length), 12));
     equal("answer of the kept edges", number, expected)?;
@@ -112,6 +114,7 @@ fn kept(draw: &mut Draw, lent: &Lent, refusal: usize, original: Option<&Graph>, 
             early.holds("early", &before.0)?;
             late.holds("late", &before.1)?;
             mag.holds("mag", &before.2)?;
+            raw.holds("raw", &before.3)?;
             same("window and edges", &[window, edges], &[BEFORE; 2])?;
         }
         Some(g) => {
@@ -120,6 +123,7 @@ fn kept(draw: &mut Draw, lent: &Lent, refusal: usize, original: Option<&Graph>, 
             early.holds("early", &over(&a, &before.0))?;
             late.holds("late", &over(&b, &before.1))?;
             mag.holds("mag", &over(&g.mag, &before.2))?;
+            raw.holds("raw", &over(&lent.edges.places(), &before.3))?;
             same("window and edges", &[window, edges], &[g.win.max(floor), g.edges.len()])?;
         }
     }

@@ -1,11 +1,13 @@
-//! Strips: vertices, window, edges, dilution, standard pairs and names.
+//! Strips: vertices, window, edges, dilution and its graph, standard pairs and names.
+
+mod graphs;
 
 use crate::draw::Draw;
 use crate::guarded::{equal, same, Guarded};
 use crate::shapes::KINDS;
 use copperhook::sys;
 use oracle::lattice::{Graph, Kind, Strip};
-use oracle::rng::Rng;
+use oracle::rules::dilution::drawn;
 use oracle::rules::lists::Edges;
 use oracle::rules::refusals::{first, unless, StripCall};
 use oracle::rules::strips::eight_edges;
@@ -89,7 +91,7 @@ pub fn try_one(draw: &mut Draw) -> Result<usize, String> {
 fn all_entries(draw: &mut Draw, s: &Numbers) -> Result<usize, String> {
     vertices(draw, s)?;
     names(draw, s)?;
-    let answers = [raw_edges(draw, s)?, diluted(draw, s)?, pairs(draw, s)?];
+    let answers = [raw_edges(draw, s)?, diluted(draw, s)?, graphs::diluted_graph(draw, s)?, pairs(draw, s)?];
     Ok(answers.into_iter().max().unwrap_or(0))
 }
 
@@ -227,14 +229,7 @@ fn dilution(draw: &mut Draw) -> [f64; 3] {
 
 /// The edges as the original draws them; its graph keeps those whose magnitude is not zero.
 fn drawn_edges(s: &Numbers, by: [f64; 3], seed: u64) -> Result<Vec<(usize, usize, f64)>, String> {
-    let [keep, low, high] = by;
-    let mut rng = Rng::new(seed ^ 0xD11);
-    let mut edges = s.edges();
-    for e in &mut edges {
-        let kept = rng.uniform() < keep;
-        let magnitude = low + (high - low) * rng.uniform();
-        e.2 = if kept { magnitude } else { 0.0 };
-    }
+    let edges = drawn(s.edges(), by, seed);
     let graph = s.diluted(by, seed, &edges);
     let kept = edges.iter().filter(|e| e.2 != 0.0).map(|&(a, b, m)| ((a.min(b), a.max(b)), m.to_bits()));
     let theirs = graph.edges.iter().copied().zip(graph.mag.iter().map(|m| m.to_bits()));

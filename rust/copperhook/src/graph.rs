@@ -39,17 +39,18 @@ impl<'a> Graph<'a> {
         Graph { floor, ..self }
     }
 
-    /// Writes the kept edges to the fronts of three lists, the smaller end first; what lies behind them stays.
-    pub fn kept(&self, early: &mut [usize], late: &mut [usize], mag: &mut [f64]) -> Result<Kept, Refusal> {
+    /// Writes the kept edges to the fronts of three lists, the smaller end first, and to that of `raw` where each stands in the graph's own
+    /// lists; what lies behind them stays.
+    pub fn kept(&self, early: &mut [usize], late: &mut [usize], mag: &mut [f64], raw: &mut [usize]) -> Result<Kept, Refusal> {
         let (mut window, mut edges) = (0, 0);
-        let number = call_of_graph!(copperhook_graph(self, floor; write early, late, mag; tell window, edges));
+        let number = call_of_graph!(copperhook_graph(self, floor; write early, late, mag, raw; tell window, edges));
         Refusal::told(number).map(|()| Kept { window, edges })
     }
 
-    /// As [`Graph::kept`] for the graph turned by 180 degrees, vertex v being n - 1 - v.
-    pub fn rotated(&self, early: &mut [usize], late: &mut [usize], mag: &mut [f64]) -> Result<Kept, Refusal> {
+    /// As [`Graph::kept`] for the graph turned by 180 degrees, vertex v being n - 1 - v; the edges keep their order and raw places.
+    pub fn rotated(&self, early: &mut [usize], late: &mut [usize], mag: &mut [f64], raw: &mut [usize]) -> Result<Kept, Refusal> {
         let (mut window, mut edges) = (0, 0);
-        let number = call_of_graph!(copperhook_rotated(self, floor; write early, late, mag; tell window, edges));
+        let number = call_of_graph!(copperhook_rotated(self, floor; write early, late, mag, raw; tell window, edges));
         Refusal::told(number).map(|()| Kept { window, edges })
     }
 

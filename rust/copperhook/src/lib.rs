@@ -69,7 +69,7 @@ pub use estimate::{estimate, estimates, sqrt, Estimate};
 pub use graph::{Graph, Kept};
 pub use job::{Job, Manner, Pair, Sampling};
 pub use kind::Kind;
-pub use lists::{EdgeList, Factors, LabelledPair};
+pub use lists::{EdgeList, Factors, KeptList, LabelledPair};
 pub use refusal::Refusal;
 pub use rng::Rng;
 pub use strip::{Dilution, Strip};

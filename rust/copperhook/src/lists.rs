@@ -1,6 +1,6 @@
 //! Lists that are made here, for callers that do not count doubles themselves.
 
-use crate::graph::Graph;
+use crate::graph::{Graph, Kept};
 use crate::limits;
 use crate::refusal::Refusal;
 use crate::strip::{Dilution, Strip};
@@ -14,6 +14,17 @@ pub struct EdgeList {
     pub b: Vec<usize>,
     /// The magnitude of each edge.
     pub m: Vec<f64>,
+}
+
+/// The kept edges of a graph, in lists of their own, and where they come from.
+#[derive(Clone, Debug, PartialEq)]
+pub struct KeptList {
+    /// The kept edges, smaller end first.
+    pub edges: EdgeList,
+    /// The place of each among the raw edges, counted from 0 and rising.
+    pub raw: Vec<usize>,
+    /// The largest of 1, the floor and the longest kept edge.
+    pub window: usize,
 }
 
 /// Two vertices, and what a strip calls them.
@@ -55,6 +66,22 @@ impl EdgeList {
     }
 }
 
+impl KeptList {
+    /// Returns as many edges as `fill` says that it wrote, of lists with room for all.
+    fn filled(
+        fill: impl FnOnce(&mut [usize], &mut [usize], &mut [f64], &mut [usize]) -> Result<Kept, Refusal>,
+    ) -> Result<KeptList, Refusal> {
+        let (mut raw, mut window) = (vec![0; limits::EDGES], 0);
+        let edges = EdgeList::filled(|early, late, mag| {
+            let kept = fill(early, late, mag, &mut raw)?;
+            window = kept.window;
+            Ok(kept.edges)
+        })?;
+        raw.truncate(edges.m.len());
+        Ok(KeptList { edges, raw, window })
+    }
+}
+
 impl Strip {
     /// Returns the edges, of magnitude 1.0, in lists of their own.
     pub fn edge_list(&self) -> Result<EdgeList, Refusal> {
@@ -64,6 +91,11 @@ impl Strip {
     /// Returns the diluted edges, dropped ones with magnitude +0.0, in lists of their own.
     pub fn diluted_list(&self, by: &Dilution) -> Result<EdgeList, Refusal> {
         EdgeList::filled(|early, late, mag| self.diluted(by, early, late, mag))
+    }
+
+    /// Returns the kept ones of the diluted edges, with their places in the strip's edge list, in lists of their own.
+    pub fn diluted_kept(&self, by: &Dilution) -> Result<KeptList, Refusal> {
+        KeptList::filled(|early, late, mag, raw| self.diluted_graph(by, early, late, mag, raw))
     }
 
     /// Returns the standard pairs with their labels.
@@ -78,14 +110,19 @@ impl Strip {
 }
 
 impl Graph<'_> {
-    /// Returns the kept edges in lists of their own, smaller end first.
-    pub fn kept_list(&self) -> Result<EdgeList, Refusal> {
-        EdgeList::filled(|early, late, mag| self.kept(early, late, mag).map(|kept| kept.edges))
+    /// Returns the kept edges in lists of their own, smaller end first, with their raw places.
+    pub fn kept_list(&self) -> Result<KeptList, Refusal> {
+        KeptList::filled(|early, late, mag, raw| self.kept(early, late, mag, raw))
+    }
+
+    /// As [`Graph::kept_list`] for the graph turned by 180 degrees.
+    pub fn rotated_list(&self) -> Result<KeptList, Refusal> {
+        KeptList::filled(|early, late, mag, raw| self.rotated(early, late, mag, raw))
     }
 
     /// Returns the exponentials of the couplings at these betas, of either sign.
     pub fn factors(&self, betas: &[f64]) -> Result<Factors, Refusal> {
-        let kept = self.kept_list()?.m.len();
+        let kept = self.kept_list()?.raw.len();
         let mut couplings = vec![0.0; kept * betas.len()];
         self.couplings(betas, &mut couplings)?;
         let all = couplings.iter().flat_map(|&x: &f64| [x.exp(), (-x).exp()]).collect();

@@ -1,6 +1,7 @@
 //! Strips: their vertices, edges, dilution and standard pairs.
 
 use crate::call::call_of_strip;
+use crate::graph::Kept;
 use crate::kind::{short_name, Kind};
 use crate::refusal::Refusal;
 use crate::sys;
@@ -71,6 +72,23 @@ impl Strip {
         let mut edges = 0;
         let number = call_of_strip!(copperhook_diluted(self; with by.keep, by.low, by.high, by.seed; write early, late, mag; tell edges));
         Refusal::told(number).map(|()| edges)
+    }
+
+    /// Writes the kept ones of the diluted edges to the fronts of three lists, and to that of `raw` where each stands in the strip's edge
+    /// list; the window is the whole strip's.
+    pub fn diluted_graph(
+        &self,
+        by: &Dilution,
+        early: &mut [usize],
+        late: &mut [usize],
+        mag: &mut [f64],
+        raw: &mut [usize],
+    ) -> Result<Kept, Refusal> {
+        let (mut window, mut edges) = (0, 0);
+        let number = call_of_strip!(copperhook_diluted_graph(
+            self; with by.keep, by.low, by.high, by.seed; write early, late, mag, raw; tell window, edges
+        ));
+        Refusal::told(number).map(|()| Kept { window, edges })
     }
 
     /// Writes the standard pairs to the fronts of `us` and `vs`, and their labels to that of `labels`, each closed by a zero byte; returns how

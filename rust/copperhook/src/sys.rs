@@ -221,7 +221,7 @@ extern "C" {
         bound: *mut f64,
     ) -> usize;
 
-    /// The kept edges and the window.
+    /// The kept edges with their raw places, and the window.
     pub fn copperhook_graph(
         n: usize,
         floor: usize,
@@ -237,11 +237,13 @@ extern "C" {
         late_len: usize,
         mag: *mut f64,
         mag_len: usize,
+        raw: *mut usize,
+        raw_len: usize,
         window: *mut usize,
         edges: *mut usize,
     ) -> usize;
 
-    /// The kept edges and the window of the graph turned by 180 degrees.
+    /// The kept edges with their raw places, and the window, of the graph turned by 180 degrees.
     pub fn copperhook_rotated(
         n: usize,
         floor: usize,
@@ -257,6 +259,8 @@ extern "C" {
         late_len: usize,
         mag: *mut f64,
         mag_len: usize,
+        raw: *mut usize,
+        raw_len: usize,
         window: *mut usize,
         edges: *mut usize,
     ) -> usize;
@@ -388,6 +392,28 @@ extern "C" {
         late_len: usize,
         mag: *mut f64,
         mag_len: usize,
+        edges: *mut usize,
+    ) -> usize;
+
+    /// The graph of a diluted strip: its kept edges with their places in the strip's edge list, and its window.
+    pub fn copperhook_diluted_graph(
+        kind: usize,
+        w: usize,
+        l: usize,
+        periodic: bool,
+        keep: f64,
+        low: f64,
+        high: f64,
+        seed: u64,
+        early: *mut usize,
+        early_len: usize,
+        late: *mut usize,
+        late_len: usize,
+        mag: *mut f64,
+        mag_len: usize,
+        raw: *mut usize,
+        raw_len: usize,
+        window: *mut usize,
         edges: *mut usize,
     ) -> usize;
 

@@ -304,6 +304,36 @@ fn the_generator_is_xoshiro256_plus_plus() {
     assert!((0.0..1.0).contains(&Rng::new(1).uniform()));
 }
 
+/// Edge 1 is dropped, by -0.0, so the kept ones are the raw edges 0, 2 and 3, turned or not.
+#[test]
+fn kept_edges_remember_their_raw_places() {
+    let graph = Graph::new(4, &[1, 0, 3, 2], &[0, 2, 1, 3], &[0.5, -0.0, 2.0, 1.0]);
+    let (kept, turned) = (graph.kept_list().unwrap(), graph.rotated_list().unwrap());
+    assert_eq!((&kept.edges.a[..], &kept.edges.b[..], &kept.raw[..]), (&[0, 1, 2][..], &[1, 3, 3][..], &[0, 2, 3][..]));
+    assert_eq!((&turned.edges.a[..], &turned.edges.b[..], &turned.raw[..]), (&[2, 0, 0][..], &[3, 2, 1][..], &[0, 2, 3][..]));
+    assert_eq!((kept.edges.m, kept.window), (turned.edges.m, turned.window));
+    assert_eq!(graph.kept(&mut [0; 3], &mut [0; 3], &mut [0.0; 3], &mut [0; 2]), Err(Refusal::Buffer));
+    let mut raw = [7];
+    assert!(Graph::new(2, &[], &[], &[]).kept(&mut [], &mut [], &mut [], &mut raw).is_ok() && raw == [7]);
+}
+
+/// The graph of a diluted strip is that of its list, with the whole strip's window.
+#[test]
+fn a_diluted_graph_has_the_strips_places_and_window() {
+    let strip = Strip { kind: Kind::Triangular, width: 3, length: 5, periodic: true };
+    for seed in 0..20 {
+        let by = Dilution { keep: 0.4, low: 0.5, high: 1.5, seed };
+        let list = strip.diluted_list(&by).unwrap();
+        let window = strip.window().unwrap();
+        let kept = strip.diluted_kept(&by).unwrap();
+        assert_eq!(list.graph(strip.n().unwrap()).with_floor(window).kept_list(), Ok(kept.clone()));
+        let places: Vec<usize> = (0..list.m.len()).filter(|&place| list.m[place] != 0.0).collect();
+        assert_eq!((kept.raw, kept.window), (places, window));
+    }
+    let strip = Strip { kind: Kind::Square, width: 1, length: 3, periodic: false };
+    assert_eq!(strip.diluted_kept(&Dilution { keep: 0.5, low: 1.0, high: 1.0, seed: 2 }).unwrap().raw, [1]);
+}
+
 /// Correlations, totals and every graph entry, on as many vertices as there may be.
 fn largest_calls() -> Result<(), Refusal> {
     let strip = Strip { kind: Kind::Triangular, width: 4, length: 256, periodic: true };
@@ -315,7 +345,9 @@ fn largest_calls() -> Result<(), Refusal> {
     job.correlations(&vec![1.5; edges.m.len()], Manner::Block, &mut results, &mut work)?;
     let records: Vec<Pair> = pairs.iter().map(|p| Pair { u: p.u, v: p.v }).collect();
     graph.correlations_of(&records, &vec![1.5; edges.m.len()], Manner::Block, &mut results, &mut work)?;
-    graph.rotated(&mut [0; 4096], &mut [0; 4096], &mut [0.0; 4096])?;
+    graph.rotated(&mut [0; 4096], &mut [0; 4096], &mut [0.0; 4096], &mut [0; 4096])?;
+    let by = Dilution { keep: 0.9, low: 0.5, high: 1.5, seed: 7 };
+    strip.diluted_graph(&by, &mut [0; 4096], &mut [0; 4096], &mut [0.0; 4096], &mut [0; 4096])?;
     graph.spanning_forest(&mut vec![false; edges.m.len()])?;
     graph.components(&mut vec![0; 1024])?;
     graph.error_bound(&vec![1.5; edges.m.len()])?;

@@ -33,20 +33,31 @@ pub fn counted(count: usize, one: &str, many: &str) -> String {
 }
 
 /// The strip, and its edges as they are lent.
-fn strip(options: &Options) -> Result<(Strip, EdgeList), Trouble> {
+pub fn strip(options: &Options) -> Result<(Strip, EdgeList), Trouble> {
     let named = |refusal| explained::of_strip(options, refusal);
     let kind = Kind::parse(&options.kind).ok_or_else(|| Trouble::asked(format!("--kind {}: the library has none", options.kind)))?;
     let strip = Strip { kind, width: options.width, length: options.length, periodic: options.cylinder };
     strip.n().map_err(named)?;
-    let window = strip.window().map_err(named)?;
-    if window > limits::WINDOW {
-        return Err(explained::refused(explained::window(&strip, window), Refusal::Window));
-    }
     let edges = match options.dilution {
         None => strip.edge_list(),
         Some(by) => strip.diluted_list(&Dilution { keep: by.keep, low: by.low, high: by.high, seed: by.seed }),
     };
     Ok((strip, edges.map_err(named)?))
+}
+
+/// How it is diluted, where it is.
+pub fn diluted(options: &Options) -> Option<String> {
+    options
+        .dilution
+        .map(|by| format!("keep {}, magnitudes {} to {}, seed {}", spelled(by.keep), spelled(by.low), spelled(by.high), by.seed))
+}
+
+/// A strip with its vertices, kept edges and window, on one line.
+pub fn title(strip: &Strip, diluted: Option<&str>, [n, kept, window]: [usize; 3]) -> String {
+    let boundary = if strip.periodic { "cylinder" } else { "free" };
+    let diluted = diluted.map_or(String::new(), |by| format!(", diluted ({by})"));
+    let (n, kept) = (counted(n, "vertex", "vertices"), counted(kept, "kept edge", "kept edges"));
+    format!("{} strip, {boundary}, {} by {}{diluted}: {n}, {kept}, window {window}", strip.kind.name(), strip.width, strip.length)
 }
 
 impl Board {
@@ -55,6 +66,9 @@ impl Board {
         let named = |refusal| explained::of_strip(options, refusal);
         let (strip, edges) = strip(options)?;
         let (n, window) = (strip.n().map_err(named)?, strip.window().map_err(named)?);
+        if window > limits::WINDOW {
+            return Err(explained::refused(explained::window(&strip, window), Refusal::Window));
+        }
         let pairs = match &options.pairs {
             None => strip.labelled_pairs().map_err(named)?,
             Some(pairs) => pairs.iter().map(|&(u, v)| LabelledPair { label: format!("{u}-{v}"), u, v }).collect(),
@@ -65,12 +79,9 @@ impl Board {
         let factors = graph.factors(&options.betas).map_err(|refusal| explained::of_betas(&options.betas, refusal))?;
         let free = graph.cyclomatic().map_err(named)?;
         let distances = pairs.iter().map(|p| graph.distance(p.u, p.v)).collect::<Result<_, _>>().map_err(named)?;
-        let diluted = options
-            .dilution
-            .map(|by| format!("keep {}, magnitudes {} to {}, seed {}", spelled(by.keep), spelled(by.low), spelled(by.high), by.seed));
         let (betas, kept) = (options.betas.clone(), factors.kept);
         let manner = if options.per_element { Manner::PerElement } else { Manner::Block };
-        Ok(Board { strip, betas, manner, pairs, distances, n, kept, free, window, room, factors, diluted, edges, us, vs })
+        Ok(Board { strip, betas, manner, pairs, distances, n, kept, free, window, room, factors, diluted: diluted(options), edges, us, vs })
     }
 
     pub fn graph(&self) -> Graph<'_> {
@@ -115,10 +126,7 @@ impl Board {
 
     /// What it is, on one line.
     pub fn title(&self) -> String {
-        let (s, boundary) = (&self.strip, if self.strip.periodic { "cylinder" } else { "free" });
-        let diluted = self.diluted.as_ref().map_or(String::new(), |by| format!(", diluted ({by})"));
-        let (n, kept, window) = (counted(self.n, "vertex", "vertices"), counted(self.kept, "kept edge", "kept edges"), self.window);
-        format!("{} strip, {boundary}, {} by {}{diluted}: {n}, {kept}, window {window}", s.kind.name(), s.width, s.length)
+        title(&self.strip, self.diluted.as_deref(), [self.n, self.kept, self.window])
     }
 
     /// Entries that the sweeps of one call step over: forward, backward, and from the earlier vertex of each far pair to its last.

@@ -4,6 +4,7 @@ pub const HELP: &str = "\
 The sheet of a strip: how strongly pairs of its spins hold together, as exact pair correlations of its Ising strip.
 
 usage: sheet [make] --kind K --width N --length N --beta B,.. [options]
+       sheet [make] --kind K --width N --length N --edges [options]
        sheet verify FILE [--threads N]
        sheet --help | --version
 
@@ -21,6 +22,9 @@ what is asked of it
     --beta B,..              inverse temperatures, up to 64
     --pairs U-V,..           these pairs of vertices, up to 256; without it the standard pairs, see below.
                              Vertex (x, y), x along and y across, is x times the width + y
+    --edges                  its edges, and no pairs: each with its place in the strip's edge list, counted from 0, its
+                             ends and magnitude, whether it is kept or dropped, and if kept, whether it is a tree edge
+                             or free; as text or csv. With --bits the bits of the magnitude too
     --manner M               block (the default) or element: how often a sweep is rescaled; the last bits depend on it
 of which configurations: one of these; without any, all, where at most 20 edges are free
     --signs S                one: the sign of each kept edge in order, as +-++, or plus for all
@@ -52,7 +56,7 @@ host's exp makes. That is proved, and no digit past it is printed; where no boun
 Every sheet ends, or as csv and json begins, with its record: Copperhook's version and commit, the SHA-256 of the
 library's archive and of the factors (both signs at each beta and kept edge, as the library is lent them, eight bytes
 each, lowest first), the command that asks for the same numbers, the strip, its dilution, all signs, seed, chunks,
-samples, count and manner.
+samples, count and manner. That of --edges ends with the dilution, and has no factors.
 
 examples
     sheet --kind square --width 4 --length 6 --beta 0.44,0.6
@@ -60,6 +64,7 @@ examples
     sheet --kind tri --width 6 --length 20 --beta 0.5 --sample 100 --chunks 40 --threads 4
     sheet --kind honey --width 4 --length 5 --beta 1 --dilute 0.9,0.5,1.5,11 --pairs 0-19,0-1 --bits
     sheet --kind eight --width 5 --length 9 --cylinder --beta 0.2,0.3 --seed 4
+    sheet --kind honey --width 4 --length 5 --dilute 0.9,0.5,1.5,11 --edges
     sheet verify board.csv
     sheet --kind square --width 8 --length 12 --beta 0.2,0.44,0.8 --signs plus --format svg --output plot.svg
 

@@ -6,6 +6,7 @@ mod board;
 mod configuration;
 mod cost;
 mod data;
+mod edges;
 mod explained;
 mod help;
 mod json;
@@ -35,6 +36,9 @@ use trouble::Trouble;
 
 /// The sheet as its format spells it.
 fn make(options: &Options) -> Result<String, Trouble> {
+    if options.edges {
+        return edges::listed(options);
+    }
     let board = Board::new(options)?;
     for warning in explained::warnings(options) {
         tell(&format!("sheet: warning: {warning}\n"));

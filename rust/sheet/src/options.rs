@@ -54,6 +54,8 @@ pub struct Options {
     pub betas: Vec<f64>,
     pub pairs: Option<Vec<(usize, usize)>>,
     pub wanted: Wanted,
+    /// The strip's edges are asked for, and no pairs.
+    pub edges: bool,
     pub per_element: bool,
     pub format: Format,
     pub bits: bool,
@@ -83,6 +85,7 @@ struct Written {
     signs: Option<Wanted>,
     seed: Option<u64>,
     enumerate: bool,
+    edges: bool,
     sample: Option<usize>,
     chunks: Option<(u64, u64)>,
     threads: Option<usize>,
@@ -167,6 +170,7 @@ impl Written {
             "--bits" => &mut self.bits,
             "--linear" => &mut self.linear,
             "--enumerate" => &mut self.enumerate,
+            "--edges" => &mut self.edges,
             _ => return Ok(false),
         };
         *slot = true;
@@ -231,12 +235,36 @@ impl Written {
         })
     }
 
+    /// What a list of edges does not depend on is not asked with it.
+    fn only_edges(&self) -> Result<(), Trouble> {
+        let given = [
+            ("--beta", self.betas.is_some()),
+            ("--pairs", self.pairs.is_some()),
+            ("--signs", self.signs.is_some()),
+            ("--sample", self.sample.is_some()),
+            ("--enumerate", self.enumerate),
+            ("--seed", self.seed.is_some()),
+            ("--manner", self.per_element.is_some()),
+        ];
+        if let Some((name, _)) = given.iter().find(|g| g.1) {
+            return Err(Trouble::asked(format!("--edges and {name} cannot be combined: the edges do not depend on it")));
+        }
+        match self.format {
+            Some(Format::Json | Format::Svg) => Err(Trouble::asked("--edges is told as text or csv")),
+            _ => Ok(()),
+        }
+    }
+
     fn put_together(mut self) -> Result<Options, Trouble> {
         fn needed<T>(slot: Option<T>, name: &str, what: &str) -> Result<T, Trouble> {
             slot.ok_or_else(|| Trouble::asked(format!("{name} is required ({what})")))
         }
         if self.linear && self.format != Some(Format::Svg) {
             return Err(Trouble::asked("--linear is for a plot; give --format svg too"));
+        }
+        if self.edges {
+            self.only_edges()?;
+            self.betas = Some(Vec::new());
         }
         Ok(Options {
             wanted: self.wanted()?,
@@ -247,6 +275,7 @@ impl Written {
             dilution: self.dilution,
             betas: needed(self.betas, "--beta", "inverse temperatures, as 0.44,0.6")?,
             pairs: self.pairs,
+            edges: self.edges,
             per_element: self.per_element.unwrap_or(false),
             format: self.format.unwrap_or(Format::Text),
             bits: self.bits,
@@ -311,6 +340,7 @@ mod tests {
             ("--format pdf", "--format pdf: there is no such format; use text, csv, json or svg"),
             ("--manner slow", "--manner slow: there is no such manner; use block or element"),
             ("--linear", "--linear is for a plot; give --format svg too"),
+            ("--edges", "--edges and --beta cannot be combined: the edges do not depend on it"),
             ("--bits=1", "--bits takes no value"),
             ("--manner", "--manner needs a value; sheet --help tells which"),
             ("--colour red", "there is no option --colour; sheet --help tells them"),
@@ -318,6 +348,14 @@ mod tests {
         ] {
             let why = parsed(&format!("{good} {more}")).unwrap_err();
             assert_eq!((why.to_string().as_str(), why.status()), (told, 2));
+        }
+        let edges = "--kind sq --width 2 --length 3 --edges";
+        for (more, told) in [
+            ("--seed 3", "--edges and --seed cannot be combined: the edges do not depend on it"),
+            ("--format json", "--edges is told as text or csv"),
+            ("--threads 2", "--threads is for drawn configurations; give --sample too"),
+        ] {
+            assert_eq!(parsed(&format!("{edges} {more}")).unwrap_err().to_string(), told);
         }
         assert_eq!(parsed("--width 0").unwrap_err().to_string(), "--width must be at least 1");
         assert_eq!(parsed("").unwrap_err().to_string(), "nothing is asked for; sheet --help tells how to ask");

@@ -5,6 +5,7 @@ use crate::options::{Options, Wanted};
 use crate::sha256::sha256;
 use crate::source::Source;
 use crate::values::{spelled, spelled_signs};
+use copperhook::Strip;
 
 pub const VERSION: &str = env!("CARGO_PKG_VERSION");
 pub const COMMIT: &str = env!("COPPERHOOK_COMMIT");
@@ -43,26 +44,41 @@ pub struct Record(pub Vec<Entry>);
 
 impl Record {
     pub fn new(options: &Options, board: &Board, source: &dyn Source) -> Record {
-        let mut entries = vec![
-            ("copperhook", Field::text(VERSION)),
-            ("commit", Field::text(COMMIT)),
-            ("archive_sha256", Field::text(ARCHIVE_SHA256)),
-            ("factors_sha256", Field::text(factors_sha256(board))),
-            ("command", Field::text(command(options, board))),
-            ("kind", Field::text(board.strip.kind.name())),
-            ("boundary", Field::text(board.strip.boundary())),
-            ("width", Field::number(board.strip.width)),
-            ("length", Field::number(board.strip.length)),
-            ("vertices", Field::number(board.n)),
-            ("kept_edges", Field::number(board.kept)),
-            ("free_edges", Field::number(board.free)),
-            ("window", Field::number(board.window)),
-        ];
+        let mut entries = build().to_vec();
+        entries.push(("factors_sha256", Field::text(factors_sha256(board))));
+        entries.push(("command", Field::text(command(options, &board.strip))));
+        entries.extend(strip(&board.strip, [board.n, board.kept, board.free, board.window]));
         entries.extend(dilution(options));
         entries.extend(source.record());
         entries.push(("manner", Field::text(manner(options))));
         Record(entries)
     }
+
+    /// Of a list of edges, which no beta and no configuration enters: the strip, with its vertices, kept and free edges and window.
+    pub fn of_edges(options: &Options, of: &Strip, figures: [usize; 4]) -> Record {
+        let mut entries = build().to_vec();
+        entries.push(("command", Field::text(command(options, of))));
+        entries.extend(strip(of, figures));
+        entries.extend(dilution(options));
+        Record(entries)
+    }
+}
+
+fn build() -> [Entry; 3] {
+    [("copperhook", Field::text(VERSION)), ("commit", Field::text(COMMIT)), ("archive_sha256", Field::text(ARCHIVE_SHA256))]
+}
+
+fn strip(strip: &Strip, [n, kept, free, window]: [usize; 4]) -> [Entry; 8] {
+    [
+        ("kind", Field::text(strip.kind.name())),
+        ("boundary", Field::text(strip.boundary())),
+        ("width", Field::number(strip.width)),
+        ("length", Field::number(strip.length)),
+        ("vertices", Field::number(n)),
+        ("kept_edges", Field::number(kept)),
+        ("free_edges", Field::number(free)),
+        ("window", Field::number(window)),
+    ]
 }
 
 fn manner(options: &Options) -> &'static str {
@@ -92,15 +108,19 @@ fn factors_sha256(board: &Board) -> String {
 }
 
 /// The line that asks for the same numbers, however it was asked: nothing unsaid, in one order, and nothing that no number depends on.
-fn command(options: &Options, board: &Board) -> String {
+fn command(options: &Options, strip: &Strip) -> String {
     let list = |items: Vec<String>| items.join(",");
-    let mut words = vec!["sheet make --kind".to_string(), board.strip.kind.name()];
+    let mut words = vec!["sheet make --kind".to_string(), strip.kind.name()];
     words.push(format!("--width {} --length {}", options.width, options.length));
     words.extend(options.cylinder.then(|| "--cylinder".to_string()));
     words.extend(options.dilution.map(|by| {
         let numbers = [by.keep, by.low, by.high].map(spelled).join(",");
         format!("--dilute {numbers},{}", by.seed)
     }));
+    if options.edges {
+        words.push("--edges".to_string());
+        return words.join(" ");
+    }
     words.push(format!("--beta {}", list(options.betas.iter().map(|&b| spelled(b)).collect())));
     words.extend(options.pairs.as_ref().map(|pairs| format!("--pairs {}", list(pairs.iter().map(|(u, v)| format!("{u}-{v}")).collect()))));
     words.push(match &options.wanted {

@@ -9,11 +9,11 @@ const LABELS: &str = "\
 pairs: -a across, -l along; adj neighbours, d2 two steps apart; bdry on the boundary, lmid halfway along it; sheet --help tells all
 ";
 
-pub fn text(sheet: &Sheet) -> String {
-    let table = table(sheet);
+/// The cells in columns, the first to the left and the others to the right.
+pub fn aligned(table: &[Vec<String>]) -> String {
     let widths: Vec<usize> = (0..table[0].len()).map(|c| table.iter().map(|row| row[c].chars().count()).max().unwrap_or(0)).collect();
-    let mut text = format!("{}\n{}; manner {}\n\n", sheet.title, sheet.source, sheet.manner);
-    for row in &table {
+    let mut text = String::new();
+    for row in table {
         let cells = row.iter().enumerate().map(|(c, cell)| {
             let width = widths[c];
             if c == 0 {
@@ -25,6 +25,12 @@ pub fn text(sheet: &Sheet) -> String {
         text += cells.collect::<Vec<_>>().join("  ").trim_end();
         text.push('\n');
     }
+    text
+}
+
+pub fn text(sheet: &Sheet) -> String {
+    let mut text = format!("{}\n{}; manner {}\n\n", sheet.title, sheet.source, sheet.manner);
+    text += &aligned(&table(sheet));
     text += &foot(sheet);
     if sheet.standard {
         text += LABELS;

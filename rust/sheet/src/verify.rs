@@ -63,7 +63,10 @@ fn csv_cells(text: &str) -> Result<Cells, String> {
             return Err(format!("row {i} has {} cells; its head has {}", row.len(), head.len()));
         }
         let cell = |name: &str| head.iter().position(|column| *column == name).map_or("", |c| row[c]);
-        let place = format!("row {i} (beta {}, pair {})", cell("beta"), cell("pair"));
+        let place = match head.contains(&"place") {
+            true => format!("row {i} (edge {})", cell("place")),
+            false => format!("row {i} (beta {}, pair {})", cell("beta"), cell("pair")),
+        };
         for (column, cell) in head.iter().zip(&row) {
             cells.insert(format!("{place}, {column}"), cell.to_string());
         }

@@ -118,7 +118,7 @@ module _ (n : ℕ) (a b : List ℕ) (m : List Float) (ok : some (badEnds n a b) 
       let y : getD b i 0 < n = leb-false n (getD b i 0) (o .1) in
       go (getD a i 0) (getD b i 0) (eqb-false _ _ (t .0)) x y (decLt (getD a i 0) (getD b i 0))
     where
-      go : (x y : ℕ) → (x ≡ y → ⊥) → x < n → y < n → Dec (x < y) → Inside n (record { early = min x y; late = max x y; magnitude = getD m i nan; place = i })
+      go : (x y : ℕ) → (x ≡ y → ⊥) → x < n → y < n → Dec (x < y) → Inside n (record { early = min x y; late = max x y; magnitude = getD m i nan; place = keptAt a b m i .place })
       go x y d p q (yes l) = record { ordered = omega arith; inside = omega arith }
       go x y d p q (no l) = record { ordered = omega arith; inside = omega arith }
 

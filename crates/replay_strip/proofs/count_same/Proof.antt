@@ -8,7 +8,7 @@ use Rattle.replay_strip.proofs.count_same.Statement.{statement}
 use Rattle.replay_strip.proofs.count_same.Tie as tie
 
 abbrev Inv-loop : tie.InvT-loop
-Inv-loop size list count₀ at₀ count at = (at ≤ length list + 72) × (count ≤ at)
+Inv-loop size list count₀ at₀ count at = (at ≤ length list + 80) × (count ≤ at)
 
 abbrev μ-loop : tie.MeasureT-loop
 μ-loop size list count₀ at₀ count at = length list - at

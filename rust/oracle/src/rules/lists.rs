@@ -54,6 +54,11 @@ impl Edges {
         self.raw().into_iter().filter(|e| e.2 != 0.0).map(|(a, b, m)| (a.min(b), a.max(b), m)).collect()
     }
 
+    /// Returns each kept edge's place in the raw list.
+    pub fn places(&self) -> Vec<usize> {
+        (0..self.m.len()).filter(|&place| self.m[place] != 0.0).collect()
+    }
+
     /// Returns the largest of 1, the floor and the longest kept edge.
     pub fn window(&self) -> usize {
         self.kept().iter().map(|e| e.1 - e.0).chain([1, self.floor]).max().unwrap()

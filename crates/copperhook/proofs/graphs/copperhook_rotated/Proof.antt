@@ -19,10 +19,13 @@ same-length-2 c = search needs
 same-length-3 : tie.Need-same-length-3
 same-length-3 c = search needs
 
+same-length-4 : tie.Need-same-length-4
+same-length-4 c = search needs
+
 returns : tie.Need-returns
-returns c = kept-told _ _ _ _ (c .before .before .before .before .before .before .before .before .before .rotated .ensures) (c .tell-graph .ensures)
+returns c = kept-told _ _ _ _ (c .before .before .before .before .before .before .before .before .before .before .before .rotated .ensures) (c .tell-graph .ensures)
 
 pub copperhook-rotated-spec : {M : Type 1} → statement M
 copperhook-rotated-spec =
     tie.close
-    (tie.spec rotated-requires tell-graph-requires same-length same-length-2 same-length-3 returns)
+    (tie.spec rotated-requires tell-graph-requires same-length same-length-2 same-length-3 same-length-4 returns)

@@ -39,11 +39,11 @@ const NOT_JOINED: u64 = 1 << 33;
 const BEFORE: u64 = 9;
 
 /// The words that a replay mixes: window, components, free edges; then, each with its buffers, the components' names, the tree marks, the kept
-/// edges and the turned ones.
+/// edges with their raw places, and the turned ones with theirs.
 fn graph_hash(job: &GraphJob) -> u64 {
     let words = match job.refusal() {
         0 if job.short => short_words(&job.original()),
-        0 => answered_words(&job.original()),
+        0 => answered_words(&job.original(), &job.edges().places()),
         refusal => refused_words(refusal),
     };
     words.into_iter().fold(OFFSET, mix)
@@ -58,6 +58,7 @@ fn refused_words(refusal: u64) -> Vec<u64> {
         words.extend([REFUSED + refusal, BEFORE, BEFORE, BEFORE]);
         words.extend([BEFORE; 3]);
         words.extend([(BEFORE as f64).to_bits(); 3]);
+        words.extend([BEFORE; 3]);
     }
     words
 }
@@ -73,12 +74,13 @@ fn short_words(g: &Graph) -> Vec<u64> {
         words.push(REFUSED + 12);
         words.extend(vec![BEFORE; 2 * (g.edges.len() - 1)]);
         words.extend(vec![(BEFORE as f64).to_bits(); g.edges.len() - 1]);
+        words.extend(vec![BEFORE; g.edges.len() - 1]);
     }
     words
 }
 
-/// Buffers for edges are two too long.
-fn answered_words(g: &Graph) -> Vec<u64> {
+/// Buffers for edges are two too long; turning changes no place.
+fn answered_words(g: &Graph, places: &[usize]) -> Vec<u64> {
     let mut words = numbers(g);
     words.push(0);
     words.extend(g.components().iter().map(|&c| c as u64));
@@ -89,6 +91,7 @@ fn answered_words(g: &Graph) -> Vec<u64> {
         words.extend(made.edges.iter().map(|e| e.0 as u64).chain([BEFORE; 2]));
         words.extend(made.edges.iter().map(|e| e.1 as u64).chain([BEFORE; 2]));
         words.extend(made.mag.iter().map(|m| m.to_bits()).chain([(BEFORE as f64).to_bits(); 2]));
+        words.extend(places.iter().map(|&place| place as u64).chain([BEFORE; 2]));
     }
     words
 }

@@ -2,6 +2,8 @@
 
 use crate::hash::{mix, OFFSET};
 use oracle::lattice::{Kind, Strip};
+use oracle::rules::dilution::drawn;
+use oracle::rules::lists::Edges;
 use oracle::rules::refusals::StripCall;
 
 const KINDS: [Kind; 3] = [Kind::Square, Kind::Tri, Kind::Honey];
@@ -71,7 +73,8 @@ pub fn strip_edges() -> Vec<u64> {
     list
 }
 
-/// A record for each dilution: the strip, the seed, keep and the bounds; then the number of the kept edges, their checksum and the window.
+/// A record for each dilution: the strip, the seed, keep and the bounds; then the number of the kept edges, their checksum and the window; the
+/// number of the strip's edges, and the checksum of the kept ones with their places among these for their earlier ends.
 pub fn dilutions() -> Vec<u64> {
     #[rustfmt::skip]
     let numbers = [
@@ -87,7 +90,10 @@ pub fn dilutions() -> Vec<u64> {
             let g = s.diluted(keep, low, high, seed);
             list.extend([packed(s), seed, keep.to_bits(), low.to_bits(), high.to_bits(), g.edges.len() as u64]);
             list.push(checksum(g.edges.iter().zip(&g.mag).flat_map(|(&(a, b), m)| [a as u64, b as u64, m.to_bits()])));
-            list.push(g.win as u64);
+            let raw = Edges::new(s.n(), &drawn(s.raw_edges(), [keep, low, high], seed));
+            let placed = raw.places().into_iter().zip(&g.edges).zip(&g.mag);
+            list.extend([g.win as u64, raw.m.len() as u64]);
+            list.push(checksum(placed.flat_map(|((place, &(_, b)), m)| [place as u64, b as u64, m.to_bits()])));
         }
     }
     list

@@ -1,0 +1,4 @@
+-- What is proved of the definitions.
+pub mod Accepted
+pub mod Lists
+pub mod Window

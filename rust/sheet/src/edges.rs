@@ -1,0 +1,115 @@
+//! The edges of a strip by their places in its edge list: which of them a job keeps, and which of these are free.
+
+use crate::board::{counted, diluted, strip, title};
+use crate::explained;
+use crate::options::{Format, Options};
+use crate::record::{lines, Record};
+use crate::sheet::bits;
+use crate::text::aligned;
+use crate::trouble::Trouble;
+use copperhook::{EdgeList, Refusal, Strip};
+
+/// What becomes of an edge.
+#[derive(Clone, Copy, Debug, PartialEq)]
+enum Fate {
+    Dropped,
+    Tree,
+    Free,
+}
+
+impl Fate {
+    fn kept(self) -> &'static str {
+        if self == Fate::Dropped {
+            "dropped"
+        } else {
+            "kept"
+        }
+    }
+
+    /// Tree or free; nothing of a dropped edge.
+    fn forest(self) -> Option<&'static str> {
+        match self {
+            Fate::Dropped => None,
+            Fate::Tree => Some("tree"),
+            Fate::Free => Some("free"),
+        }
+    }
+}
+
+struct Listing {
+    strip: Strip,
+    edges: EdgeList,
+    /// One for each edge.
+    fates: Vec<Fate>,
+    title: String,
+    record: Record,
+    bits: bool,
+}
+
+/// The kept edges are told by their raw places, the free ones by the spanning forest of the kept.
+fn fates(edges: &EdgeList, n: usize) -> Result<Vec<Fate>, Refusal> {
+    let graph = edges.graph(n);
+    let raw = graph.kept_list()?.raw;
+    let mut tree = vec![false; raw.len()];
+    graph.spanning_forest(&mut tree)?;
+    let mut fates = vec![Fate::Dropped; edges.m.len()];
+    for (place, in_tree) in raw.into_iter().zip(tree) {
+        fates[place] = if in_tree { Fate::Tree } else { Fate::Free };
+    }
+    Ok(fates)
+}
+
+impl Listing {
+    fn new(options: &Options) -> Result<Listing, Trouble> {
+        let named = |refusal| explained::of_strip(options, refusal);
+        let (strip, edges) = strip(options)?;
+        let (n, window) = (strip.n().map_err(named)?, strip.window().map_err(named)?);
+        let fates = fates(&edges, n).map_err(named)?;
+        let many = |wanted: fn(&Fate) -> bool| fates.iter().filter(|&fate| wanted(fate)).count();
+        let (kept, free) = (many(|&fate| fate != Fate::Dropped), many(|&fate| fate == Fate::Free));
+        let title = title(&strip, diluted(options).as_deref(), [n, kept, window]);
+        let record = Record::of_edges(options, &strip, [n, kept, free, window]);
+        Ok(Listing { strip, edges, fates, title, record, bits: options.bits })
+    }
+
+    /// Place, ends, magnitude, whether it is kept, and whether it is free, cell by cell; `nothing` stands for what a dropped edge has not.
+    fn row(&self, place: usize, nothing: &str) -> Vec<String> {
+        let (magnitude, fate) = (self.edges.m[place], self.fates[place]);
+        let mut cells = vec![place.to_string(), self.edges.a[place].to_string(), self.edges.b[place].to_string(), format!("{magnitude:?}")];
+        cells.extend(self.bits.then(|| bits(magnitude)));
+        cells.extend([fate.kept().to_string(), fate.forest().unwrap_or(nothing).to_string()]);
+        cells
+    }
+
+    fn head(&self) -> Vec<String> {
+        let bits = self.bits.then_some("magnitude_bits");
+        ["place", "u", "v", "magnitude"].into_iter().chain(bits).chain(["kept", "forest"]).map(String::from).collect()
+    }
+
+    fn text(&self) -> String {
+        let count = counted(self.fates.len(), "edge", "edges");
+        let mut table = vec![self.head()];
+        table.extend((0..self.fates.len()).map(|place| self.row(place, "-")));
+        let record: String = lines(&self.record, 120).into_iter().map(|line| line + "\n").collect();
+        format!(
+            "{}\n{count}, by place in the strip's edge list\n\n{}\na kept edge is in the spanning forest, or free: its sign tells configurations apart\n\n{record}",
+            self.title,
+            aligned(&table)
+        )
+    }
+
+    fn csv(&self) -> String {
+        let (s, boundary) = (&self.strip, self.strip.boundary());
+        let strip = format!("{},{boundary},{},{}", s.kind.name(), s.width, s.length);
+        let mut text: String = self.record.0.iter().map(|(key, field)| format!("# {key}: {}\n", field.shown())).collect();
+        text += &format!("kind,boundary,width,length,{}\n", self.head().join(","));
+        text += &(0..self.fates.len()).map(|place| format!("{strip},{}\n", self.row(place, "").join(","))).collect::<String>();
+        text
+    }
+}
+
+/// The edges as the options ask for them.
+pub fn listed(options: &Options) -> Result<String, Trouble> {
+    let listing = Listing::new(options)?;
+    Ok(if options.format == Format::Csv { listing.csv() } else { listing.text() })
+}
