@@ -8,7 +8,7 @@ use lib.ListN.{length}
 use Rattle.limits.specs.Limits.{mostVertices, mostEdges, mostBetas}
 use Rattle.list_laws.specs.Search.{some}
 use Rattle.refusals.specs.Edges.{keptEarly, keptLate}
-use Rattle.refusals.specs.Request.{badEnds, someOversized, joinedTwice}
+use Rattle.refusals.specs.Request.{badEnds, someOversized, unordered, joinedTwice}
 
 -- edges that check 2 passes
 pub record Lengths (a b : List ℕ) (m : List Float) : Type 0 where
@@ -16,10 +16,11 @@ pub record Lengths (a b : List ℕ) (m : List Float) : Type 0 where
   pub magnitudes : length m ≡ length a
   pub few-edges : length a ≤ mostEdges
 
--- betas that 2 and 4 pass
+-- betas that 2, 4 and 21 pass
 pub record AcceptedBetas (betas : List Float) : Type 0 where
   pub few : length betas ≤ mostBetas
   pub sized : someOversized betas ≡ false
+  pub rising : unordered betas ≡ false
 
 -- a graph that 1 to 5 pass
 pub record Accepted (n : ℕ) (a b : List ℕ) (m : List Float) : Type 0 where

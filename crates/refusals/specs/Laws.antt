@@ -1,5 +1,6 @@
 -- What is proved of the definitions.
 pub mod Key
+pub mod Rising
 pub mod Controls
 pub mod Answers
 pub mod First
