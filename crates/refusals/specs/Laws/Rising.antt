@@ -1,4 +1,4 @@
--- Betas that 21 passes rise strictly: each is less than every later one, not only than the next.
+-- Betas that 21 passes rise strictly: each is less than every later one, not the next alone.
 use mathlib.Core.Path.{_≡_, refl, sym, ap, _∙_}
 use mathlib.Core.Bool.{Bool, true, false, not}
 use mathlib.Core.List.{List}
@@ -11,6 +11,7 @@ use Rattle.list_laws.specs.Search.{some}
 use Rattle.list_laws.specs.Laws.Search.{some-at, none-at, none-of}
 use Rattle.rounding.specs.Laws.Order.{lt-trans}
 use Rattle.refusals.specs.Request.{unordered}
+use Rattle.refusals.specs.Accepted.{Rising}
 
 -- some beta is not less than some later one
 abbrev pub unorderedAnywhere : List Float → Bool
@@ -20,13 +21,18 @@ module _ (xs : List Float) where
   abbrev notLess : ℕ → ℕ → Bool
   notLess i j = not (lt (getD xs i nan) (getD xs j nan))
 
-  pub rises : unordered xs ≡ false → (i d : ℕ) → i + suc d < length xs → lt (getD xs i nan) (getD xs (i + suc d) nan) ≡ true
+  rises : unordered xs ≡ false → (i d : ℕ) → i + suc d < length xs → lt (getD xs i nan) (getD xs (i + suc d) nan) ≡ true
   rises h i zero l = not-false _ (none-at (λ k. notLess k (k + 1)) (length xs - 1) i (omega arith) h)
   rises h i (suc d) l =
       let e : i + suc (suc d) ≡ i + suc d + 1 = omega arith in
       rw e
       (lt-trans _ _ _ (rises h i d (omega arith))
       (not-false _ (none-at (λ k. notLess k (k + 1)) (length xs - 1) (i + suc d) (omega arith) h)))
+
+  pub rising : unordered xs ≡ false → Rising xs
+  rising h i j m l =
+      let e : i + suc (j - suc i) ≡ j = omega arith in
+      rw e at (rises h i (j - suc i) (omega arith))
 
   -- a list that does not rise strictly somewhere does not rise at some neighbour
   pub unordered-is : unordered xs ≡ unorderedAnywhere xs
@@ -38,12 +44,7 @@ module _ (xs : List Float) where
       same false b p q = sym (p refl)
 
       everywhere : unordered xs ≡ false → unorderedAnywhere xs ≡ false
-      everywhere h = none-of _ (length xs) (λ j l. none-of (λ i. notLess i j) j (λ i m. at i j m l))
-        where
-          at : (i j : ℕ) → i < j → j < length xs → notLess i j ≡ false
-          at i j m l =
-              let e : i + suc (j - suc i) ≡ j = omega arith in
-              rw (rw e at (rises h i (j - suc i) (omega arith)))
+      everywhere h = none-of _ (length xs) (λ j l. none-of (λ i. notLess i j) j (λ i m. rw (rising h i j m l)))
 
       neighbours : unorderedAnywhere xs ≡ false → unordered xs ≡ false
       neighbours h =
