@@ -39,7 +39,7 @@
 extern "C" {
 #endif
 
-/* Why a call is refused, in checking order; calls for strips check 15 to 17 before 12. */
+/* Why a call is refused, in checking order; but 21 stands between 4 and 5, and calls for strips check 15 to 17 before 12. */
 enum copperhook_refusal {
     COPPERHOOK_ACCEPTED = 0,
     COPPERHOOK_VERTEX_COUNT = 1,    /* the vertex count is 0 or above 1,024 */
@@ -59,7 +59,8 @@ enum copperhook_refusal {
     COPPERHOOK_STRIP_SIDES = 15,    /* a strip side is 0, or the sides multiply above 1,024 */
     COPPERHOOK_ODD_CYLINDER = 16,   /* a honeycomb cylinder has odd width */
     COPPERHOOK_DILUTION = 17,       /* keep is not finite, or a magnitude bound is not finite or its size is above 1,024 */
-    COPPERHOOK_SUMS = 18            /* the count is 0 or above 2^53, or 0 <= fourth powers <= squares <= count fails */
+    COPPERHOOK_SUMS = 18,           /* the count is 0 or above 2^53, or 0 <= fourth powers <= squares <= count fails */
+    COPPERHOOK_BETAS = 21           /* the betas do not rise strictly; asked between 4 and 5 */
 };
 
 /* The most of each that a job may have, and how much a standard pair set takes at most. */
@@ -117,7 +118,7 @@ size_t copperhook_correlations_of(size_t n, size_t floor, const size_t *a, size_
 /*
  * The couplings that the caller makes factors of: beta times magnitude, rounded once. That of beta i and kept edge e, of k kept ones, is
  * at i * k + e of `results`, which has exactly betas_len * k doubles.
- * Refusals: 1 to 5 (4 of the betas too), 12.
+ * Refusals: 1 to 5 (4 and 21 of the betas too), 12.
  */
 size_t copperhook_couplings(size_t n, const size_t *a, size_t a_len, const size_t *b, size_t b_len, const double *m, size_t m_len,
                             const double *betas, size_t betas_len, double *results, size_t results_len);
@@ -131,7 +132,7 @@ size_t copperhook_couplings(size_t n, const size_t *a, size_t a_len, const size_
  * `factors` has two doubles for each beta and kept edge: with k kept edges, those of beta i and edge e are at 2 * (i * k + e) for plus and
  * next to it for minus, exp of the coupling and of its negative. Both result lists have exactly betas_len * us_len doubles, that of beta i
  * and pair p at i * us_len + p. `work` is as copperhook_correlations takes it, with the room that copperhook_room answers.
- * Refusals: 1 to 10 (4 of the betas too; 9 from 35 free edges on), 12, 13, 14.
+ * Refusals: 1 to 10 (4 and 21 of the betas too; 9 from 35 free edges on), 12, 13, 14.
  */
 size_t copperhook_exhaustive(size_t n, size_t floor, const size_t *a, size_t a_len, const size_t *b, size_t b_len, const double *m,
                              size_t m_len, const size_t *us, size_t us_len, const size_t *vs, size_t vs_len, const double *betas,
@@ -199,7 +200,7 @@ size_t copperhook_error_bound(size_t n, size_t floor, const size_t *a, size_t a_
  * beta and kept edge, all of them from 2^-k to 2^k. With *bound = (r + 1) * 2^-53, and c chunks of s configurations each (enumerated:
  * s = min(1024, count)), the mean that copperhook_estimate tells is within (2 * r + 3 + s + c) * 2^-53 of the exact mean square, while
  * 2 * r + 2 + s + c is at most 94,906,264; past that within 2 * (2 * r + 2 + s + c) * 2^-53. Of its standard error nothing is promised.
- * Refusals: 1 to 7 (4 of the betas too), 10.
+ * Refusals: 1 to 7 (4 and 21 of the betas too), 10.
  */
 size_t copperhook_totals_error_bound(size_t n, size_t floor, const size_t *a, size_t a_len, const size_t *b, size_t b_len,
                                      const double *m, size_t m_len, const double *betas, size_t betas_len, const double *factors,

@@ -24,6 +24,8 @@ use Rattle.transfer_matrix.specs.Totals.{square, fourth, chunkSize, chunkCount,
 use Rattle.refusals.specs.declared.Answer.the-variants.{Number}
 use Rattle.refusals.specs.AcceptedTotals.{AcceptedTotals, misfits}
 use Rattle.refusals.specs.Request.{mostCounted}
+use Rattle.refusals.specs.Accepted.{Rising}
+use Rattle.refusals.specs.Laws.Rising.{rising}
 use Rattle.bounds.specs.Bounds.{enumerated-answers-bounded}
 use Rattle.bounds.specs.Laws.Chunks.{chunks-cover, configuration-lt}
 use Rattle.totals_configuration.specs.Powers.{correlationAt}
@@ -53,6 +55,13 @@ module _ {n floor : ℕ} {a b : List ℕ} {m : List Float} {us vs : List ℕ} {b
 
   abbrev misfit : Bool
   misfit = misfits (length betas * length us) (length squares) (length fourths)
+
+  facts : AcceptedTotals n floor a b m us vs betas factors misfit (length work)
+  facts = enumeration-facts n floor a b m us vs betas factors manner misfit (length work) mostCounted (accepted .0) .0
+
+  -- The betas rise strictly.
+  pub enumeration-rising : Rising betas
+  enumeration-rising = rising betas (facts .betas-pass .rising)
 
   -- Every configuration's job is sound at every beta.
   pub enumeration-sound : (x beta : ℕ) → x < 2 ^ free → beta < length betas → Sound (configuration x beta) us vs
@@ -95,9 +104,6 @@ module _ {n floor : ℕ} {a b : List ℕ} {m : List Float} {us vs : List ℕ} {b
 
   -- Accurate: where `totals_error_bound` answers a bound for the same graph, floor, betas and factors,
   module _ (bound : Float) (answered : errorBoundOf n floor a b m betas factors true ≡ Within bound) where
-    facts : AcceptedTotals n floor a b m us vs betas factors misfit (length work)
-    facts = enumeration-facts n floor a b m us vs betas factors manner misfit (length work) mostCounted (accepted .0) .0
-
     -- each correlation summed is within it of the textbook ratio,
     pub enumeration-accurate : (x beta : ℕ) → x < 2 ^ free → beta < length betas → Accurate (configuration x beta) us vs bound
     enumeration-accurate x beta h l =

@@ -10,5 +10,6 @@ pub mod Sampling
 pub mod Calls
 pub mod Alone
 pub mod Strips
+pub mod Couplings
 -- and the laws of these definitions, which no reader needs to believe.
 pub mod Laws

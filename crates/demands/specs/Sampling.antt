@@ -25,6 +25,8 @@ use Rattle.transfer_matrix.specs.Job.{Job}
 use Rattle.transfer_matrix.specs.Rounded.{ieee}
 use Rattle.transfer_matrix.specs.Totals.{square, fourth, sampled, sampledCount}
 use Rattle.refusals.specs.declared.Answer.the-variants.{Number}
+use Rattle.refusals.specs.Accepted.{Rising}
+use Rattle.refusals.specs.Laws.Rising.{rising}
 use Rattle.refusals.specs.AcceptedTotals.{AcceptedTotals, misfits}
 use Rattle.refusals.specs.Laws.AcceptedTotals.{accepted-sampling}
 use Rattle.refusals.specs.Edges.{windowFrom}
@@ -67,6 +69,10 @@ module _ {n floor : ℕ} {a b : List ℕ} {m : List Float} {us vs : List ℕ} {b
 
   facts : AcceptedTotals n floor a b m us vs betas factors misfit (length work) × ((to - from) * samples ≤ 4294967296)
   facts = accepted-sampling n floor a b m us vs betas factors from to samples misfit (length work) bad 0 (accepted .0) (inl refl)
+
+  -- The betas rise strictly.
+  pub sampling-rising : Rising betas
+  sampling-rising = rising betas (facts .0 .betas-pass .rising)
 
   none-bad : bad ≡ false
   none-bad =

@@ -18,6 +18,9 @@ use Rattle.transfer_matrix.specs.Rounded.{ieee}
 use Rattle.transfer_matrix.specs.Sweep as S
 use Rattle.transfer_matrix.specs.Totals.{enumeratedCount}
 use Rattle.refusals.specs.declared.Answer.the-variants.{Number}
+use Rattle.refusals.specs.AcceptedTotals.{AcceptedTotals}
+use Rattle.refusals.specs.Accepted.{Rising}
+use Rattle.refusals.specs.Laws.Rising.{rising}
 use Rattle.refusals.specs.Request.{mostStored}
 use Rattle.totals_configuration.specs.Powers.{correlationAt}
 use Rattle.totals_configuration.specs.Laws.Powers.{pair-numbered}
@@ -50,6 +53,13 @@ module _ {n floor : ℕ} {a b : List ℕ} {m : List Float} {us vs : List ℕ} {b
 
   abbrev misfit : Bool
   misfit = not (eqb (length stored) size)
+
+  facts : AcceptedTotals n floor a b m us vs betas factors misfit (length work)
+  facts = enumeration-facts n floor a b m us vs betas factors manner misfit (length work) mostStored (accepted .0) .0
+
+  -- The betas rise strictly.
+  pub storing-rising : Rising betas
+  storing-rising = rising betas (facts .betas-pass .rising)
 
   -- Every configuration's job is sound at every beta.
   pub storing-sound : (x beta : ℕ) → x < 2 ^ free → beta < length betas → Sound (configuration x beta) us vs
@@ -100,5 +110,5 @@ module _ {n floor : ℕ} {a b : List ℕ} {m : List Float} {us vs : List ℕ} {b
   stored-accurate bound answered x beta p h l k =
       rw (stored-at x beta p h l k)
       (signed-accurate n floor a b m us vs betas factors manner misfit (length work)
-      (enumeration-facts n floor a b m us vs betas factors manner misfit (length work) mostStored (accepted .0) .0) bound answered
+      facts bound answered
       (enumeratedMinus (isTree (C.early a b m) (C.late a b m)) x) beta l (storing-sound x beta h l) .correlation p k)

@@ -57,7 +57,7 @@ module _ {n : ℕ} {a b : List ℕ} {m : List Float} {us vs : List ℕ} {betas :
     mag-part = refl;
   }
 
-  -- one of 1 to 4
+  -- one of 1 to 4, or 21
   pub raw-refused : {q k : ℕ} {early early′ late late′ : List ℕ} {mag mag′ : List Float} → (q ≡ r) × (k ≡ 0) → (r ≡ 0 → ⊥)
       → CheckedGraph n a b m us vs betas q k early early′ late late′ mag mag′
   raw-refused (e, k) nz = refused-with (λ z. nz (sym e ∙ z)) k (e ∙ go r nz ∙ sym whole)

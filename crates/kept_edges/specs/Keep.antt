@@ -33,11 +33,11 @@ pub record Holds (k : ℕ) (early late : List ℕ) (mag : List Float) : Type 0 w
   pub lates : k ≤ length late
   pub mags : k ≤ length mag
 
--- the first of the checks 1 to 4 that fits a graph with pairs and betas
+-- the first of the checks 1 to 4 and 21 that fits a graph with pairs and betas
 pub record CheckedRaw (n : ℕ) (a b : List ℕ) (m : List Float) (us vs : List ℕ) (betas : List Float) (refused : ℕ) : Type 0 where
   pub refusal : refused ≡ Refusal.refusal ofRawGraph (jobRequest n 0 a b m us vs betas)
 
--- the first of the checks 1 to 5 that fits a graph with pairs and betas, and its k kept edges, written if there is none
+-- the first of the checks 1 to 5, 21 among them, that fits a graph with pairs and betas, and its k kept edges, written if there is none
 pub record CheckedGraph (n : ℕ) (a b : List ℕ) (m : List Float) (us vs : List ℕ) (betas : List Float) (refused k : ℕ)
     (early early′ late late′ : List ℕ) (mag mag′ : List Float) : Type 0 where
   pub refusal : refused ≡ Refusal.refusal ofGraph (jobRequest n 0 a b m us vs betas)

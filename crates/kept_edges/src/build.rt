@@ -9,6 +9,7 @@ use crate::refuse::bad_lists;
 use crate::refuse::bad_sizes;
 use crate::refuse::bad_vertices;
 use crate::refuse::joined_twice;
+use crate::refuse::unordered_betas;
 
 // The refusal's number, 0 for accepted, and how many edges are kept.
 pub struct Checked {
@@ -25,7 +26,7 @@ pub fn refused(number: usize) -> Checked
     }
 }
 
-// The checks that read the lists as they are lent, 1 to 4: of a graph, pairs and betas. Returns the refusal's number, 0 for accepted.
+// The checks that read the lists as they are lent, 1 to 4 and 21: of a graph, pairs and betas. Returns the refusal's number, 0 for accepted.
 fn check_raw(
     n: usize,
     a: &[usize],
@@ -49,10 +50,13 @@ fn check_raw(
     if bad_sizes(m, betas) {
         return 4;
     }
+    if unordered_betas(betas) {
+        return 21;
+    }
     0
 }
 
-// Checks 1 to 5. Where none fits, the kept edges stand at the fronts of the three lists.
+// Checks 1 to 5, 21 among them. Where none fits, the kept edges stand at the fronts of the three lists.
 pub fn check_graph(
     n: usize,
     a: &[usize],

@@ -3,10 +3,11 @@ ghost use mathlib.Core.Path.{_≡_};
 ghost use mathlib.Core.Bool.{Bool, not, _&&_, _||_};
 ghost use Prim.Native.Nat.{ℕ, _≤_, _<_};
 ghost use lib.Dec.{eqb, ltb, leb};
+ghost use lib.Ieee.{lt};
 ghost use lib.ListN.{length, getD};
 ghost use Rattle.list_laws.specs.Search.{some};
 ghost use Rattle.limits.specs.Limits.{mostVertices, mostEdges, mostPairs, mostBetas};
-ghost use Rattle.refusals.specs.Request.{outside, badEnds, oversized, someOversized, sameEnds, joinedTwice};
+ghost use Rattle.refusals.specs.Request.{outside, badEnds, oversized, someOversized, unordered, sameEnds, joinedTwice};
 ghost use Rattle.kept_edges.specs.Chains.{LastAt, Chain, Heads};
 use limits::BETAS;
 use limits::EDGES;
@@ -112,6 +113,26 @@ pub fn bad_sizes(m: &[f64], betas: &[f64]) -> bool
         return true;
     }
     some_oversized(betas)
+}
+
+fn is_not_less(x: f64, y: f64) -> bool
+    ensures { λ r. ⌜ r ≡ not (lt x y) ⌝ }
+{
+    !(x < y)
+}
+
+// 21. Betas don't rise strictly: some beta is not less than the next.
+pub fn unordered_betas(betas: &[f64]) -> bool
+    ensures { λ r. ⌜ r ≡ unordered (now (betas .entry)) ⌝ }
+{
+    let mut i: usize = 0;
+    while i + 1 < betas.len() {
+        if is_not_less(betas[i], betas[i + 1]) {
+            return true;
+        }
+        i += 1;
+    }
+    false
 }
 
 // Whether an edge before e joins the same vertices. Only the edges with e's later end are looked at, from the last of them on.

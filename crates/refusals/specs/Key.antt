@@ -10,6 +10,7 @@ pub data Key : Type 0 where
   listLengths : Key
   edgeEnds : Key
   sizes : Key
+  betaOrder : Key
   parallelEdges : Key
   window : Key
   nearEdges : Key
@@ -45,6 +46,7 @@ rank partitionSums = 14
 rank stripSides = 15
 rank oddCylinder = 16
 rank dilution = 17
+rank betaOrder = 18
 
 -- Returns whether two keys are the same.
 abbrev pub same : Key → Key → Bool

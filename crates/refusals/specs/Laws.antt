@@ -1,6 +1,7 @@
 -- What is proved of the definitions.
 pub mod Key
 pub mod Places
+pub mod Rising
 pub mod Controls
 pub mod Answers
 pub mod First

@@ -4,7 +4,7 @@ use mathlib.Core.List.{List, [], _∷_, _++_}
 use Prim.Native.Nat.{ℕ}
 use Rattle.limits.specs.Limits.{mostWindow}
 use Rattle.refusals.specs.Key.{Key, among}
-use Rattle.refusals.specs.Request.{Request, badVertices, badLists, badEdges, badSizes, parallelEdges}
+use Rattle.refusals.specs.Request.{Request, badVertices, badLists, badEdges, badSizes, unorderedBetas, parallelEdges}
 use Rattle.refusals.specs.Request.{wideWindow, manyNear, badPairs, outsidePairs, manyFree, badFactors, manySamples, shortWork}
 
 -- A check of the requests of one kind: its name, the number that it answers, and its test.
@@ -22,6 +22,7 @@ checks =
     ∷ check Key.listLengths 2 badLists
     ∷ check Key.edgeEnds 3 badEdges
     ∷ check Key.sizes 4 badSizes
+    ∷ check Key.betaOrder 21 unorderedBetas
     ∷ check Key.parallelEdges 5 parallelEdges
     ∷ check Key.window 6 (wideWindow mostWindow)
     ∷ check Key.nearEdges 7 manyNear
@@ -47,7 +48,7 @@ refusal concerned r = first checks concerned r
 
 -- Those that read the lists as they are lent, before an edge is kept.
 abbrev pub ofRawGraph : List Key
-ofRawGraph = Key.vertexCount ∷ Key.listLengths ∷ Key.edgeEnds ∷ Key.sizes ∷ []
+ofRawGraph = Key.vertexCount ∷ Key.listLengths ∷ Key.edgeEnds ∷ Key.sizes ∷ Key.betaOrder ∷ []
 
 -- Those of a graph: `window`, `n_components`, `cyclomatic`.
 abbrev pub ofGraph : List Key

@@ -1,7 +1,7 @@
 -- What a call is given, as far as the checks read it, and each check's own test in the words of document 01.
 use mathlib.Core.Bool.{Bool, true, false, not, _||_, _&&_}
 use mathlib.Core.List.{List, [], _∷_}
-use Prim.Native.Nat.{ℕ, _-_, _*_}
+use Prim.Native.Nat.{ℕ, _+_, _-_, _*_}
 use lib.Dec.{eqb, ltb, leb}
 use lib.Ieee.{Float, nan, inf, binary64, le, lt, neg, ofBits}
 use lib.ListN.{length, getD}
@@ -162,6 +162,13 @@ someOversized xs = some (λ e. oversized (getD xs e nan)) (length xs)
 
 abbrev pub badSizes : Request → Bool
 badSizes r = someOversized (r .magnitudes) || someOversized (r .betas)
+
+-- 21. Betas don't rise strictly: some beta is not less than the next.
+abbrev pub unordered : List Float → Bool
+unordered xs = some (λ i. not (lt (getD xs i nan) (getD xs (i + 1) nan))) (length xs - 1)
+
+abbrev pub unorderedBetas : Request → Bool
+unorderedBetas r = unordered (r .betas)
 
 -- 5. Two kept edges join the same vertices.
 abbrev pub sameEnds : List ℕ → List ℕ → ℕ → ℕ → Bool

@@ -26,8 +26,8 @@ pub struct Progress {
     pub place: usize,
 }
 
-// Refusals' numbers, and 0 for accepted.
-pub const NUMBERS: usize = 19;
+// Refusals' numbers, up to 27, and 0 for accepted.
+pub const NUMBERS: usize = 28;
 
 pub fn count(counts: &mut [usize; NUMBERS], number: usize)
     ensures { λ r. ⌜ now (counts .exit) ≡ counted (now (counts .entry)) number ⌝ }

@@ -10,3 +10,4 @@ pub mod Commute
 pub mod Negation
 pub mod Running
 pub mod Grid
+pub mod Order

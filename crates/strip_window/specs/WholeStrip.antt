@@ -1,12 +1,12 @@
 -- A call for a whole strip, of magnitudes 1.0: none of the checks 1 to 5 refuses its graph, and its window is the strip's or the floor. So a call is
 -- refused by 6 where the strip's window is too wide, and a cylinder of eight neighbours is so from width 13 on.
 use mathlib.Core.Path.{_≡_, refl, sym, _∙_}
-use mathlib.Core.Bool.{true, false}
+use mathlib.Core.Bool.{true, false, not}
 use mathlib.Core.List.{List, [], _∷_, _++_, map, map-append}
-use Prim.Native.Nat.{ℕ, zero, suc, _*_, _≤_, _<_, max}
+use Prim.Native.Nat.{ℕ, zero, suc, _+_, _*_, _≤_, _<_, max}
 use native.Mathlib.Nat.{min-eq-left, max-eq-right, max-le, le-trans, le-max-right, mul-le-mul-left}
 use native.Mathlib.Omega.{arith}
-use lib.Ieee.{Float, nan, eq, le, neg, ofBits}
+use lib.Ieee.{Float, nan, eq, le, lt, neg, ofBits}
 use lib.ListN.{length, getD, take, length-map}
 use lib.Seq.{take-suc, take-length}
 use borrow.Author.Tests.{eq-eqb, ne-eqb, lt-ltb, le-ltb, lt-leb}
@@ -17,7 +17,7 @@ use Rattle.refusals.specs.Edges.{Kept, keptAt, keptOf, isZero, keptEarly, keptL
 use Rattle.refusals.specs.Key.{Key}
 use Rattle.refusals.specs.Laws.First.{here, past}
 use Rattle.refusals.specs.Refusal.{refusal, ofGraph, ofRoom}
-use Rattle.refusals.specs.Request.{Request, oversized, someOversized, badVertices, badLists, badEdges, badEnds, badSizes, parallelEdges, windowIn, wideWindow, roomRequest}
+use Rattle.refusals.specs.Request.{Request, oversized, someOversized, unordered, badVertices, badLists, badEdges, badEnds, badSizes, parallelEdges, windowIn, wideWindow, roomRequest}
 use Rattle.strip.specs.Kinds.{isEight}
 use Rattle.strip.specs.Requests.{oddCylinder}
 use Rattle.strip.specs.Sides.{Sides}
@@ -54,7 +54,7 @@ one-sized : oversized one ≡ false
 unfolding le neg ofBits
 one-sized = refl
 
--- What a call asks of a whole strip: its vertices and edges, pairs and betas that 2 and 4 pass.
+-- What a call asks of a whole strip: its vertices and edges, pairs and betas that 2, 4 and 21 pass.
 pub record Whole (s : Strip) (r : Request) : Type 0 where
   pub vertices : r .vertices ≡ s .w * s .l
   pub ones : r .ones ≡ earlyEnds (edges s)
@@ -64,6 +64,7 @@ pub record Whole (s : Strip) (r : Request) : Type 0 where
   pub few-pairs : length (r .firsts) ≤ mostPairs
   pub few-betas : length (r .betas) ≤ mostBetas
   pub sized-betas : someOversized (r .betas) ≡ false
+  pub rising-betas : unordered (r .betas) ≡ false
 
 -- So is a call of `room`.
 pub whole-room : (s : Strip) (floor : ℕ) (us vs : List ℕ) → length us ≡ length vs → length us ≤ mostPairs
@@ -78,6 +79,7 @@ whole-room s floor us vs h k =
       few-pairs = k;
       few-betas = omega arith;
       sized-betas = start (λ e. oversized (getD [] e nan));
+      rising-betas = start (λ i. not (lt (getD [] i nan) (getD [] (i + 1) nan)));
     }
 
 module _ {s : Strip} {r : Request} (S : Sides (s .w) (s .l)) (o : oddCylinder s ≡ false) (W : Whole s r) where
@@ -162,7 +164,7 @@ module _ {s : Strip} {r : Request} (S : Sides (s .w) (s .l)) (o : oddCylinder s 
 
   -- So none of the checks of a graph refuses it.
   pub graph-passes : 0 ≡ refusal ofGraph r
-  graph-passes = past _ _ _ _ vertices-pass (past _ _ _ _ lists-pass (past _ _ _ _ edges-pass (past _ _ _ _ sizes-pass (past _ _ _ _ apart-pass refl))))
+  graph-passes = past _ _ _ _ vertices-pass (past _ _ _ _ lists-pass (past _ _ _ _ edges-pass (past _ _ _ _ sizes-pass (past _ _ _ _ (W .rising-betas) (past _ _ _ _ apart-pass refl)))))
 
   -- The window of the call is the strip's, or the floor.
   pub whole-window : windowIn r ≡ max (r .floor) (windowOf s)
@@ -177,7 +179,7 @@ module _ {s : Strip} {r : Request} (S : Sides (s .w) (s .l)) (o : oddCylinder s 
   too-wide more h =
       let wide : wideWindow mostWindow r ≡ true = rw whole-window (lt-ltb mostWindow (max (r .floor) (windowOf s)) (le-trans h (le-max-right (r .floor) (windowOf s)))) in
       past _ _ _ _ vertices-pass
-      (past _ _ _ _ lists-pass (past _ _ _ _ edges-pass (past _ _ _ _ sizes-pass (past _ _ _ _ apart-pass (here _ _ _ wide)))))
+      (past _ _ _ _ lists-pass (past _ _ _ _ edges-pass (past _ _ _ _ sizes-pass (past _ _ _ _ (W .rising-betas) (past _ _ _ _ apart-pass (here _ _ _ wide))))))
 
   -- Where it is not, nor the floor, 6 does not fit.
   pub wide-enough : windowOf s ≤ mostWindow → r .floor ≤ mostWindow → wideWindow mostWindow r ≡ false

@@ -1,5 +1,6 @@
 //! Error bounds, against the words of their definition: whole numbers, powers of two and the bits of the factors.
 
+use crate::betas::{disorder, risen};
 use crate::draw::Draw;
 use crate::guarded::{equal, Guarded};
 use crate::shapes::{long_edge, short_edges, spoil_graph, swept_graph, Reach};
@@ -84,7 +85,7 @@ fn sound(draw: &mut Draw) -> Call {
     let n = draw.of(&[1, 2, 8, 30, 30, 100, 1024]);
     let edges = swept_graph(draw, Reach { window, n });
     let count = draw.of(&[0, 1, 1, 2, 3, 64]);
-    let betas = draw.once_in(2).then(|| (0..count).map(|_| draw.between(-2.0, 2.0)).collect());
+    let betas = draw.once_in(2).then(|| risen((0..count).map(|_| draw.between(-2.0, 2.0)).collect()));
     let mut call = Call { edges, betas, factors: Vec::new() };
     call.factors = factors(draw, &call);
     call
@@ -119,7 +120,7 @@ fn odd_place(last: usize) -> usize {
 
 /// One thing that document 01 may refuse. The factors stay, so that there may then be too many or too few.
 fn spoil(draw: &mut Draw, call: &mut Call) {
-    match draw.below(12) {
+    match draw.below(13) {
         0..=3 => spoil_graph(draw, &mut call.edges),
         4 => call.edges.floor = draw.of(&[24, 25, 1 << 40, usize::MAX]),
         5 => long_edge(draw, &mut call.edges),
@@ -129,6 +130,11 @@ fn spoil(draw: &mut Draw, call: &mut Call) {
         9 | 10 => {
             if let Some(last) = call.factors.len().checked_sub(1) {
                 call.factors[draw.within(0, last)] = draw.no_factor();
+            }
+        }
+        11 => {
+            if let Some(betas) = &mut call.betas {
+                disorder(draw, betas);
             }
         }
         _ => {

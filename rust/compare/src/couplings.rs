@@ -1,5 +1,6 @@
 //! Couplings: beta times magnitude, rounded once.
 
+use crate::betas::{disorder, risen};
 use crate::draw::Draw;
 use crate::guarded::{equal, Guarded};
 use crate::shapes::{any_graph, spoil_graph};
@@ -7,17 +8,28 @@ use copperhook::sys;
 use oracle::rules::lists::Pairs;
 use oracle::rules::refusals::{first, graph_refusal, unless};
 
-/// Betas of any size, up to 64; now and then too many, or a bad one.
+/// Betas of any size, up to 64, mostly in rising order; now and then too many, or a bad one.
 fn betas(draw: &mut Draw) -> Vec<f64> {
     let count = draw.of(&[0, 1, 2, 5, 5, 64]) + if draw.once_in(40) { 64 } else { 0 };
+    let apart = draw.once_in(2);
     let mut betas: Vec<f64> = (0..count)
         .map(|_| {
             let any = draw.between(-1024.0, 1024.0);
-            draw.of(&[0.44, any, 1024.0, -1024.0, 0.0, -0.0, 5e-324])
+            if apart {
+                any
+            } else {
+                draw.of(&[0.44, any, 1024.0, -1024.0, 0.0, -0.0, 5e-324])
+            }
         })
         .collect();
-    if count > 0 && draw.once_in(12) {
-        let i = draw.below(count);
+    if !draw.once_in(8) {
+        betas = risen(betas);
+    }
+    if draw.once_in(12) {
+        disorder(draw, &mut betas);
+    }
+    if !betas.is_empty() && draw.once_in(12) {
+        let i = draw.below(betas.len());
         betas[i] = draw.no_magnitude();
     }
     betas

@@ -4,6 +4,7 @@
 //! pointers alone: each is a guarded list's or a variable's.
 
 mod accuracies;
+mod betas;
 mod columns;
 mod correlations;
 mod couplings;
@@ -36,12 +37,12 @@ pub const GROUPS: &[Group] = &[
     Group { name: "generators", share: 1.0, refusals: &[], try_one: generators::try_one },
     Group { name: "graphs", share: 1.0, refusals: &[1, 2, 3, 4, 5, 8, 12], try_one: graphs::try_one },
     Group { name: "strips", share: 1.0, refusals: &[12, 15, 16, 17], try_one: strips::try_one },
-    Group { name: "couplings", share: 1.0, refusals: &[1, 2, 3, 4, 5, 12], try_one: couplings::try_one },
+    Group { name: "couplings", share: 1.0, refusals: &[1, 2, 3, 4, 5, 12, 21], try_one: couplings::try_one },
     Group { name: "correlations", share: 5.0, refusals: &[1, 2, 3, 4, 5, 6, 7, 8, 10, 12, 13, 14], try_one: correlations::try_one },
     Group { name: "estimates", share: 1.0, refusals: &[18], try_one: estimates::try_one },
-    Group { name: "totals", share: 4.0, refusals: &[1, 2, 3, 4, 5, 6, 7, 8, 9, 10, 11, 12, 13, 14], try_one: totals::try_one },
+    Group { name: "totals", share: 4.0, refusals: &[1, 2, 3, 4, 5, 6, 7, 8, 9, 10, 11, 12, 13, 14, 21], try_one: totals::try_one },
     Group { name: "columns", share: 1.0, refusals: &[2, 12, 18], try_one: columns::try_one },
-    Group { name: "accuracies", share: 1.0, refusals: &[1, 2, 3, 4, 5, 6, 7, 10], try_one: accuracies::try_one },
+    Group { name: "accuracies", share: 1.0, refusals: &[1, 2, 3, 4, 5, 6, 7, 10, 21], try_one: accuracies::try_one },
     Group { name: "wide", share: 0.0, refusals: &[], try_one: correlations::try_wide },
 ];
 

@@ -351,7 +351,8 @@ fn largest_calls() -> Result<(), Refusal> {
     graph.spanning_forest(&mut vec![false; edges.m.len()])?;
     graph.components(&mut vec![0; 1024])?;
     graph.error_bound(&vec![1.5; edges.m.len()])?;
-    let (betas, factors) = ([0.5; 64], graph.factors(&[0.5; 64])?.all);
+    let betas: [f64; 64] = std::array::from_fn(|i| 0.5 + i as f64 / 1024.0);
+    let factors = graph.factors(&betas)?.all;
     graph.totals_error_bound(&betas, &factors)?;
     let (mut squares, mut fourths) = (vec![0.0; 64 * us.len()], vec![0.0; 64 * us.len()]);
     let by = Sampling { seed: 1, from: 0, to: 1, samples: 1 };

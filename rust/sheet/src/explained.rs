@@ -61,9 +61,25 @@ pub fn of_betas(betas: &[f64], refusal: Refusal) -> Trouble {
     let told = match (refusal, strong) {
         (Refusal::ListLengths, _) => format!("{} betas; at most {}", betas.len(), limits::BETAS),
         (Refusal::Magnitude, Some(beta)) => format!("beta {}: it must be finite and of size 1,024 at most", spelled(*beta)),
+        (Refusal::Betas, _) => out_of_order(betas),
         (other, _) => other.sentence().to_string(),
     };
     refused(told, refusal)
+}
+
+/// The first beta that the next one does not exceed, and the list that the library takes.
+fn out_of_order(betas: &[f64]) -> String {
+    let mut sorted = betas.to_vec();
+    sorted.sort_by(f64::total_cmp);
+    sorted.dedup();
+    let sorted = sorted.iter().map(|&b| spelled(b)).collect::<Vec<_>>().join(",");
+    let falls = betas.windows(2).find(|two| two[0] >= two[1]);
+    match falls {
+        Some(&[one, next]) => {
+            format!("beta {} follows {}; betas must rise strictly: --beta {sorted}", spelled(next), spelled(one))
+        }
+        _ => Refusal::Betas.sentence().to_string(),
+    }
 }
 
 /// Of a call at one beta, whose factors are the exponentials of these.

@@ -19,7 +19,7 @@ the strip
     --cylinder               periodic across; without it free
     --dilute KEEP,LO,HI,SEED each edge is kept with probability KEEP, its magnitude drawn from LO to HI
 what is asked of it
-    --beta B,..              inverse temperatures, up to 64
+    --beta B,..              inverse temperatures, up to 64, each above the one before
     --pairs U-V,..           these pairs of vertices, up to 256; without it the standard pairs, see below.
                              Vertex (x, y), x along and y across, is x times the width + y
     --edges                  its edges, and no pairs: each with its place in the strip's edge list, counted from 0, its

@@ -56,10 +56,13 @@ fn betas_that_cannot_be() {
     let many = vec!["1"; 65].join(",");
     refused(&format!("{SMALL} --beta {many}"), "65 betas; at most 64 (refusal 2)");
     refused(&format!("{SMALL} --beta 1,nan"), "beta NaN: it must be finite and of size 1,024 at most (refusal 4)");
+    let falling = "beta 0.44 follows 0.6; betas must rise strictly: --beta 0.3,0.44,0.6 (refusal 21)";
+    refused(&format!("{SMALL} --beta 0.3,0.6,0.44"), falling);
+    refused(&format!("{SMALL} --beta 0.5,0.5"), "beta 0.5 follows 0.5; betas must rise strictly: --beta 0.5 (refusal 21)");
     refused(&format!("{SMALL} --beta 1,-1025"), "beta -1025: it must be finite and of size 1,024 at most (refusal 4)");
     for which in ["--signs plus", "--seed 4", "--enumerate", "--sample 4 --chunks 3 --threads 2"] {
         let weights = "beta 400: the weights overflow, or vanish, as doubles; use a smaller one (refusal 14)";
-        refused(&format!("{SMALL} {which} --beta 0.5,400,0.1"), weights);
+        refused(&format!("{SMALL} {which} --beta 0.1,0.5,400"), weights);
     }
     for which in ["--signs plus", "--enumerate", "--sample 4 --chunks 3 --threads 2"] {
         refused(&format!("{SMALL} {which} --beta 0.5,710"), "beta 710: exp(710) overflows; use a smaller one (refusal 10)");

@@ -35,7 +35,7 @@ fn every_point_is_inside_the_frame_and_the_legend_is_not() {
         "--kind tri --width 3 --length 5 --beta 0.5 --format svg".to_string(),
         "--kind tri --width 6 --length 12 --cylinder --beta 0.3,0.5 --sample 20 --chunks 3 --format svg".to_string(),
         "--kind square --width 1 --length 2 --beta 1 --format svg".to_string(),
-        "--kind square --width 3 --length 300 --beta 0.6931471805599453,-1.2345678901234567e-5 --signs plus --format svg".to_string(),
+        "--kind square --width 3 --length 300 --beta -1.2345678901234567e-5,0.6931471805599453 --signs plus --format svg".to_string(),
     ] {
         let svg = printed(&line);
         let (drawn, legend) = parts(&svg);

@@ -191,14 +191,14 @@ fn the_foot_tells_what_is_proved() {
         assert_eq!(foot(&format!("{square} {which} --beta 27.8")), none("for couplings this strong"));
         assert_eq!(foot(&format!("{square} {which} --beta -27.8,28")), none("for couplings this strong"));
     }
-    let strong = "for couplings as strong as at beta 28, 30";
-    assert_eq!(foot(&format!("{square} --signs plus --beta 28,1,30,2")), format!("each correlation at beta 1, 2 {within}{}", none(strong)));
+    let strong = "for couplings as strong as at beta -28, 30";
+    assert_eq!(foot(&format!("{square} --signs plus --beta -28,1,2,30")), format!("each correlation at beta 1, 2 {within}{}", none(strong)));
     assert_eq!(
-        foot(&format!("{square} --enumerate --beta 28,1,30")),
+        foot(&format!("{square} --enumerate --beta -28,1,30")),
         format!("each mean square at beta 1 {}{}", of("1.5e-14"), none(&format!("{strong}, and of the standard errors")))
     );
     // drawn configurations of all betas are one call
-    assert_eq!(foot(&format!("{square} --sample 3 --beta 28,1")), none("for couplings this strong"));
+    assert_eq!(foot(&format!("{square} --sample 3 --beta 1,28")), none("for couplings this strong"));
     assert_eq!(foot(&format!("{square} --sample 1 --beta 1")), format!("each mean square {}", of("1.5e-14")));
 }
 

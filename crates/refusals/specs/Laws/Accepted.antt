@@ -82,6 +82,7 @@ module _ (n floor : ℕ) (a b : List ℕ) (m : List Float) (us vs : List ℕ) (b
         betas-pass = record {
           few = lists .3;
           sized = or-false (someOversized m) (someOversized betas) (passed-at ofRawGraph q h Key.sizes refl) .1;
+          rising = passed-at ofRawGraph q h Key.betaOrder refl;
         };
       }
 

@@ -2,7 +2,7 @@
 use mathlib.Core.Path.{_≡_, refl}
 use mathlib.Core.Bool.{Bool, true, false}
 use mathlib.Core.List.{List, [], _∷_}
-use Prim.Native.Nat.{ℕ}
+use Prim.Native.Nat.{ℕ, zero, suc}
 use lib.IntN.{pos}
 use lib.Ieee.{Float, nan, inf, fin, eq, le, lt, neg, ofBits}
 use lib.ListN.{replicate}
@@ -120,23 +120,40 @@ last-14 = (refl, refl)
 abbrev coupled : List Float → Bool → ℕ
 coupled betas misfit = refusal ofCouplings (couplingRequest 1 [] [] [] betas misfit)
 
--- 65 betas, one not finite; 64 pass
-pub betas-65 : (coupled (inf false ∷ replicate 64 one) true ≡ 2) × (coupled (replicate 64 one) true ≡ 12)
-unfolding some keptOf le neg ofBits
+-- so many whole numbers from k up
+abbrev upward : ℕ → ℕ → List Float
+upward k zero = []
+upward k (suc n) = fin false k (pos 0) ∷ upward (suc k) n
+
+-- 65 betas, one not finite, the others equal; 64 that rise pass
+pub betas-65 : (coupled (inf false ∷ replicate 64 one) true ≡ 2) × (coupled (upward 0 64) true ≡ 12)
+unfolding some keptOf le lt neg ofBits
 betas-65 = (refl, refl)
 
--- a beta of 1,025, two edges between the same vertices, and a buffer that does not fit; with a beta of -1,024 the edges are next
-abbrev twice : ℕ → Float → ℕ
-twice u beta = refusal ofCouplings (couplingRequest 2 (u ∷ 1 ∷ []) (1 ∷ 0 ∷ []) (one ∷ one ∷ []) (one ∷ beta ∷ []) true)
+-- two edges between the same vertices, and a buffer that does not fit
+abbrev twice : ℕ → List Float → ℕ
+twice u betas = refusal ofCouplings (couplingRequest 2 (u ∷ 1 ∷ []) (1 ∷ 0 ∷ []) (one ∷ one ∷ []) betas true)
 
-pub beta-1025 : (twice 0 (fin false 1025 (pos 0)) ≡ 4) × (twice 0 (fin true 1024 (pos 0)) ≡ 5)
-unfolding some keptOf eq le neg ofBits
+-- with a beta of 1,025 besides; from -1,024 on, the edges are next
+pub beta-1025 : (twice 0 (one ∷ fin false 1025 (pos 0) ∷ []) ≡ 4) × (twice 0 (fin true 1024 (pos 0) ∷ one ∷ []) ≡ 5)
+unfolding some keptOf eq le lt neg ofBits
 beta-1025 = (refl, refl)
 
 -- an edge with equal ends comes before a beta
-pub beta-behind-3 : twice 1 nan ≡ 3
+pub beta-behind-3 : twice 1 (one ∷ nan ∷ []) ≡ 3
 unfolding some
 beta-behind-3 = refl
+
+-- betas that fall come before two edges between the same vertices, and behind one that is no number
+pub first-21 : (twice 0 (one ∷ fin true 1024 (pos 0) ∷ []) ≡ 21) × (twice 0 (one ∷ fin true 1024 (pos 0) ∷ nan ∷ []) ≡ 4)
+unfolding some keptOf eq le lt neg ofBits
+first-21 = (refl, refl)
+
+-- equal betas do not rise, zeros of either sign neither, and the last two count as the first two do; one beta or none is not asked
+pub equal-betas : (coupled (one ∷ one ∷ []) true ≡ 21) × (coupled (fin true 0 (pos 0) ∷ fin false 0 (pos 0) ∷ []) true ≡ 21)
+    × (coupled (fin true 1 (pos 0) ∷ one ∷ one ∷ []) true ≡ 21) × (coupled (one ∷ []) true ≡ 12) × (coupled [] true ≡ 12)
+unfolding some keptOf le lt neg ofBits
+equal-betas = (refl, refl, refl, refl, refl)
 
 -- ---- totals: two vertices, the edge 0-1, the pair 0-1, one beta: two factors, and a room of 13
 

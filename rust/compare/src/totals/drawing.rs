@@ -1,6 +1,7 @@
 //! Drawn calls for totals, sound ones, and what spoils them.
 
 use super::calls::Call;
+use crate::betas::{disorder, risen};
 use crate::draw::Draw;
 use crate::shapes::{long_edge, pairs, short_edges, spoil_graph, swept_graph, Reach};
 use oracle::rules::configurations::{Drawn, Entry};
@@ -27,6 +28,7 @@ pub fn small(draw: &mut Draw) -> Call {
     let count = if several_chunks { draw.within(1, 2) } else { draw.of(&[0, 1, 2, 3, 6]) };
     let pairs = pairs(draw, edges.n, edges.window(), count);
     let betas = if several_chunks { (0..count).map(|_| gentle_beta(draw, &edges)).collect() } else { betas(draw, &edges) };
+    let betas = risen(betas);
     let by = sampling(draw);
     Call {
         entry,
@@ -107,7 +109,7 @@ pub fn vast(draw: &mut Draw) -> Call {
     }
     let (count, most) = draw.of(&[(0, 0), (0, 3), (2, 0), (2, 0), (0, 1), (2, 1)]);
     let pairs = pairs(draw, edges.n, 2, count);
-    let betas = vec![0.5; most];
+    let betas = [0.5, 0.75, 1.0][..most].to_vec();
     let (to, samples) = draw.of(&[
         (1 << 32, 1),
         ((1 << 32) + 1, 1),
@@ -128,7 +130,7 @@ pub fn vast(draw: &mut Draw) -> Call {
 /// One thing of the graph, the pairs, the betas or the samples that document 01 may refuse.
 pub fn spoil_job(draw: &mut Draw, call: &mut Call) {
     let n = call.edges.n;
-    match draw.below(14) {
+    match draw.below(16) {
         0..=3 => spoil_graph(draw, &mut call.edges),
         4 => call.edges.floor = draw.of(&[24, 25, 1 << 40, usize::MAX]),
         5 => long_edge(draw, &mut call.edges),
@@ -143,6 +145,7 @@ pub fn spoil_job(draw: &mut Draw, call: &mut Call) {
         }
         11 => call.betas.resize(65, 0.5),
         12 => call.betas.push(draw.no_magnitude()),
+        13 | 14 => disorder(draw, &mut call.betas),
         _ => {
             (call.by.from, call.by.to, call.by.samples) =
                 draw.of(&[(0, u64::MAX, 1), (5, 1 << 33, 1), (u64::MAX - 1, u64::MAX, usize::MAX)])

@@ -26,7 +26,12 @@ fn sized(x: f64) -> bool {
     x.is_finite() && x.abs() <= 1024.0
 }
 
-/// Checks 1 to 5, with the pairs and betas that the call has.
+/// Returns whether each number is less than every later one: document 02's words, not a comparison of neighbours.
+pub fn rising(xs: &[f64]) -> bool {
+    xs.iter().enumerate().all(|(i, x)| xs[i + 1..].iter().all(|y| x < y))
+}
+
+/// Checks 1 to 5, and 21 between 4 and 5, with the pairs and betas that the call has.
 pub fn graph_refusal(edges: &Edges, pairs: &Pairs, betas: &[f64]) -> usize {
     let outside = |v: usize| v >= edges.n;
     let lengths = edges.a.len() == edges.b.len() && edges.b.len() == edges.m.len() && pairs.us.len() == pairs.vs.len();
@@ -40,6 +45,8 @@ pub fn graph_refusal(edges: &Edges, pairs: &Pairs, betas: &[f64]) -> usize {
         3
     } else if !edges.m.iter().chain(betas).all(|&x| sized(x)) {
         4
+    } else if !rising(betas) {
+        21
     } else if !edges.kept().iter().all(|&(a, b, _)| joined.insert((a, b))) {
         5
     } else {

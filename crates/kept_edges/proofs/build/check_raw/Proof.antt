@@ -1,5 +1,5 @@
 -- The tests, one after the other.
-use Rattle.refusals.specs.Request.{Request, jobRequest, badVertices, badLists, badEdges}
+use Rattle.refusals.specs.Request.{Request, jobRequest, badVertices, badLists, badEdges, badSizes}
 use Rattle.refusals.specs.Laws.Accepted.{accepted-lengths}
 use Rattle.refusals.specs.Laws.First.{here, past, told}
 use Prim.Native.Nat.{ℕ}
@@ -42,15 +42,23 @@ bad-edges-requires c κs =
 returns-3 : tie.Need-returns-3
 returns-3 c = record { refusal = past-lists (c .before .before) _ _ (here _ _ _ (told (c .before .bad-edges .ensures) (c .if3 .taken))) }
 
+past-sizes : (c : tie.Else4) (r rest : ℕ) → r ≡ rest
+    → let q = asked (c .before .before .before .before .before .before .before .before) in
+    r ≡ cond (badVertices q) 1 (cond (badLists q) 2 (cond (badEdges q) 3 (cond (badSizes q) 4 rest)))
+past-sizes c r rest h = past-edges (c .before .before) r _ (past _ _ _ _ (told (c .before .bad-sizes .ensures) (c .if4 .left)) h)
+
 returns-4 : tie.Need-returns-4
 returns-4 c = record { refusal = past-edges (c .before .before) _ _ (here _ _ _ (told (c .before .bad-sizes .ensures) (c .if4 .taken))) }
 
 returns-5 : tie.Need-returns-5
-returns-5 c = record { refusal = past-edges (c .before .before) _ _ (past _ _ _ _ (told (c .before .bad-sizes .ensures) (c .if4 .left)) refl) }
+returns-5 c = record { refusal = past-sizes (c .before .before) _ _ (here _ _ _ (told (c .before .unordered-betas .ensures) (c .if5 .taken))) }
+
+returns-6 : tie.Need-returns-6
+returns-6 c = record { refusal = past-sizes (c .before .before) _ _ (past _ _ _ _ (told (c .before .unordered-betas .ensures) (c .if5 .left)) refl) }
 
 pub check-raw-spec : {M : Type 1} → statement M
 check-raw-spec =
     tie.close
     (tie.spec
     (λ c κs. search needs) returns (λ c κs. search needs) returns-2 bad-edges-requires returns-3 (λ c κs. search needs) returns-4
-    returns-5)
+    (λ c κs. search needs) returns-5 returns-6)

@@ -5,14 +5,14 @@ use Prim.Native.Nat.{ℕ, _+_, _%_, _^_, _≤_, _<_}
 use lib.ListN.{getD, set}
 use borrow.Author.Needs.{needs}
 use borrow.Author.Tests.{lt-ltb, le-ltb}
-use Rattle.replay_format.specs.Counts.{counted}
+use Rattle.replay_format.specs.Counts.{numbers, counted}
 use Rattle.replay_format.proofs.tally.count.Statement.{statement}
 use Rattle.replay_format.proofs.tally.count.Tie as tie
 
-one-more : (counts : List ℕ) (number x : ℕ) → number < 19 → x ≡ (getD counts number 0 + 1) % 2 ^ 64 → set counts number x ≡ counted counts number
+one-more : (counts : List ℕ) (number x : ℕ) → number < numbers → x ≡ (getD counts number 0 + 1) % 2 ^ 64 → set counts number x ≡ counted counts number
 one-more counts number x h e = rw (lt-ltb _ _ h, e)
 
-passed-over : (counts : List ℕ) (number : ℕ) → 19 ≤ number → counts ≡ counted counts number
+passed-over : (counts : List ℕ) (number : ℕ) → numbers ≤ number → counts ≡ counted counts number
 passed-over counts number h = rw (le-ltb _ _ h)
 
 returns : tie.Need-returns

@@ -90,7 +90,9 @@ fn accepted() -> Vec<Call> {
             let (k, drawn) = (source.next_u64() % 20, 2.0 * source.uniform() - 1.0);
             *sizes.get(k as usize).unwrap_or(&drawn)
         };
-        let betas: Vec<f64> = (0..i % 7).map(|_| beta()).collect();
+        let mut betas: Vec<f64> = (0..i % 7).map(|_| beta()).collect();
+        betas.sort_by(f64::total_cmp);
+        betas.dedup();
         calls.push(Call::new(n, &edges, &betas));
     }
     let ramp: Vec<f64> = (0..64).map(|k| 32.0 * k as f64 - 1024.0).collect();
@@ -121,6 +123,12 @@ const SPOILS: &[Spoil<Call>] = &[
     (4, |c| c.m[3] = f64::INFINITY),
     (4, |c| c.m[DROPPED] = f64::NAN),
     (4, |c| c.m[0] = -1025.0),
+    (21, |c| c.betas.swap(0, 1)),
+    (21, |c| c.betas.swap(1, 2)),
+    (21, |c| c.betas[1] = c.betas[0]),
+    (21, |c| c.betas[2] = c.betas[1]),
+    (21, |c| c.betas[1..].copy_from_slice(&[-0.0, 0.0])),
+    (21, |c| c.betas[1..].copy_from_slice(&[0.0, -0.0])),
     (5, |c| c.m[DROPPED] = 1.0),
     (5, |c| (c.a[3], c.b[3]) = (c.b[1], c.a[1])),
     (12, |c| c.results += 1),
@@ -132,7 +140,7 @@ const SPOILS: &[Spoil<Call>] = &[
 
 /// A call that nothing refuses, with all of that done to it; the first number in the list's order is the one that is returned.
 fn spoilt(spoils: &[Spoil<Call>]) -> Call {
-    let mut call = Call::new(6, &[(0, 1, 1.0), (2, 1, -2.0), (1, 0, 0.0), (4, 5, 1024.0)], &[0.25, -1024.0, 1024.0]);
+    let mut call = Call::new(6, &[(0, 1, 1.0), (2, 1, -2.0), (1, 0, 0.0), (4, 5, 1024.0)], &[-1024.0, 0.25, 1024.0]);
     spoils.iter().rev().for_each(|spoil| spoil.1(&mut call));
     assert_eq!(call.refusal(), spoils[0].0);
     call

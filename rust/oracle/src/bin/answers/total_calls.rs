@@ -36,7 +36,7 @@ fn strip(kind: Kind, w: usize, l: usize, periodic: bool) -> Strip {
 }
 
 const PAIRS: [(u64, u64); 3] = [(0, 1), (8, 0), (3, 5)];
-const BETAS: [f64; 3] = [0.44, 1.0, -0.25];
+const BETAS: [f64; 3] = [-0.25, 0.44, 1.0];
 
 /// Every entry with 0 to 8 free edges, from none to three betas and pairs, both manners.
 fn few_free_edges() -> Vec<Call> {
@@ -117,7 +117,7 @@ const DROPPED: usize = 3;
 /// A call of window 4 and one free edge that nothing refuses, to be spoilt.
 fn sound_call(entry: Entry, each: bool) -> Call {
     let edges = [(0, 1, 1.0), (2, 1, -1.5), (2, 0, 1.0), (1, 0, 0.0), (3, 0, 0.5), (4, 3, 1.0)];
-    call(entry, job(8, 4, &edges, &[(0, 3), (7, 1)], each, |_| 0.0), &[0.5, -0.25], SOME)
+    call(entry, job(8, 4, &edges, &[(0, 3), (7, 1)], each, |_| 0.0), &[-0.25, 0.5], SOME)
 }
 
 /// One more kept edge, and the factors anew.
@@ -161,6 +161,10 @@ const SPOILS: &[Spoil<Call>] = &[
     (4, |c| c.betas[1] = f64::NEG_INFINITY),
     (4, |c| c.betas[1] = f64::from_bits(1024f64.to_bits() + 1)),
     (4, |c| c.betas[0] = -1025.0),
+    (21, |c| c.betas.swap(0, 1)),
+    (21, |c| c.betas[1] = c.betas[0]),
+    (21, |c| c.betas = vec![-0.0, 0.0]),
+    (21, |c| c.betas = vec![0.0, -0.0]),
     (5, |c| c.job.m[DROPPED] = -1e-300),
     (5, |c| link(c, c.job.b[1], c.job.a[1])),
     (6, |c| c.job.floor = 25),
