@@ -6,6 +6,7 @@ use Prim.Native.Nat.{ℕ, zero, suc, _+_, _<_}
 use lib.Dec.{eqb}
 use lib.ListN.{length, getD}
 use Rattle.forest.specs.Labels.{merge}
+use Rattle.forest.specs.Lowest.{mergeLower}
 
 abbrev pub parent : List ℕ → ℕ → ℕ
 parent p v = getD p v 0
@@ -55,4 +56,11 @@ pub record Merged (p : List ℕ) (a b : ℕ) (r : Bool) (q : List ℕ) : Type 0 
   pub len : length q ≡ length p
   pub forest : Forest q
   pub roots : (v : ℕ) → v < length p → root q v ≡ merge (root p) a b v
+  pub is : r ≡ not (eqb (root p a) (root p b))
+
+-- `union_lower` gives the vertices under the higher of the two roots the lower one
+pub record MergedLower (p : List ℕ) (a b : ℕ) (r : Bool) (q : List ℕ) : Type 0 where
+  pub len : length q ≡ length p
+  pub forest : Forest q
+  pub roots : (v : ℕ) → v < length p → root q v ≡ mergeLower (root p) a b v
   pub is : r ≡ not (eqb (root p a) (root p b))
