@@ -9,14 +9,15 @@ use Rattle.forest.specs.Paths.{end, Edges}
 use Rattle.forest.specs.Labels.{labels, isTree}
 use Rattle.forest.specs.Lowest.{lowest}
 use Rattle.forest.specs.Laws.Lowest.{tree-apart}
-use Rattle.forest.specs.Forest.{links, root, Forest, Fresh, Found, Merged, MergedLower}
+use Rattle.forest.specs.Forest.{links, root, Forest, Fresh, Found, Merged, MergedLower, Labelled}
 use Rattle.forest.proofs.Climb.{climb-own}
 
--- a forest of n vertices whose roots are these labels
-pub record Labelled (n : ℕ) (label : ℕ → ℕ) (p : List ℕ) : Type 0 where
-  pub len : length p ≡ n
-  pub forest : Forest p
-  pub roots : (v : ℕ) → v < n → root p v ≡ label v
+-- edges, or a forest, of as many vertices
+pub edges-of : {n k : ℕ} {early late : List ℕ} → k ≡ n → Edges n early late → Edges k early late
+edges-of e E = rw e E
+
+pub labelled-of : {n k : ℕ} {label : ℕ → ℕ} {p : List ℕ} → k ≡ n → Labelled k label p → Labelled n label p
+labelled-of e L = rw (← e) L
 
 labelled-none : {n : ℕ} {label : ℕ → ℕ} {p : List ℕ} → ((v : ℕ) → label v ≡ v) → length p ≡ n → Fresh p → Labelled n label p
 unfolding root

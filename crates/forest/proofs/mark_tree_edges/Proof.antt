@@ -7,7 +7,8 @@ use lib.Seq.{length-take-le}
 use lib.ListN.{length}
 use Rattle.forest.specs.Labels.{labels, isTree}
 use Rattle.forest.specs.Laws.Labels.{trees-span}
-use Rattle.forest.proofs.Growth.{Labelled, labels-none, union-takes, union-tree, union-labels}
+use Rattle.forest.specs.Forest.{Labelled}
+use Rattle.forest.proofs.Growth.{labels-none, union-takes, union-tree, union-labels}
 use Rattle.forest.proofs.Filled.{Filled, filled-none, filled-more, filled-all}
 use Rattle.forest.proofs.mark_tree_edges.Statement.{statement}
 use Rattle.forest.proofs.mark_tree_edges.Tie as tie

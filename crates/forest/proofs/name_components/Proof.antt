@@ -5,7 +5,8 @@ use native.Mathlib.Omega.{arith}
 use lib.Seq.{length-take-le}
 use lib.ListN.{length}
 use Rattle.forest.specs.Labels.{labels}
-use Rattle.forest.proofs.Growth.{Labelled, labels-none, union-takes, union-labels, found-label, found-keeps}
+use Rattle.forest.specs.Forest.{Labelled}
+use Rattle.forest.proofs.Growth.{labels-none, union-takes, union-labels, found-label, found-keeps}
 use Rattle.forest.proofs.Filled.{Filled, filled-none, filled-more, filled-all}
 use Rattle.forest.proofs.name_components.Statement.{statement}
 use Rattle.forest.proofs.name_components.Tie as tie
