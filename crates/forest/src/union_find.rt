@@ -50,14 +50,14 @@ pub fn union_lower(p: &mut [usize], a: usize, b: usize) -> bool
     requires { ⌜ Forest (now p) × (a < length (now p)) × (b < length (now p)) ⌝ }
     ensures { λ r. ⌜ MergedLower (now (p .entry)) a b r (now (p .exit)) ⌝ }
 {
-    let ra = find(p, a);
-    let rb = find(p, b);
-    if ra < rb {
-        p[rb] = ra;
+    let x = find(p, a);
+    let y = find(p, b);
+    if x < y {
+        p[y] = x;
         return true;
     }
-    if rb < ra {
-        p[ra] = rb;
+    if y < x {
+        p[x] = y;
         return true;
     }
     false
