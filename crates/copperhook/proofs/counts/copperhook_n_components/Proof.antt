@@ -14,7 +14,7 @@ returns : tie.Need-returns
 returns c =
     let answered = c .before .before .n-components .ensures in
     let t = told _ _ (answered .0) (c .tell-number .ensures) in
-    (t, rw (t .0) (answered .1))
+    (t .0, (t .1, rw (t .0) (answered .1)))
 
 pub copperhook-n-components-spec : {M : Type 1} → statement M
 copperhook-n-components-spec =
