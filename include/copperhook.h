@@ -230,9 +230,13 @@ size_t copperhook_rotated(size_t n, size_t floor, const size_t *a, size_t a_len,
 size_t copperhook_window(size_t n, size_t floor, const size_t *a, size_t a_len, const size_t *b, size_t b_len, const double *m,
                          size_t m_len, size_t *window);
 
-/* How many components the graph has, in *count. Refusals: 1 to 5. */
+/*
+ * How many components the graph has, in *count, and in the sixteen words of `marks` the lowest vertex of each: vertex v is bit v mod 64 of
+ * marks[v / 64], set exactly where no path joins v with a lower vertex. Bits from n on are 0.
+ * Refusals: 1 to 5.
+ */
 size_t copperhook_n_components(size_t n, const size_t *a, size_t a_len, const size_t *b, size_t b_len, const double *m, size_t m_len,
-                               size_t *count);
+                               uint64_t *marks, size_t *count);
 
 /* How many edges are free, kept edges and components less the vertices, in *free_edges. Refusals: 1 to 5. */
 size_t copperhook_cyclomatic(size_t n, const size_t *a, size_t a_len, const size_t *b, size_t b_len, const double *m, size_t m_len,

@@ -6,7 +6,7 @@ ghost use Rattle.refusals.specs.Edges.{windowFrom, keptEarly, keptLate};
 ghost use Rattle.refusals.specs.Request.{graphRequest};
 ghost use Rattle.refusals.specs.Refusal.{refusal, ofGraph};
 ghost use Rattle.refusals.specs.Answers.{left};
-ghost use Rattle.graph.specs.Graphs.{freeCount};
+ghost use Rattle.graph.specs.Graphs.{freeCount, ComponentMarks};
 use c_values::tell_number;
 
 // As `lattice::window`, the window in `window`; where the call is refused, that keeps what it held.
@@ -26,21 +26,24 @@ pub extern "C" fn copperhook_window(
     tell_number(answer, window)
 }
 
-// As `lattice::n_components`, how many there are in `count`.
+// As `lattice::n_components`, how many there are in `count`; `marks` has a bit for the lowest vertex of each.
 #[no_mangle]
 pub extern "C" fn copperhook_n_components(
     n: usize,
     a: &[usize],
     b: &[usize],
     m: &[f64],
+    marks: &mut [u64; 16],
     count: &mut usize,
 ) -> usize
     ensures { λ r. ⌜ r ≡ refusal ofGraph (graphRequest n (now (a .entry)) (now (b .entry)) (now (m .entry)) false) ⌝ }
     ensures { λ r. ⌜ now (count .exit) ≡ left r
         (componentCount n (keptEarly (now (a .entry)) (now (b .entry)) (now (m .entry)))
         (keptLate (now (a .entry)) (now (b .entry)) (now (m .entry)))) (now (count .entry)) ⌝ }
+    ensures { λ r. ⌜ ComponentMarks r n (keptEarly (now (a .entry)) (now (b .entry)) (now (m .entry)))
+        (keptLate (now (a .entry)) (now (b .entry)) (now (m .entry))) (now (marks .entry)) (now (marks .exit)) ⌝ }
 {
-    let answer = graph::n_components(n, a, b, m);
+    let answer = graph::n_components(n, a, b, m, marks);
     tell_number(answer, count)
 }
 

@@ -1,5 +1,5 @@
--- The forest grows edge by edge, and its roots stay the labels.
-use mathlib.Core.Path.{_≡_, _∙_}
+-- The forest grows edge by edge, and its roots stay the labels: those of `labels`, or the lowest ones.
+use mathlib.Core.Path.{_≡_, refl, _∙_}
 use mathlib.Core.Bool.{Bool}
 use mathlib.Core.List.{List}
 use Prim.Native.Nat.{ℕ, _+_, _<_}
@@ -7,33 +7,44 @@ use native.Mathlib.Numerals.{add-one}
 use lib.ListN.{length}
 use Rattle.forest.specs.Paths.{end, Edges}
 use Rattle.forest.specs.Labels.{labels, isTree}
-use Rattle.forest.specs.Forest.{links, root, Forest, Fresh, Found, Merged}
+use Rattle.forest.specs.Lowest.{lowest}
+use Rattle.forest.specs.Laws.Lowest.{tree-apart}
+use Rattle.forest.specs.Forest.{links, root, Forest, Fresh, Found, Merged, MergedLower, Labelled}
 use Rattle.forest.proofs.Climb.{climb-own}
 
--- the forest of n vertices after the first i edges: its roots are the labels
-pub record Labelled (n : ℕ) (early late : List ℕ) (i : ℕ) (p : List ℕ) : Type 0 where
-  pub len : length p ≡ n
-  pub forest : Forest p
-  pub roots : (v : ℕ) → v < n → root p v ≡ labels early late i v
+-- edges, or a forest, of as many vertices
+pub edges-of : {n k : ℕ} {early late : List ℕ} → k ≡ n → Edges n early late → Edges k early late
+edges-of e E = rw e E
 
-pub labelled-none : {n : ℕ} {early late p : List ℕ} → length p ≡ n → Fresh p → Labelled n early late 0 p
-unfolding labels root
-labelled-none {p = p} e fresh =
+pub labelled-of : {n k : ℕ} {label : ℕ → ℕ} {p : List ℕ} → k ≡ n → Labelled k label p → Labelled n label p
+labelled-of e L = rw (← e) L
+
+labelled-none : {n : ℕ} {label : ℕ → ℕ} {p : List ℕ} → ((v : ℕ) → label v ≡ v) → length p ≡ n → Fresh p → Labelled n label p
+unfolding root
+labelled-none {p = p} first e fresh =
     record {
       len = e;
       forest = record { inside = λ v h. rw (fresh v h) h; settles = λ v h. rw (own v h) (fresh v h) };
-      roots = λ v h. own v (rw e h);
+      roots = λ v h. rw (first v) (own v (rw e h));
     }
   where
     own : (v : ℕ) → v < length p → root p v ≡ v
     own v h = climb-own p (links 0 p) v (fresh v h)
 
-module _ {n : ℕ} {early late : List ℕ} {i : ℕ} {p : List ℕ} (L : Labelled n early late i p) where
-  -- `find` answers the label
-  pub found-label : {v r : ℕ} {q : List ℕ} → v < n → Found p v r q → r ≡ labels early late i v
+pub labels-none : {n : ℕ} {p : List ℕ} (early late : List ℕ) → length p ≡ n → Fresh p → Labelled n (labels early late 0) p
+unfolding labels
+labels-none early late = labelled-none (λ v. refl)
+
+pub lowest-begun : {n : ℕ} {p : List ℕ} (early late : List ℕ) → length p ≡ n → Fresh p → Labelled n (lowest early late 0) p
+unfolding lowest
+lowest-begun early late = labelled-none (λ v. refl)
+
+module _ {n : ℕ} {label : ℕ → ℕ} {p : List ℕ} (L : Labelled n label p) where
+  -- `find` returns the label
+  pub found-label : {v r : ℕ} {q : List ℕ} → v < n → Found p v r q → r ≡ label v
   found-label h F = F .is ∙ L .roots _ h
 
-  pub found-keeps : {v r : ℕ} {q : List ℕ} → Found p v r q → Labelled n early late i q
+  pub found-keeps : {v r : ℕ} {q : List ℕ} → Found p v r q → Labelled n label q
   found-keeps F =
       record {
         len = F .kept .len ∙ L .len;
@@ -41,23 +52,39 @@ module _ {n : ℕ} {early late : List ℕ} {i : ℕ} {p : List ℕ} (L : Labelle
         roots = λ v h. F .kept .same v (rw (L .len) h) ∙ L .roots v h;
       }
 
-  -- `union` of the ends of the next edge
-  module _ (E : Edges n early late) (h : i < length early) where
-    pub union-takes : Forest p × (end early i < length p) × (end late i < length p)
-    union-takes = (L .forest, rw (L .len) (E .early-below i h), rw (L .len) (E .late-below i h))
+  -- a union takes the ends of an edge
+  pub union-takes : {early late : List ℕ} → Edges n early late → (i : ℕ) → i < length early → Forest p × (end early i < length p) × (end late i < length p)
+  union-takes E i h = (L .forest, rw (L .len) (E .early-below i h), rw (L .len) (E .late-below i h))
 
-    module _ {r : Bool} {q : List ℕ} (M : Merged p (end early i) (end late i) r q) where
-      pub union-tree : r ≡ isTree early late i
-      unfolding isTree
-      union-tree = M .is ∙ rw (L .roots (end early i) (E .early-below i h), L .roots (end late i) (E .late-below i h))
+-- the ends of the next edge, merged
+module _ {n : ℕ} {early late : List ℕ} {p q : List ℕ} {r : Bool} (E : Edges n early late) (i : ℕ) (h : i < length early) where
+  module _ (L : Labelled n (labels early late i) p) (M : Merged p (end early i) (end late i) r q) where
+    pub union-tree : r ≡ isTree early late i
+    unfolding isTree
+    union-tree = M .is ∙ rw (L .roots (end early i) (E .early-below i h), L .roots (end late i) (E .late-below i h))
 
-      pub union-labels : Labelled n early late (i + 1) q
-      unfolding labels
-      union-labels =
-          record {
-            len = M .len ∙ L .len;
-            forest = M .forest;
-            roots = λ v l.
-                M .roots v (rw (L .len) l)
-                ∙ rw (L .roots v l, L .roots (end early i) (E .early-below i h), L .roots (end late i) (E .late-below i h), add-one);
-          }
+    pub union-labels : Labelled n (labels early late (i + 1)) q
+    unfolding labels
+    union-labels =
+        record {
+          len = M .len ∙ L .len;
+          forest = M .forest;
+          roots = λ v l.
+              M .roots v (rw (L .len) l)
+              ∙ rw (L .roots v l, L .roots (end early i) (E .early-below i h), L .roots (end late i) (E .late-below i h), add-one);
+        }
+
+  module _ (L : Labelled n (lowest early late i) p) (M : MergedLower p (end early i) (end late i) r q) where
+    pub lower-tree : r ≡ isTree early late i
+    lower-tree = M .is ∙ rw (L .roots (end early i) (E .early-below i h), L .roots (end late i) (E .late-below i h), tree-apart early late i)
+
+    pub lower-labels : Labelled n (lowest early late (i + 1)) q
+    unfolding lowest
+    lower-labels =
+        record {
+          len = M .len ∙ L .len;
+          forest = M .forest;
+          roots = λ v l.
+              M .roots v (rw (L .len) l)
+              ∙ rw (L .roots v l, L .roots (end early i) (E .early-below i h), L .roots (end late i) (E .late-below i h), add-one);
+        }

@@ -1,14 +1,15 @@
 -- A root takes another root as its parent: the vertices below it take that root. This is what `union` does after two calls of `find`.
 use mathlib.Core.Path.{_≡_, refl, sym, ap, _∙_}
-use mathlib.Core.Bool.{true, false, cond}
+use mathlib.Core.Bool.{Bool, true, false, cond}
 use mathlib.Core.List.{List}
-use Prim.Native.Nat.{ℕ, zero, suc, _<_}
+use Prim.Native.Nat.{ℕ, zero, suc, _≤_, _<_}
 use native.Mathlib.Decide.{ℕ-discrete}
+use native.Mathlib.Omega.{arith}
 use lib.Dec.{eqb}
 use lib.ListN.{length, set, length-set}
-use borrow.Author.Tests.{eq-eqb, ne-eqb}
+use borrow.Author.Tests.{eq-eqb, ne-eqb, lt-ltb, le-ltb}
 use Rattle.forest.specs.Laws.Labels.{merge-same}
-use Rattle.forest.specs.Forest.{parent, climb, links, root, Forest, Kept, Found, Merged}
+use Rattle.forest.specs.Forest.{parent, climb, links, root, Forest, Kept, Found, Merged, MergedLower}
 use Rattle.forest.proofs.Climb.{Own, climb-more, climb-own}
 use Rattle.forest.proofs.Store.{at-x, at-other, set-inside, links-one}
 use Rattle.forest.proofs.Halve.{kept-trans}
@@ -64,17 +65,43 @@ module _ (p : List ℕ) (a b : ℕ) (a< : a < length p) (oa : Own p a) (ob : Own
           settles = λ v h. hung-settles v (rw (length-set p a b) at h);
         }
 
+climb-inside : (p : List ℕ) → Forest p → (k v : ℕ) → v < length p → climb p k v < length p
+unfolding climb
+climb-inside p F zero v h = h
+climb-inside p F (suc k) v h = climb-inside p F k (parent p v) (F .inside v h)
+
+root-inside : (p : List ℕ) → Forest p → (v : ℕ) → v < length p → root p v < length p
+unfolding root
+root-inside p F v h = climb-inside p F (links 0 p) v h
+
+-- of a forest s with the roots of p, that of x is hung below that of y
+hung : {p s : List ℕ} → Kept p s → (x y rx ry : ℕ) → x < length p → y < length p → rx ≡ root p x → ry ≡ root p y → (rx ≡ ry → ⊥)
+    → Merged p x y true (set s rx ry)
+hung {p} {s} K x y rx ry x< y< ix iy n =
+    let m : ry ≡ rx → ⊥ = λ e. n (sym e) in
+    let ox = own x rx x< ix in
+    let oy = own y ry y< iy in
+    let bx = below x rx x< ix in
+    let by = below y ry y< iy in
+    record {
+      len = length-set s rx ry ∙ K .len;
+      forest = hung-forest s rx ry bx ox oy m (K .forest) by;
+      roots = λ v h. hung-root s rx ry bx ox oy m (K .forest) by v (rw (K .len) h) ∙ rw (K .same v h, ix, iy);
+      is = rw (ne-eqb (root p x) (root p y) (λ e. n (ix ∙ e ∙ sym iy)));
+    }
+  where
+    own : (z r : ℕ) → z < length p → r ≡ root p z → Own s r
+    own z r z< i = let e : root s z ≡ r = K .same z z< ∙ sym i in rw e at (K .forest .settles z (rw (K .len) z<))
+
+    below : (z r : ℕ) → z < length p → r ≡ root p z → r < length s
+    below z r z< i = rw (i ∙ sym (K .same z z<)) (root-inside s (K .forest) z (rw (K .len) z<))
+
 module _ {p q s : List ℕ} {a b ra rb : ℕ} (a< : a < length p) (b< : b < length p) (A : Found p a ra q) (B : Found q b rb s) where
   both : Kept p s
   both = kept-trans (A .kept) (B .kept)
 
   is-b : rb ≡ root p b
   is-b = B .is ∙ A .kept .same b b<
-
-  own-a : Own s ra
-  own-a =
-      let e : root s a ≡ ra = both .same a a< ∙ sym (A .is) in
-      rw e at (both .forest .settles a (rw (both .len) a<))
 
   pub one-set : ra ≡ rb → Merged p a b false s
   one-set e =
@@ -87,14 +114,29 @@ module _ {p q s : List ℕ} {a b ra rb : ℕ} (a< : a < length p) (b< : b < leng
       }
 
   pub two-sets : (ra ≡ rb → ⊥) → Merged p a b true (set s ra rb)
-  two-sets n =
-      let ra< : ra < length s = rw (both .len) (A .inside) in
-      let rb< : rb < length s = rw (B .kept .len) (B .inside) in
-      let m : rb ≡ ra → ⊥ = λ e. n (sym e) in
+  two-sets n = hung both a b ra rb a< b< (A .is) is-b n
+
+  -- ---- the lower root stays
+
+  pub first-lower : ra < rb → MergedLower p a b true (set s rb ra)
+  first-lower l =
+      let M = hung both b a rb ra b< a< is-b (A .is) (λ e. absurd (omega arith)) in
+      let less : root p a < root p b = omega (arith, A .is, is-b) in
       record {
-        len = length-set s ra rb ∙ both .len;
-        forest = hung-forest s ra rb ra< own-a (B .own) m (both .forest) rb<;
-        roots = λ v h.
-            hung-root s ra rb ra< own-a (B .own) m (both .forest) rb< v (rw (both .len) h) ∙ rw (both .same v h, A .is, is-b);
-        is = rw (ne-eqb (root p a) (root p b) (λ e. n (A .is ∙ e ∙ sym is-b)));
+        len = M .len;
+        forest = M .forest;
+        roots = λ v h. M .roots v h ∙ rw (lt-ltb (root p a) (root p b) less);
+        is = rw (ne-eqb (root p a) (root p b) (λ e. absurd (omega arith)));
       }
+
+  -- a merge in which the second root is no higher
+  second-lower : {r : Bool} {t : List ℕ} → rb ≤ ra → Merged p a b r t → MergedLower p a b r t
+  second-lower l M =
+      let less : root p b ≤ root p a = omega (arith, A .is, is-b) in
+      record { len = M .len; forest = M .forest; roots = λ v h. M .roots v h ∙ rw (le-ltb (root p a) (root p b) less); is = M .is }
+
+  pub other-lower : rb < ra → MergedLower p a b true (set s ra rb)
+  other-lower l = second-lower (omega arith) (two-sets (λ e. absurd (omega arith)))
+
+  pub lower-one : rb ≤ ra → ra ≤ rb → MergedLower p a b false s
+  lower-one l m = second-lower l (one-set (omega arith))

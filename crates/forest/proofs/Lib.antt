@@ -5,3 +5,4 @@ mod Halve
 mod Hang
 mod Filled
 mod Growth
+mod Words

@@ -1,11 +1,13 @@
 -- A forest over the vertices 0 to n - 1, as the list of their parents: a root is its own parent. What the union-find functions do to it.
 use mathlib.Core.Path.{_≡_}
-use mathlib.Core.Bool.{Bool, cond, not}
+use mathlib.Core.Bool.{Bool, cond, not, _&&_}
 use mathlib.Core.List.{List, [], _∷_}
-use Prim.Native.Nat.{ℕ, zero, suc, _+_, _<_}
-use lib.Dec.{eqb}
+use Prim.Native.Nat.{ℕ, zero, suc, _+_, _*_, _<_}
+use lib.Dec.{eqb, ltb}
 use lib.ListN.{length, getD}
+use Rattle.list_laws.specs.Tabulate.{tabulate}
 use Rattle.forest.specs.Labels.{merge}
+use Rattle.forest.specs.Lowest.{mergeLower, bits}
 
 abbrev pub parent : List ℕ → ℕ → ℕ
 parent p v = getD p v 0
@@ -56,3 +58,24 @@ pub record Merged (p : List ℕ) (a b : ℕ) (r : Bool) (q : List ℕ) : Type 0 
   pub forest : Forest q
   pub roots : (v : ℕ) → v < length p → root q v ≡ merge (root p) a b v
   pub is : r ≡ not (eqb (root p a) (root p b))
+
+-- `union_lower` gives the vertices under the higher of the two roots the lower one
+pub record MergedLower (p : List ℕ) (a b : ℕ) (r : Bool) (q : List ℕ) : Type 0 where
+  pub len : length q ≡ length p
+  pub forest : Forest q
+  pub roots : (v : ℕ) → v < length p → root q v ≡ mergeLower (root p) a b v
+  pub is : r ≡ not (eqb (root p a) (root p b))
+
+-- A forest of n vertices whose roots are these labels
+pub record Labelled (n : ℕ) (label : ℕ → ℕ) (p : List ℕ) : Type 0 where
+  pub len : length p ≡ n
+  pub forest : Forest p
+  pub roots : (v : ℕ) → v < n → root p v ≡ label v
+
+-- whether v is a vertex of the forest and its own parent
+abbrev pub isRoot : List ℕ → ℕ → Bool
+isRoot p v = ltb v (length p) && eqb (parent p v) v
+
+-- sixteen words with a bit for each root: vertex v is bit v mod 64 of word v / 64
+abbrev pub rootMarks : List ℕ → List ℕ
+rootMarks p = tabulate (λ k. bits (isRoot p) (64 * k) 64) 16

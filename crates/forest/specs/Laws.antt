@@ -2,3 +2,5 @@
 pub mod Paths
 pub mod Labels
 pub mod Components
+pub mod Lowest
+pub mod Marks

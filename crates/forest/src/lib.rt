@@ -10,13 +10,24 @@ ghost use Rattle.list_laws.specs.Tabulate.{tabulate};
 ghost use Rattle.forest.specs.Paths.{Edges, Spans};
 ghost use Rattle.forest.specs.Labels.{labels, isTree};
 ghost use Rattle.forest.specs.Components.{componentCount};
+ghost use Rattle.forest.specs.Lowest.{lowest, lowestMarks};
+ghost use Rattle.forest.specs.Forest.{Labelled};
 
+mod marks;
 mod union_find;
 
 use limits::VERTICES;
+use marks::mark_roots;
 use union_find::find;
 use union_find::start;
 use union_find::union;
+use union_find::union_lower;
+
+// How many components there are, and a bit for the lowest vertex of each: vertex v is bit v mod 64 of word v / 64.
+pub struct Marked {
+    pub count: usize,
+    pub marks: [u64; 16],
+}
 
 // Marks the tree edges: those whose ends no path of earlier edges joins.
 pub fn mark_tree_edges(n: usize, early: &[usize], late: &[usize], tree: &mut [bool])
@@ -54,24 +65,48 @@ pub fn name_components(n: usize, early: &[usize], late: &[usize], out: &mut [usi
     }
 }
 
-// How many components there are: a vertex whose number is its own counts for its component.
+// Joins the ends of every edge, of two roots the lower staying. Returns how many are tree edges.
+fn join_ends(p: &mut [usize], early: &[usize], late: &[usize]) -> usize
+    requires { ⌜ Edges (length (now p)) (now early) (now late) ⌝ }
+    ensures { λ r. ⌜ (r ≡ count (isTree (now (early .entry)) (now (late .entry))) (length (now (early .entry))))
+        × Labelled (length (now (p .entry))) (lowest (now (early .entry)) (now (late .entry)) (length (now (early .entry)))) (now (p .exit)) ⌝ }
+{
+    start(p);
+    let mut trees: usize = 0;
+    let mut e: usize = 0;
+    while e < early.len() {
+        let joins = union_lower(p, early[e], late[e]);
+        e += 1;
+        if joins {
+            trees += 1;
+        }
+    }
+    trees
+}
+
+// How many components there are: each tree edge makes of two components one.
 pub fn count_components(n: usize, early: &[usize], late: &[usize]) -> usize
     requires { ⌜ Edges n (now early) (now late) × (n ≤ mostVertices) ⌝ }
     ensures { λ r. ⌜ r ≡ componentCount n (now (early .entry)) (now (late .entry)) ⌝ }
 {
-    let mut numbers = [0usize; VERTICES];
-    let c = &mut numbers[..n];
-    name_components(n, early, late, c);
-    let mut k: usize = 0;
-    let mut v: usize = 0;
-    while v < n {
-        let own = c[v] == v;
-        v += 1;
-        if own {
-            k += 1;
-        }
+    let mut parents = [0usize; VERTICES];
+    n - join_ends(&mut parents[..n], early, late)
+}
+
+// Marks the lowest vertex of each component, one bit a vertex, and counts the components.
+pub fn mark_components(n: usize, early: &[usize], late: &[usize]) -> Marked
+    requires { ⌜ Edges n (now early) (now late) × (n ≤ mostVertices) ⌝ }
+    ensures { λ r. ⌜ (r .count ≡ componentCount n (now (early .entry)) (now (late .entry)))
+        × (r .marks ≡ lowestMarks n (now (early .entry)) (now (late .entry))) ⌝ }
+{
+    let mut parents = [0usize; VERTICES];
+    let p = &mut parents[..n];
+    let trees = join_ends(p, early, late);
+    let marks = mark_roots(p);
+    Marked {
+        count: n - trees,
+        marks,
     }
-    k
 }
 
 // The number of independent cycles, which is the number of free edges: those that are no tree edges.

@@ -1,7 +1,7 @@
 // Sets of vertices as a forest: the list p holds each vertex's parent, and a root, its own parent, stands for its set.
 ghost use Prim.Native.Nat.{_<_};
 ghost use lib.ListN.{length};
-ghost use Rattle.forest.specs.Forest.{Forest, Fresh, Found, Merged};
+ghost use Rattle.forest.specs.Forest.{Forest, Fresh, Found, Merged, MergedLower};
 
 // Every vertex is made its own parent: sets of one.
 pub fn start(p: &mut [usize])
@@ -43,4 +43,22 @@ pub fn union(p: &mut [usize], a: usize, b: usize) -> bool
     }
     p[ra] = rb;
     true
+}
+
+// Hangs the higher of the two roots below the lower one, and returns whether these were two sets.
+pub fn union_lower(p: &mut [usize], a: usize, b: usize) -> bool
+    requires { ⌜ Forest (now p) × (a < length (now p)) × (b < length (now p)) ⌝ }
+    ensures { λ r. ⌜ MergedLower (now (p .entry)) a b r (now (p .exit)) ⌝ }
+{
+    let x = find(p, a);
+    let y = find(p, b);
+    if x < y {
+        p[y] = x;
+        return true;
+    }
+    if y < x {
+        p[x] = y;
+        return true;
+    }
+    false
 }

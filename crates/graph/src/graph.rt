@@ -11,7 +11,7 @@ ghost use Rattle.refusals.specs.Answers.{answered, left};
 ghost use Rattle.forest.specs.Paths.{Spans};
 ghost use Rattle.forest.specs.Components.{componentCount};
 ghost use Rattle.kept_edges.specs.Keep.{KeptEdges};
-ghost use Rattle.graph.specs.Graphs.{freeCount, treeMarks, componentNames, measureOf};
+ghost use Rattle.graph.specs.Graphs.{freeCount, treeMarks, componentNames, measureOf, ComponentMarks};
 ghost use Rattle.graph.specs.Reached.{Distanced};
 use distance::Reach;
 use kept_edges::build::build;
@@ -27,10 +27,9 @@ pub enum Reached {
     Refused(usize),
 }
 
-// What is measured of a graph: its window above a floor, how many components it has, or how many of its edges are free.
+// What is measured of a graph: its window above a floor, or how many of its edges are free.
 pub enum Measure {
     Window(usize),
-    Components,
     Free,
 }
 
@@ -41,7 +40,6 @@ fn measure_kept(measure: Measure, n: usize, early: &[usize], late: &[usize]) -> 
 {
     match measure {
         Measure::Window(floor) => window_of(floor, early, late),
-        Measure::Components => forest::count_components(n, early, late),
         Measure::Free => forest::count_free_edges(n, early, late),
     }
 }
@@ -70,12 +68,27 @@ pub fn window(n: usize, a: &[usize], b: &[usize], m: &[f64], floor: usize) -> An
     measured(Measure::Window(floor), n, a, b, m)
 }
 
-// How many components the graph has.
-pub fn n_components(n: usize, a: &[usize], b: &[usize], m: &[f64]) -> Answer
+// How many components the graph has, and a mark for the lowest vertex of each: vertex v is bit v mod 64 of word v / 64.
+pub fn n_components(n: usize, a: &[usize], b: &[usize], m: &[f64], marks: &mut [u64; 16]) -> Answer
     ensures { λ r. ⌜ r ≡ answered (refusal ofGraph (graphRequest n (now (a .entry)) (now (b .entry)) (now (m .entry)) false))
         (componentCount n (keptEarly (now (a .entry)) (now (b .entry)) (now (m .entry))) (keptLate (now (a .entry)) (now (b .entry)) (now (m .entry)))) ⌝ }
+    ensures { λ _. ⌜ ComponentMarks (refusal ofGraph (graphRequest n (now (a .entry)) (now (b .entry)) (now (m .entry)) false))
+        n (keptEarly (now (a .entry)) (now (b .entry)) (now (m .entry))) (keptLate (now (a .entry)) (now (b .entry)) (now (m .entry)))
+        (now (marks .entry)) (now (marks .exit)) ⌝ }
 {
-    measured(Measure::Components, n, a, b, m)
+    let mut early = [0usize; EDGES];
+    let mut late = [0usize; EDGES];
+    let mut mag = [0.0f64; EDGES];
+    let g = build(n, a, b, m, &mut early, &mut late, &mut mag);
+    let refusal = g.refusal;
+    if refusal != 0 {
+        return Answer::Refused(refusal);
+    }
+    let edges = g.edges;
+    let marked = forest::mark_components(n, &early[..edges], &late[..edges]);
+    let words = marked.marks;
+    *marks = words;
+    Answer::Number(marked.count)
 }
 
 // How many edges are free: kept edges and components, less the vertices.

@@ -156,11 +156,17 @@ fn mix_rotated(hash: u64, n: usize, a: &[usize], b: &[usize], m: &[f64], lent: u
     )
 }
 
+// The original marks no lowest vertex, so the count alone is compared.
+fn components_word(n: usize, a: &[usize], b: &[usize], m: &[f64]) -> u64 {
+    let mut marks = [0u64; 16];
+    answer_word(graph::n_components(n, a, b, m, &mut marks))
+}
+
 fn hash_of(n: usize, a: &[usize], b: &[usize], m: &[f64], short: bool) -> u64 {
     let refused = is_refused(graph::window(n, a, b, m, 0));
     let edges = count_kept(n, a, b, m);
     let w = mix(OFFSET, answer_word(graph::window(n, a, b, m, 0)));
-    let k = mix(w, answer_word(graph::n_components(n, a, b, m)));
+    let k = mix(w, components_word(n, a, b, m));
     let f = mix(k, answer_word(graph::cyclomatic(n, a, b, m)));
     let c = mix_components(f, n, a, b, m, lent(refused, n, short));
     let t = mix_forest(c, n, a, b, m, lent(refused, edges, short));

@@ -37,6 +37,60 @@ pub fn print_checks() {
             println!(" {:.1} | {:.1} | {:.2} |", 1e6 * all[0], 1e6 * all[1], all[1] / all[0]);
         }
     }
+    print_components();
+}
+
+/// Of whole strips, and with every third edge dropped, so that there are many components.
+fn print_components() {
+    println!();
+    println!("Components, in microseconds from the edges on: the original's Graph::new and n_components; our n_components, with its marks;");
+    println!("the original's Graph::new and cyclomatic; our cyclomatic.");
+    println!();
+    println!("| strip | components | original | ours | ratio | original, free edges | ours | ratio |");
+    println!("|---|---|---|---|---|---|---|---|");
+    for (w, l) in [(4, 256), (8, 128), (16, 64)] {
+        for kind in KINDS {
+            for dropped in [false, true] {
+                let job = Job::new(Strip { kind, w, l, periodic: false });
+                let mut raw = job.raw.clone();
+                raw.iter_mut().step_by(3).for_each(|e| e.2 *= f64::from(u8::from(!dropped)));
+                let m: Vec<f64> = raw.iter().map(|e| e.2).collect();
+                let ours = copperhook::Graph { m: &m, ..job.lists.job().graph };
+                let components = Graph::new(job.graph.n, &raw).n_components();
+                let times = components_and_free(job.graph.n, &raw, &ours);
+                print!("| {} {w} x {l} | {components} |", kind.name());
+                println!(
+                    " {:.1} | {:.1} | {:.2} | {:.1} | {:.1} | {:.2} |",
+                    1e6 * times[0],
+                    1e6 * times[1],
+                    times[1] / times[0],
+                    1e6 * times[2],
+                    1e6 * times[3],
+                    times[3] / times[2]
+                );
+            }
+        }
+    }
+}
+
+fn components_and_free(n: usize, raw: &[(usize, usize, f64)], ours: &copperhook::Graph) -> Vec<f64> {
+    least_times(
+        &Rounds { least: 20, round: 0.003, total: 0.5 },
+        &mut [
+            &mut || {
+                black_box(Graph::new(n, black_box(raw)).n_components());
+            },
+            &mut || {
+                let _ = black_box(black_box(ours).n_components());
+            },
+            &mut || {
+                black_box(Graph::new(n, black_box(raw)).cyclomatic());
+            },
+            &mut || {
+                let _ = black_box(black_box(ours).cyclomatic());
+            },
+        ],
+    )
 }
 
 fn before_the_sweeps(job: &Job) -> Vec<f64> {

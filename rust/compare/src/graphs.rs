@@ -60,7 +60,7 @@ pub fn try_one(draw: &mut Draw) -> Result<usize, String> {
     let refusal = graph_refusal(&edges, &Pairs::default(), &[]);
     let original = (refusal == 0).then(|| Graph::new(edges.n, &edges.raw()));
     let lent = Lent::new(edges);
-    numbers(&lent, refusal, original.as_ref())?;
+    numbers(draw, &lent, refusal, original.as_ref())?;
     let answers = [
         kept(draw, &lent, refusal, original.as_ref(), false)?,
         kept(draw, &lent, refusal, original.as_ref(), true)?,
@@ -72,18 +72,25 @@ pub fn try_one(draw: &mut Draw) -> Result<usize, String> {
     Ok(answers.into_iter().find(|&number| number != 0).unwrap_or(0))
 }
 
-/// Window, components and free edges.
-fn numbers(lent: &Lent, refusal: usize, original: Option<&Graph>) -> Result<(), String> {
+/// Window, components with the marks of their lowest vertices, and free edges.
+fn numbers(draw: &mut Draw, lent: &Lent, refusal: usize, original: Option<&Graph>) -> Result<(), String> {
     let (mut window, mut count, mut free) = (BEFORE, BEFORE, BEFORE);
+    let before: [u64; 16] = std::array::from_fn(|_| draw.word());
+    let mut marks = Guarded::new(&before);
     let floor = lent.edges.floor;
     let numbers = [
         call!(copperhook_window, lent, floor; &mut window),
-        call!(copperhook_n_components, lent; &mut count),
+        call!(copperhook_n_components, lent; marks.pointer_mut(), &mut count),
         call!(copperhook_cyclomatic, lent; &mut free),
     ];
     same("answers of window, components and free edges", &numbers, &[refusal; 3])?;
     let expected = original.map_or([BEFORE; 3], |g| [g.win.max(floor), g.n_components(), g.cyclomatic()]);
-    same("window, components and free edges", &[window, count, free], &expected)
+    same("window, components and free edges", &[window, count, free], &expected)?;
+    let mut words = if refusal == 0 { [0; 16] } else { before };
+    if refusal == 0 {
+        lent.edges.lowest().into_iter().for_each(|v| words[v / 64] |= 1 << (v % 64));
+    }
+    marks.holds("marks of the lowest vertices", &words)
 }
 
 /// `front` at the front of `before`.

@@ -28,6 +28,22 @@ pub struct Kept {
     pub edges: usize,
 }
 
+/// The components of a graph.
+#[derive(Clone, Copy, Debug, PartialEq, Eq)]
+pub struct Components {
+    /// How many there are.
+    pub count: usize,
+    /// Vertex v is bit v mod 64 of word v / 64, set exactly where v is the lowest vertex of its component.
+    pub marks: [u64; 16],
+}
+
+impl Components {
+    /// Returns whether `v` is the lowest vertex of its component; no vertex from the graph's `n` on is.
+    pub fn is_lowest(&self, v: usize) -> bool {
+        self.marks.get(v / 64).is_some_and(|word| word >> (v % 64) & 1 == 1)
+    }
+}
+
 impl<'a> Graph<'a> {
     /// Returns the graph of `n` vertices and these edges, without a floor.
     pub fn new(n: usize, a: &'a [usize], b: &'a [usize], m: &'a [f64]) -> Graph<'a> {
@@ -61,11 +77,11 @@ impl<'a> Graph<'a> {
         Refusal::told(number).map(|()| window)
     }
 
-    /// Returns how many components the graph has.
-    pub fn n_components(&self) -> Result<usize, Refusal> {
-        let mut count = 0;
-        let number = call_of_graph!(copperhook_n_components(self; tell count));
-        Refusal::told(number).map(|()| count)
+    /// Returns how many components the graph has, and the lowest vertex of each.
+    pub fn n_components(&self) -> Result<Components, Refusal> {
+        let (mut count, mut marks) = (0, [0; 16]);
+        let number = call_of_graph!(copperhook_n_components(self; with marks.as_mut_ptr(); tell count));
+        Refusal::told(number).map(|()| Components { count, marks })
     }
 
     /// Returns how many edges are free: kept edges and components, less the vertices.

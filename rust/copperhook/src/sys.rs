@@ -278,7 +278,7 @@ extern "C" {
         window: *mut usize,
     ) -> usize;
 
-    /// The number of components.
+    /// The number of components, and a mark for the lowest vertex of each: `marks` points to sixteen words.
     pub fn copperhook_n_components(
         n: usize,
         a: *const usize,
@@ -287,6 +287,7 @@ extern "C" {
         b_len: usize,
         m: *const f64,
         m_len: usize,
+        marks: *mut u64,
         count: *mut usize,
     ) -> usize;
 

@@ -5,15 +5,16 @@ use Prim.Native.Nat.{_-_}
 use native.Mathlib.Omega.{arith}
 use lib.Seq.{length-take-le}
 use lib.ListN.{length}
-use Rattle.forest.specs.Labels.{isTree}
+use Rattle.forest.specs.Labels.{labels, isTree}
 use Rattle.forest.specs.Laws.Labels.{trees-span}
-use Rattle.forest.proofs.Growth.{Labelled, labelled-none, union-takes, union-tree, union-labels}
+use Rattle.forest.specs.Forest.{Labelled}
+use Rattle.forest.proofs.Growth.{labels-none, union-takes, union-tree, union-labels}
 use Rattle.forest.proofs.Filled.{Filled, filled-none, filled-more, filled-all}
 use Rattle.forest.proofs.mark_tree_edges.Statement.{statement}
 use Rattle.forest.proofs.mark_tree_edges.Tie as tie
 
 abbrev Inv-loop : tie.InvT-loop
-Inv-loop n early late tree₀ p₀ e₀ tree p e = Labelled n early late e p × Filled false (isTree early late) (length early) e tree
+Inv-loop n early late tree₀ p₀ e₀ tree p e = Labelled n (labels early late e) p × Filled false (isTree early late) (length early) e tree
 
 abbrev μ-loop : tie.MeasureT-loop
 μ-loop n early late tree₀ p₀ e₀ tree p e = length early - e
@@ -25,13 +26,13 @@ loop-holds : tie.Need-loop-holds Inv-loop μ-loop
 loop-holds c =
     let begun = c .before .before .start in
     let s = c .before .before .before .before .before .before .before .before in
-    (labelled-none (begun .kept .0 ∙ length-take-le _ _ (omega arith)) (begun .ensures), filled-none _ (s .pre .2))
+    (labels-none _ _ (begun .kept .0 ∙ length-take-le _ _ (omega arith)) (begun .ensures), filled-none _ (s .pre .2))
 
 union-requires : tie.Need-union-requires Inv-loop μ-loop
 union-requires c κs =
     let l = c .before .before .before .before in
     let s = l .before .before .before .before .before .before .before .before .before in
-    union-takes (l .loop .inv .0) (s .pre .0) (omega arith)
+    union-takes (l .loop .inv .0) (s .pre .0) _ (omega arith)
 
 loop-again : tie.Need-loop-again Inv-loop μ-loop
 loop-again c =
@@ -39,7 +40,7 @@ loop-again c =
     let s = l .before .before .before .before .before .before .before .before .before in
     let L = l .loop .inv .0 in
     let M = c .before .before .union .ensures in
-    (union-labels L (s .pre .0) (omega arith) M, filled-more (l .loop .inv .1) (omega arith) (union-tree L (s .pre .0) (omega arith) M))
+    (union-labels (s .pre .0) _ (omega arith) L M, filled-more (l .loop .inv .1) (omega arith) (union-tree (s .pre .0) _ (omega arith) L M))
 
 returns : tie.Need-returns Inv-loop μ-loop
 returns c =

@@ -5,19 +5,20 @@ use native.Mathlib.Omega.{arith}
 use lib.Seq.{length-take-le}
 use lib.ListN.{length}
 use Rattle.forest.specs.Labels.{labels}
-use Rattle.forest.proofs.Growth.{Labelled, labelled-none, union-takes, union-labels, found-label, found-keeps}
+use Rattle.forest.specs.Forest.{Labelled}
+use Rattle.forest.proofs.Growth.{labels-none, union-takes, union-labels, found-label, found-keeps}
 use Rattle.forest.proofs.Filled.{Filled, filled-none, filled-more, filled-all}
 use Rattle.forest.proofs.name_components.Statement.{statement}
 use Rattle.forest.proofs.name_components.Tie as tie
 
 abbrev Inv-loop : tie.InvT-loop
-Inv-loop n early late out p₀ e₀ p e = Labelled n early late e p × (e ≤ length early)
+Inv-loop n early late out p₀ e₀ p e = Labelled n (labels early late e) p × (e ≤ length early)
 
 abbrev μ-loop : tie.MeasureT-loop
 μ-loop n early late out p₀ e₀ p e = length early - e
 
 abbrev Inv-loop2 : tie.InvT-loop2
-Inv-loop2 n early late out₀ p₀ e v₀ out p v = Labelled n early late (length early) p × Filled 0 (labels early late (length early)) n v out
+Inv-loop2 n early late out₀ p₀ e v₀ out p v = Labelled n (labels early late (length early)) p × Filled 0 (labels early late (length early)) n v out
 
 abbrev μ-loop2 : tie.MeasureT-loop2
 μ-loop2 n early late out₀ p₀ e v₀ out p v = n - v
@@ -32,19 +33,19 @@ slice-aggregate-p c = sym (length-take-le _ _ (omega arith))
 loop-holds : tie.Need-loop-holds Inv-loop μ-loop Inv-loop2 μ-loop2
 loop-holds c =
     let s = c .before .before .start in
-    (labelled-none (s .kept .0 ∙ length-take-le _ _ (omega arith)) (s .ensures), omega arith)
+    (labels-none _ _ (s .kept .0 ∙ length-take-le _ _ (omega arith)) (s .ensures), omega arith)
 
 union-requires : tie.Need-union-requires Inv-loop μ-loop Inv-loop2 μ-loop2
 union-requires c κs =
     let l = c .before .before .before .before in
     let s = l .before .before .before .before .before .before .before .before .before in
-    union-takes (l .loop .inv .0) (s .pre .0) (omega arith)
+    union-takes (l .loop .inv .0) (s .pre .0) _ (omega arith)
 
 loop-again : tie.Need-loop-again Inv-loop μ-loop Inv-loop2 μ-loop2
 loop-again c =
     let l = c .before .before .before .before .before .before .before in
     let s = l .before .before .before .before .before .before .before .before .before in
-    (union-labels (l .loop .inv .0) (s .pre .0) (omega arith) (c .before .before .union .ensures), omega arith)
+    (union-labels (s .pre .0) _ (omega arith) (l .loop .inv .0) (c .before .before .union .ensures), omega arith)
 
 loop2-holds : tie.Need-loop2-holds Inv-loop μ-loop Inv-loop2 μ-loop2
 loop2-holds c =

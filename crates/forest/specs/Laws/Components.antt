@@ -54,7 +54,7 @@ module _ (s t : ℕ → Bool) (r : ℕ) (sr : s r ≡ true) (tr : t r ≡ false)
 -- ---- a merge of two labels, where each label is its own: a's label falls away, and no other
 
 -- how many of the vertices below n are their own label
-abbrev ownCount : (ℕ → ℕ) → ℕ → ℕ
+abbrev pub ownCount : (ℕ → ℕ) → ℕ → ℕ
 ownCount f n = count (λ v. eqb (f v) v) n
 
 module _ (f : ℕ → ℕ) (a b n : ℕ) where
@@ -77,33 +77,40 @@ module _ (f : ℕ → ℕ) (a b n : ℕ) where
         let falls : eqb (merge f a b (f a)) (f a) ≡ false = ne-eqb _ _ (λ e. ne (sym e ∙ merge-in f a b (f a) (own a))) in
         count-less (λ v. eqb (f v) v) (λ v. eqb (merge f a b v) v) (f a) (eq-eqb _ _ (own a)) falls merge-other n h
 
+  -- the merged labels as a function: one less where two were merged
+  pub one-less : (g : ℕ → ℕ) → ((v : ℕ) → g v ≡ merge f a b v) → ((v : ℕ) → f (f v) ≡ f v) → f a < n
+      → cond (not (eqb (f a) (f b))) 1 0 + ownCount g n ≡ ownCount f n
+  one-less g is own below = rw same (go (ℕ-discrete (f a) (f b)))
+    where
+      same : ownCount g n ≡ ownCount (merge f a b) n
+      same = count-ext (λ v. eqb (g v) v) (λ v. eqb (merge f a b v) v) n (λ v l. ap (λ (x : ℕ). eqb x v) (is v))
+
+      go : Dec (f a ≡ f b) → cond (not (eqb (f a) (f b))) 1 0 + ownCount (merge f a b) n ≡ ownCount f n
+      go (yes e) = rw (eq-eqb _ _ e) (omega (arith, merge-none e))
+      go (no m) = rw (ne-eqb _ _ m) (omega (arith, merge-one own m below))
+
+-- labels that begin as the vertices themselves, and of which each tree edge merges two: trees and labels together are as many as the vertices
+pub own-and-trees : (n : ℕ) (tree : ℕ → Bool) (g : ℕ → ℕ → ℕ) (k : ℕ) → ((v : ℕ) → g 0 v ≡ v)
+    → ((i : ℕ) → i < k → cond (tree i) 1 0 + ownCount (g (suc i)) n ≡ ownCount (g i) n) → count tree k + ownCount (g k) n ≡ n
+unfolding count
+own-and-trees n tree g zero start step = rw (count-zero tree) (omega (arith, count-all (λ v. eqb (g 0 v) v) n (λ v. eq-eqb _ _ (start v))))
+own-and-trees n tree g (suc k) start step = omega (arith, own-and-trees n tree g k start (λ i l. step i (omega arith)), step k (omega arith))
+
 module _ {n : ℕ} {early late : List ℕ} (E : Edges n early late) where
   pub component-below : (v : ℕ) → v < n → labels early late (length early) v < n
   component-below v h = label-below early late E (length early) (le-refl (length early)) v h
 
   -- ---- each tree edge makes of two components one
 
-  counted : (i : ℕ) → i ≤ length early → count (isTree early late) i + ownCount (labels early late i) n ≡ n
+  one-merged : (i : ℕ) → i < length early → cond (isTree early late i) 1 0 + ownCount (labels early late (suc i)) n ≡ ownCount (labels early late i) n
   unfolding labels isTree
-  counted zero h = rw (count-zero (isTree early late)) (omega (arith, count-all (λ v. eqb v v) n (λ v. eq-eqb v v refl)))
-  counted (suc i) h = go (counted i (omega arith)) (ℕ-discrete (f (end early i)) (f (end late i)))
-    where
-      f : ℕ → ℕ
-      f v = labels early late i v
-
-      go : count (isTree early late) i + ownCount f n ≡ n → Dec (f (end early i) ≡ f (end late i))
-          → count (isTree early late) (suc i) + ownCount (labels early late (suc i)) n ≡ n
-      go ih (yes e) =
-          let t = count-miss (isTree early late) i (rw (eq-eqb _ _ e)) in
-          omega (arith, rw (add-one i) at t, merge-none f (end early i) (end late i) n e, ih)
-      go ih (no m) =
-          let t = count-hit (isTree early late) i (rw (ne-eqb _ _ m)) in
-          let below = label-below early late E i (omega arith) (end early i) (E .early-below i h) in
-          omega (arith, rw (add-one i) at t, merge-one f (end early i) (end late i) n (label-own early late i) m below, ih)
+  one-merged i h =
+      one-less (labels early late i) (end early i) (end late i) n (labels early late (suc i)) (λ v. refl) (label-own early late i)
+      (label-below early late E i (omega arith) (end early i) (E .early-below i h))
 
   pub trees-and-components : count (isTree early late) (length early) + componentCount n early late ≡ n
-  unfolding componentCount
-  trees-and-components = counted (length early) (le-refl (length early))
+  unfolding componentCount labels
+  trees-and-components = own-and-trees n (isTree early late) (labels early late) (length early) (λ v. refl) one-merged
 
   -- ---- the edges that are no tree edges
 

@@ -40,7 +40,7 @@ module _ (f : ℕ → ℕ) (a b : ℕ) where
       go (yes q) = merge-in v q ∙ sym e ∙ sym q
       go (no n) = merge-out v n
 
-  merge-below : (n : ℕ) → f b < n → (v : ℕ) → f v < n → merge f a b v < n
+  pub merge-below : (n : ℕ) → f b < n → (v : ℕ) → f v < n → merge f a b v < n
   merge-below n l v h = go (ℕ-discrete (f v) (f a))
     where
       go : Dec (f v ≡ f a) → merge f a b v < n
@@ -48,7 +48,7 @@ module _ (f : ℕ → ℕ) (a b : ℕ) where
       go (no m) = rw (ne-eqb (f v) (f a) m) h
 
   -- where every label is its own, a merge leaves it so
-  merge-own : ((v : ℕ) → f (f v) ≡ f v) → (v : ℕ) → merge f a b (merge f a b v) ≡ merge f a b v
+  pub merge-own : ((v : ℕ) → f (f v) ≡ f v) → (v : ℕ) → merge f a b (merge f a b v) ≡ merge f a b v
   merge-own own v = go (ℕ-discrete (f v) (f a))
     where
       go : Dec (f v ≡ f a) → merge f a b (merge f a b v) ≡ merge f a b v

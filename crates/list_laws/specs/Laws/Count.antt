@@ -45,3 +45,10 @@ pub count-ext : (s t : ℕ → Bool) (n : ℕ) → ((i : ℕ) → i < n → s i 
 unfolding count
 count-ext s t zero h = refl
 count-ext s t (suc n) h = rw (count-ext s t n (λ i l. h i (omega arith)), h n (omega arith))
+
+-- what no test beyond n passes adds nothing
+pub count-past : (test : ℕ → Bool) (n d : ℕ) → ((i : ℕ) → n ≤ i → test i ≡ false) → count test (n + d) ≡ count test n
+count-past test n zero h = let e : n + 0 ≡ n = omega arith in rw e
+count-past test n (suc d) h =
+    let e : n + suc d ≡ n + d + 1 = omega arith in
+    rw (e, count-miss test (n + d) (h (n + d) (omega arith))) (count-past test n d h)

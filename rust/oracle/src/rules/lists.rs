@@ -64,6 +64,35 @@ impl Edges {
         self.kept().iter().map(|e| e.1 - e.0).chain([1, self.floor]).max().unwrap()
     }
 
+    /// Returns the lowest vertex of each component, in rising order: one that no kept edges lead down from.
+    pub fn lowest(&self) -> Vec<usize> {
+        let mut reached = vec![false; self.n];
+        let mut lowest = Vec::new();
+        for v in 0..self.n {
+            if !reached[v] {
+                lowest.push(v);
+                self.reach(v, &mut reached);
+            }
+        }
+        lowest
+    }
+
+    /// Marks every vertex that kept edges join with `v`.
+    fn reach(&self, v: usize, reached: &mut [bool]) {
+        let mut open = vec![v];
+        reached[v] = true;
+        while let Some(u) = open.pop() {
+            for (a, b, _) in self.kept() {
+                for (from, to) in [(a, b), (b, a)] {
+                    if from == u && !reached[to] {
+                        reached[to] = true;
+                        open.push(to);
+                    }
+                }
+            }
+        }
+    }
+
     /// Returns the places of the free edges: the kept ones whose ends earlier kept ones join already.
     pub fn free(&self) -> Vec<usize> {
         let mut name: Vec<usize> = (0..self.n).collect();

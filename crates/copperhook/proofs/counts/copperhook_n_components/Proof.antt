@@ -11,7 +11,10 @@ tell-number-requires : tie.Need-tell-number-requires
 tell-number-requires c κs = search needs
 
 returns : tie.Need-returns
-returns c = told _ _ (c .before .before .n-components .ensures) (c .tell-number .ensures)
+returns c =
+    let answered = c .before .before .n-components .ensures in
+    let t = told _ _ (answered .0) (c .tell-number .ensures) in
+    (t .0, (t .1, rw (t .0) (answered .1)))
 
 pub copperhook-n-components-spec : {M : Type 1} → statement M
 copperhook-n-components-spec =
