@@ -43,7 +43,9 @@ pub fn print_checks() {
 /// Of whole strips, and with every third edge dropped, so that there are many components.
 fn print_components() {
     println!();
-    println!("Components, in microseconds from the edges on: the original's Graph::new and n_components; our n_components, with its marks;");
+    println!(
+        "Components, in microseconds from the edges on: the original's Graph::new and n_components; our n_components, with its marks;"
+    );
     println!("the original's Graph::new and cyclomatic; our cyclomatic.");
     println!();
     println!("| strip | components | original | ours | ratio | original, free edges | ours | ratio |");

@@ -63,7 +63,10 @@ fn what_is_in_the_way_is_told_before_a_long_run() {
 fn a_run_that_is_broken_off_leaves_nothing() {
     let folder = folder("broken");
     let line = format!("{LONG} --output {}", folder.join("sheet.txt").display());
-    let mut child = Command::new(env!("CARGO_BIN_EXE_sheet")).args(line.split_whitespace()).stderr(Stdio::piped()).spawn().unwrap();
+    // a test that is run in the background may have ^C ignored, and what it starts would ignore it too
+    let mut command = Command::new("env");
+    command.args(["--default-signal=INT", env!("CARGO_BIN_EXE_sheet")]).args(line.split_whitespace());
+    let mut child = command.stderr(Stdio::piped()).spawn().unwrap();
     let mut estimate = String::new();
     BufReader::new(child.stderr.take().unwrap()).read_line(&mut estimate).unwrap();
     assert!(estimate.starts_with("sheet: about ") && estimate.ends_with(" of work memory\n"), "{estimate}");

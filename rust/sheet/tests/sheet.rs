@@ -192,7 +192,10 @@ fn the_foot_tells_what_is_proved() {
         assert_eq!(foot(&format!("{square} {which} --beta -27.8,28")), none("for couplings this strong"));
     }
     let strong = "for couplings as strong as at beta -28, 30";
-    assert_eq!(foot(&format!("{square} --signs plus --beta -28,1,2,30")), format!("each correlation at beta 1, 2 {within}{}", none(strong)));
+    assert_eq!(
+        foot(&format!("{square} --signs plus --beta -28,1,2,30")),
+        format!("each correlation at beta 1, 2 {within}{}", none(strong))
+    );
     assert_eq!(
         foot(&format!("{square} --enumerate --beta -28,1,30")),
         format!("each mean square at beta 1 {}{}", of("1.5e-14"), none(&format!("{strong}, and of the standard errors")))
