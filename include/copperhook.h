@@ -154,7 +154,7 @@ size_t copperhook_exhaustive_c(size_t n, size_t floor, const size_t *a, size_t a
  * `from`. Chunk c draws the signs of its samples from the stream c of the seed (copperhook_rng_stream): a new word every 64 kept edges and
  * for each sample, lowest bit first, 0 for plus. *count is chunks times samples. The free edges are not counted.
  * Each chunk is summed from zero and the sums of the chunks are added in order: calls of one chunk each, added in order, give the same bits.
- * Refusals: 1 to 8, 10, 11, 12, 13, 14.
+ * Refusals: 1 to 8 (4 and 21 of the betas too), 10, 11, 12, 13, 14.
  */
 size_t copperhook_sample(size_t n, size_t floor, const size_t *a, size_t a_len, const size_t *b, size_t b_len, const double *m,
                          size_t m_len, const size_t *us, size_t us_len, const size_t *vs, size_t vs_len, const double *betas,
