@@ -5,7 +5,7 @@ ghost use lib.ListN.{length};
 ghost use Rattle.limits.specs.Limits.{mostEdges};
 ghost use Rattle.kept_edges.specs.Keep.{Holds, KeptEdges};
 ghost use Rattle.job_checks.specs.Checked.{CheckedKept, CheckedJob};
-use kept_edges::bad_edges;
+use graph_checks::bad_edges;
 use kept_edges::build::check_graph;
 use kept_edges::window_of;
 use limits::WINDOW;

@@ -1,4 +1,3 @@
 mod Keeping
 mod Placing
-mod Chaining
 mod Building

@@ -4,12 +4,12 @@ ghost use mathlib.Core.List.{[]};
 ghost use Rattle.limits.specs.Limits.{mostEdges};
 ghost use Rattle.kept_edges.specs.Keep.{Holds, CheckedRaw, CheckedGraph};
 use crate::keep::keep;
-use crate::refuse::bad_edges;
-use crate::refuse::bad_lists;
-use crate::refuse::bad_sizes;
-use crate::refuse::bad_vertices;
-use crate::refuse::joined_twice;
-use crate::refuse::unordered_betas;
+use graph_checks::bad_edges;
+use graph_checks::bad_lists;
+use graph_checks::bad_sizes;
+use graph_checks::bad_vertices;
+use graph_checks::joined_twice;
+use graph_checks::unordered_betas;
 
 // The refusal's number, 0 for accepted, and how many edges are kept.
 pub struct Checked {
