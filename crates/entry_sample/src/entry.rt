@@ -78,6 +78,8 @@ pub fn sample(
         return Answer::Refused(unfit);
     }
     let elementwise = is_elementwise(manner);
+    // Drawn configurations read no bit.
+    let bits = [0usize; EDGES];
     let chunks = Chunks {
         drawn: true,
         seed,
@@ -91,6 +93,7 @@ pub fn sample(
         elementwise,
         &early[..edges],
         &late[..edges],
+        &bits[..edges],
         us,
         vs,
         factors,

@@ -10,7 +10,7 @@ use native.Mathlib.Omega.{arith}
 use lib.Dec.{eqb}
 use lib.ListN.{length, getD}
 use lib.Seq.{ext-getD}
-use borrow.Author.Tests.{eq-eqb, ne-eqb, eqb-true, not-true, not-false}
+use borrow.Author.Tests.{eq-eqb, ne-eqb, eqb-true, not-false}
 use Rattle.edge_bits.specs.Having.{tree, hasBit}
 use Rattle.list_laws.specs.Count.{count}
 use Rattle.list_laws.specs.Laws.Count.{count-zero, count-hit, count-miss, count-most, count-both, count-ext}
@@ -91,13 +91,17 @@ module _ (early late : List ℕ) where
       go true t = rw (bit-tree e t, t) (ap not (eq-eqb tree tree refl))
       go false t = rw (bit-free e t, t) (ap not (ne-eqb (before e) tree (λ q. absurd (omega (arith, before-most e)))))
 
-  pub free-where : (e : ℕ) → e < tree → hasBit (bitOf early late e) ≡ true → isTree early late e ≡ false
-  free-where e h t = not-true _ (sym (has-bit e h) ∙ t)
+  pub free-where : (e : ℕ) → hasBit (bitOf early late e) ≡ true → isTree early late e ≡ false
+  free-where e t = go (isTree early late e) refl
+    where
+      go : (b : Bool) → isTree early late e ≡ b → isTree early late e ≡ false
+      go true q = absurd (true≢false (sym t ∙ ap hasBit (bit-tree e q) ∙ ap not (eq-eqb tree tree refl)))
+      go false q = q
 
   -- a bit is below the count of the free edges
-  pub bit-below : (e : ℕ) → e < length early → e < tree → hasBit (bitOf early late e) ≡ true → bitOf early late e < freeCount early late
+  pub bit-below : (e : ℕ) → e < length early → hasBit (bitOf early late e) ≡ true → bitOf early late e < freeCount early late
   unfolding freeCount
-  bit-below e h few t = let f = free-where e few t in rw (bit-free e f) (before-less e (length early) h f)
+  bit-below e h t = let f = free-where e t in rw (bit-free e f) (before-less e (length early) h f)
 
   pub bits-long : length (bitsOf early late) ≡ length early
   unfolding bitsOf
@@ -121,7 +125,7 @@ module _ {n : ℕ} {early late : List ℕ} (E : Edges n early late) (few : lengt
   having e h = ap hasBit (bits-at early late e h) ∙ has-bit early late e (omega arith)
 
   is-free : (e : ℕ) → e < length early → hasBit (at bits e) ≡ true → isTree early late e ≡ false
-  is-free e h t = not-true _ (sym (having e h) ∙ t)
+  is-free e h t = free-where early late e (sym (ap hasBit (bits-at early late e h)) ∙ t)
 
   value : (e : ℕ) → e < length early → hasBit (at bits e) ≡ true → at bits e ≡ freeBefore early late e
   value e h t = bits-at early late e h ∙ bit-free early late e (is-free e h t)
@@ -157,7 +161,7 @@ module _ {n : ℕ} {early late : List ℕ} (E : Edges n early late) (few : lengt
     tree-edge = λ e h t. tree-open early late e (not-false _ (sym (having e h) ∙ t));
     free-edge = λ e h t. free-closes early late e (is-free e h t);
     position = λ e h t. value e h t ∙ counted e h;
-    below = λ e h t. rw (bits-at early late e h, ← free-edges E) (bit-below early late e h (omega arith) (sym (ap hasBit (bits-at early late e h)) ∙ t));
+    below = λ e h t. rw (bits-at early late e h, ← free-edges E) (bit-below early late e h (sym (ap hasBit (bits-at early late e h)) ∙ t));
     some-edge = found;
     one-edge = once;
   }
