@@ -85,7 +85,7 @@ sum-chunk-requires c κs =
     let g = p .2 in (
       stage-with (p .0) refl (i .rooms) (i .results),
       p .1,
-      record { matched = i .marks ∙ g .matched; few = g .few; fits = g .fits },
+      record { matched = i .marks ∙ g .matched; bits-fit = g .bits-fit; fits = g .fits },
       omega (arith, c .before .before .before .before .before .if2 .taken),
       i .part-squareds ∙ p .3 .part-squared,
       i .part-fourthds ∙ p .3 .part-fourthed,
