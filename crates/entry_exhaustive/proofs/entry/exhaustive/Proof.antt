@@ -15,7 +15,7 @@ use Rattle.totals_call.specs.Calls.{unsoundAll, totalsOfAll}
 use Rattle.totals_call.specs.Finished.{Passed, Finished}
 use Rattle.totals_call.specs.Laws.Refusing.{listsOfAll, allParts}
 use Rattle.totals_call.specs.Laws.Calling.{refused-early, refused-lists, all-added, refused-14}
-use Rattle.totals_call.specs.Laws.Entering.{few-products, fits-both, joined, all-lists, all-passed, all-numbered, all-are, free-is, free-kept, totals-kept}
+use Rattle.totals_call.specs.Laws.Entering.{few-products, fits-both, joined, all-lists, all-passed, all-numbered, all-are, free-kept, totals-kept}
 use borrow.Author.Needs.{needs}
 use Rattle.entry_exhaustive.proofs.entry.exhaustive.Statement.{statement}
 use Rattle.entry_exhaustive.proofs.entry.exhaustive.Tie as tie
@@ -38,8 +38,8 @@ abbrev misfit : tie.Start → Bool
 misfit s = misfits (sums (given s)) (length (s .args .squares .now)) (length (s .args .fourths .now))
 
 -- the free edges of the kept edges were counted
-counted : (c : tie.After-count-free-edges) → c .count-free-edges .result ≡ free (given (c .before .before .before .before .before .before .before .before .before .before .before .before .before .before .before .before .before .before .before .before .before))
-counted c = free-kept (c .before .before .before .before .before .before .before .check-with-betas .ensures .ready (c .before .before .before .if1 .left)) _ (c .count-free-edges .ensures .1)
+counted : (c : tie.After-number-free-edges) → c .number-free-edges .result ≡ free (given (c .before .before .before .before .before .before .before .before .before .before .before .before .before .before .before .before .before .before .before .before .before))
+counted c = free-kept (c .before .before .before .before .before .before .before .check-with-betas .ensures .ready (c .before .before .before .if1 .left)) _ (c .number-free-edges .ensures .1)
 
 -- the lists were checked
 listed : (c : tie.After-check-enumeration) → c .check-enumeration .result ≡ listsOfAll (given (c .before .before .before .before .before .before .before .before .before .before .before .before .before .before .before .before .before .before .before .before .before .before)) (misfit (c .before .before .before .before .before .before .before .before .before .before .before .before .before .before .before .before .before .before .before .before .before .before)) (length (c .before .before .before .before .before .before .before .before .before .before .before .before .before .before .before .before .before .before .before .before .before .before .args .work .now)) mostCounted
@@ -51,7 +51,7 @@ listed c =
 passed : (c : tie.Else2)
     → let a = c .before .before .before .before .before .before .before .before .before .before .before .before .before .before .before .before .before .before .before .before .before .before .before .args in
     let k = c .before .before .before .before .before .before .before .before .before .check-with-betas in
-    let free = c .before .before .count-free-edges .result in
+    let free = c .before .before .number-free-edges .result in
     Passed (a .n) (k .result .window) (take (k .result .edges) (k .last .1 .1 .1 .1 .1 .1 .1 .1 .0)) (take (k .result .edges) (k .last .1 .1 .1 .1 .1 .1 .1 .1 .1 .0)) (a .us .now) (a .vs .now) (length (a .factors .now)) (length (a .betas .now)) (length (a .work .now))
     × (misfit (c .before .before .before .before .before .before .before .before .before .before .before .before .before .before .before .before .before .before .before .before .before .before .before) ≡ false) × (free ≤ 34)
 passed c =
@@ -85,17 +85,17 @@ returns c =
 array-share-prefix-early : tie.Need-array-share-prefix-early
 array-share-prefix-early c = early-fits (c .before .before .before .before .check-with-betas .ensures .ready (c .if1 .left) .written)
 
-slice-aggregate-count-free-edges : tie.Need-slice-aggregate-count-free-edges
-slice-aggregate-count-free-edges c = early-part (c .before .before .before .before .before .check-with-betas .ensures .ready (c .before .if1 .left) .written)
+slice-aggregate-number-free-edges : tie.Need-slice-aggregate-number-free-edges
+slice-aggregate-number-free-edges c = early-part (c .before .before .before .before .before .check-with-betas .ensures .ready (c .before .if1 .left) .written)
 
 array-share-prefix-late : tie.Need-array-share-prefix-late
 array-share-prefix-late c = late-fits (c .before .before .before .before .before .check-with-betas .ensures .ready (c .before .if1 .left) .written)
 
-slice-aggregate-count-free-edges-2 : tie.Need-slice-aggregate-count-free-edges-2
-slice-aggregate-count-free-edges-2 c = late-part (c .before .before .before .before .before .before .check-with-betas .ensures .ready (c .before .before .if1 .left) .written)
+slice-aggregate-number-free-edges-2 : tie.Need-slice-aggregate-number-free-edges-2
+slice-aggregate-number-free-edges-2 c = late-part (c .before .before .before .before .before .before .check-with-betas .ensures .ready (c .before .before .if1 .left) .written)
 
-count-free-edges-requires : tie.Need-count-free-edges-requires
-count-free-edges-requires c κs = let g = c .before .before .before .before .before .before .check-with-betas .ensures .ready (c .before .before .if1 .left) in (joined g, g .edges .few)
+number-free-edges-requires : tie.Need-number-free-edges-requires
+number-free-edges-requires c κs = let g = c .before .before .before .before .before .before .check-with-betas .ensures .ready (c .before .before .if1 .left) in (joined g, g .edges .few)
 
 mul-check-enumeration : tie.Need-mul-check-enumeration
 mul-check-enumeration c =
@@ -132,7 +132,7 @@ total-job-requires : tie.Need-total-job-requires
 total-job-requires c κs =
     let p = passed (c .before .before .before .before .before .before .before) in
     let q = fitting (c .before .before .before .before .before .before .before) in
-    let f = c .before .before .before .before .before .before .before .before .before .count-free-edges in
+    let f = c .before .before .before .before .before .before .before .before .before .number-free-edges in
     (p .0, all-numbered _ (f .result) _ (c .before .before .before .before .before .all-chunks .ensures) (p .2) (free-is (c .before .before .before .before .before .before .before .before .before .before .before .before .before .before .before .before .check-with-betas .ensures .ready (c .before .before .before .before .before .before .before .before .before .before .before .before .if1 .left)) _ (f .ensures .1)), q .0, q .1)
 
 pow2-requires : tie.Need-pow2-requires
@@ -172,7 +172,7 @@ exhaustive-spec =
     tie.close
     (tie.spec
     (λ c. search needs) (λ c. search needs) (λ c. search needs) (λ c κs. search needs) returns array-share-prefix-early
-    slice-aggregate-count-free-edges array-share-prefix-late slice-aggregate-count-free-edges-2 count-free-edges-requires
+    slice-aggregate-number-free-edges array-share-prefix-late slice-aggregate-number-free-edges-2 number-free-edges-requires
     mul-check-enumeration check-enumeration-requires returns-2 (λ c κs. search needs) all-chunks-requires array-share-prefix-early-2
     slice-aggregate-total-job array-share-prefix-late-2 slice-aggregate-total-job-2 total-job-requires pow2-requires same-length
     same-length-2 same-length-3 returns-3 same-length-4 same-length-5 same-length-6 returns-4)

@@ -13,7 +13,7 @@ use Rattle.totals_call.specs.Calls.{unsoundAll, correlationsOfAll, misfitStored
 use Rattle.totals_call.specs.Finished.{Passed, Finished}
 use Rattle.totals_call.specs.Laws.Refusing.{listsOfAll, allParts}
 use Rattle.totals_call.specs.Laws.Calling.{refused-early, refused-lists, all-added, refused-14, once}
-use Rattle.totals_call.specs.Laws.Entering.{few-products, fits-both, joined, stored-lists, all-passed, free-is, free-kept, stored-kept}
+use Rattle.totals_call.specs.Laws.Entering.{few-products, fits-both, joined, stored-lists, all-passed, free-kept, stored-kept}
 use borrow.Author.Needs.{needs}
 use Rattle.entry_exhaustive_c.proofs.entry.exhaustive_c.Statement.{statement}
 use Rattle.entry_exhaustive_c.proofs.entry.exhaustive_c.Tie as tie
@@ -33,8 +33,8 @@ given s = let a = s .args in record {
 }
 
 -- the free edges of the kept edges were counted
-counted : (c : tie.After-count-free-edges) → c .count-free-edges .result ≡ free (given (c .before .before .before .before .before .before .before .before .before .before .before .before .before .before .before .before .before .before .before .before))
-counted c = free-kept (c .before .before .before .before .before .before .before .check-with-betas .ensures .ready (c .before .before .before .if1 .left)) _ (c .count-free-edges .ensures .1)
+counted : (c : tie.After-number-free-edges) → c .number-free-edges .result ≡ free (given (c .before .before .before .before .before .before .before .before .before .before .before .before .before .before .before .before .before .before .before .before))
+counted c = free-kept (c .before .before .before .before .before .before .before .check-with-betas .ensures .ready (c .before .before .before .if1 .left)) _ (c .number-free-edges .ensures .1)
 
 -- the lists were checked
 listed : (c : tie.After-check-enumeration)
@@ -53,7 +53,7 @@ passed : (c : tie.Else2)
     let k = c .before .before .before .before .before .before .before .before .before .before .check-with-betas in
     let wanted = c .before .before .stored-count .result in
     Passed (a .n) (k .result .window) (take (k .result .edges) (k .last .1 .1 .1 .1 .1 .1 .1 .1 .0)) (take (k .result .edges) (k .last .1 .1 .1 .1 .1 .1 .1 .1 .1 .0)) (a .us .now) (a .vs .now) (length (a .factors .now)) (length (a .betas .now)) (length (a .work .now))
-    × (misfits wanted (length (a .stored .now)) (length (a .stored .now)) ≡ false) × (c .before .before .before .count-free-edges .result ≤ 24)
+    × (misfits wanted (length (a .stored .now)) (length (a .stored .now)) ≡ false) × (c .before .before .before .number-free-edges .result ≤ 24)
 passed c =
     let a = c .before .before .before .before .before .before .before .before .before .before .before .before .before .before .before .before .before .before .before .before .before .before .before .args in
     let k = c .before .before .before .before .before .before .before .before .before .before .check-with-betas .ensures in
@@ -61,7 +61,7 @@ passed c =
     let wanted = c .before .before .stored-count .result in
     all-passed (k .ready v) (length (a .betas .now)) (a .factors .now) _ mostStored (misfits wanted (length (a .stored .now)) (length (a .stored .now))) (length (a .work .now)) _ (k .betas-pass v .few) (c .before .check-enumeration .ensures) (c .if2 .left)
 
-fitting : (c : tie.Else2) → length (c .before .before .before .before .before .before .before .before .before .before .before .before .before .before .before .before .before .before .before .before .before .before .before .args .stored .now) ≡ sums (given (c .before .before .before .before .before .before .before .before .before .before .before .before .before .before .before .before .before .before .before .before .before .before .before)) * 2 ^ c .before .before .before .count-free-edges .result
+fitting : (c : tie.Else2) → length (c .before .before .before .before .before .before .before .before .before .before .before .before .before .before .before .before .before .before .before .before .before .before .before .args .stored .now) ≡ sums (given (c .before .before .before .before .before .before .before .before .before .before .before .before .before .before .before .before .before .before .before .before .before .before .before)) * 2 ^ c .before .before .before .number-free-edges .result
 fitting c =
     let n = length (c .before .before .before .before .before .before .before .before .before .before .before .before .before .before .before .before .before .before .before .before .before .before .before .args .stored .now) in
     let w = c .before .before .stored-count in
@@ -71,7 +71,7 @@ fitting c =
 found : (c : tie.After-store-job)
     → let s = c .before .before .before .before .before .before .before .before .before .before .before .before .before .before .before .before .before .before .before .before .before .before .before .before .before .before .before .before .before in
     let t = c .store-job in
-    Finished (unsoundAll (given s)) (correlationsOfAll (given s)) (correlationsOfAll (given s)) (sums (given s) * 2 ^ c .before .before .before .before .before .before .before .before .before .count-free-edges .result) (end (given s)) (t .result) (t .last .1 .1 .1 .1 .1 .1 .1 .1 .1 .1 .0) (t .last .1 .1 .1 .1 .1 .1 .1 .1 .1 .1 .0) (s .args .work .now) (t .last .1 .1 .1 .1 .1 .1 .1 .1 .1 .1 .1 .0)
+    Finished (unsoundAll (given s)) (correlationsOfAll (given s)) (correlationsOfAll (given s)) (sums (given s) * 2 ^ c .before .before .before .before .before .before .before .before .before .number-free-edges .result) (end (given s)) (t .result) (t .last .1 .1 .1 .1 .1 .1 .1 .1 .1 .1 .0) (t .last .1 .1 .1 .1 .1 .1 .1 .1 .1 .1 .0) (s .args .work .now) (t .last .1 .1 .1 .1 .1 .1 .1 .1 .1 .1 .1 .0)
 found c =
     let a = c .before .before .before .before .before .before .before .before .before .before .before .before .before .before .before .before .before .before .before .before .before .before .before .before .before .before .before .before .before .args in
     stored-kept (c .before .before .before .before .before .before .before .before .before .before .before .before .before .before .before .before .check-with-betas .ensures .ready (c .before .before .before .before .before .before .before .before .before .before .before .before .if1 .left)) (length (a .betas .now)) (a .factors .now) (c .before .before .before .before .before .is-elementwise .ensures) (c .store-job .ensures)
@@ -85,17 +85,17 @@ returns c =
 array-share-prefix-early : tie.Need-array-share-prefix-early
 array-share-prefix-early c = early-fits (c .before .before .before .before .check-with-betas .ensures .ready (c .if1 .left) .written)
 
-slice-aggregate-count-free-edges : tie.Need-slice-aggregate-count-free-edges
-slice-aggregate-count-free-edges c = early-part (c .before .before .before .before .before .check-with-betas .ensures .ready (c .before .if1 .left) .written)
+slice-aggregate-number-free-edges : tie.Need-slice-aggregate-number-free-edges
+slice-aggregate-number-free-edges c = early-part (c .before .before .before .before .before .check-with-betas .ensures .ready (c .before .if1 .left) .written)
 
 array-share-prefix-late : tie.Need-array-share-prefix-late
 array-share-prefix-late c = late-fits (c .before .before .before .before .before .check-with-betas .ensures .ready (c .before .if1 .left) .written)
 
-slice-aggregate-count-free-edges-2 : tie.Need-slice-aggregate-count-free-edges-2
-slice-aggregate-count-free-edges-2 c = late-part (c .before .before .before .before .before .before .check-with-betas .ensures .ready (c .before .before .if1 .left) .written)
+slice-aggregate-number-free-edges-2 : tie.Need-slice-aggregate-number-free-edges-2
+slice-aggregate-number-free-edges-2 c = late-part (c .before .before .before .before .before .before .check-with-betas .ensures .ready (c .before .before .if1 .left) .written)
 
-count-free-edges-requires : tie.Need-count-free-edges-requires
-count-free-edges-requires c κs = let g = c .before .before .before .before .before .before .check-with-betas .ensures .ready (c .before .before .if1 .left) in (joined g, g .edges .few)
+number-free-edges-requires : tie.Need-number-free-edges-requires
+number-free-edges-requires c κs = let g = c .before .before .before .before .before .before .check-with-betas .ensures .ready (c .before .before .if1 .left) in (joined g, g .edges .few)
 
 mul-stored-count : tie.Need-mul-stored-count
 mul-stored-count c =
@@ -134,7 +134,7 @@ store-job-requires : tie.Need-store-job-requires
 store-job-requires c κs =
     let p = passed (c .before .before .before .before .before) in
     let g = c .before .before .before .before .before .before .before .before .before .before .before .before .before .before .before .check-with-betas .ensures .ready (c .before .before .before .before .before .before .before .before .before .before .before .if1 .left) in
-    (p .0, free-is g _ (c .before .before .before .before .before .before .before .before .count-free-edges .ensures .1), omega (arith, p .2), fitting (c .before .before .before .before .before))
+    (p .0, free-is g _ (c .before .before .before .before .before .before .before .before .number-free-edges .ensures .1), omega (arith, p .2), fitting (c .before .before .before .before .before))
 
 pow2-requires : tie.Need-pow2-requires
 pow2-requires c κs = omega (arith, passed (c .before .before .before .before .before .before .before .before .before .before .before) .2)
@@ -167,7 +167,7 @@ exhaustive-c-spec =
     tie.close
     (tie.spec
     (λ c. search needs) (λ c. search needs) (λ c. search needs) (λ c κs. search needs) returns array-share-prefix-early
-    slice-aggregate-count-free-edges array-share-prefix-late slice-aggregate-count-free-edges-2 count-free-edges-requires mul-stored-count
+    slice-aggregate-number-free-edges array-share-prefix-late slice-aggregate-number-free-edges-2 number-free-edges-requires mul-stored-count
     stored-count-requires check-enumeration-requires returns-2 (λ c κs. search needs) array-share-prefix-early-2 slice-aggregate-store-job
     array-share-prefix-late-2 slice-aggregate-store-job-2 store-job-requires pow2-requires same-length same-length-2 returns-3
     same-length-3 same-length-4 returns-4)
