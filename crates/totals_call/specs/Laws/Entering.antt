@@ -1,14 +1,15 @@
 -- A call that its checks pass, from the fronts of the lists that its kept edges stand in.
 use mathlib.Core.Path.{_≡_, sym, ap, _∙_, subst}
 use mathlib.Core.Bool.{Bool, true, false, not}
-use mathlib.Core.List.{List}
+use mathlib.Core.List.{List, _++_}
 use Prim.Native.Nat.{ℕ, _-_, _*_, _≤_, _<_}
 use native.Mathlib.Nat.{mul-le-mul-right}
 use native.Mathlib.Decide.{decLt}
 use native.Mathlib.Omega.{arith}
 use lib.Dec.{eqb, ltb}
 use lib.Ieee.{Float}
-use lib.ListN.{length, take}
+use lib.ListN.{length, take, length-append}
+use lib.Seq.{take-append-seam}
 use borrow.Author.Tests.{lt-ltb, ltb-false, eqb-true, not-false}
 use Rattle.list_laws.specs.Laws.Search.{or-false}
 use Rattle.forest.specs.FreeEdges.{freeCount, bitsOf}
@@ -47,6 +48,13 @@ joins g = record {
   early-below = λ e l. omega (arith, g .ordered e l, g .inside e l);
   late-below = λ e l. g .inside e l;
 }
+
+-- a list that was filled in the front of a longer one
+pub front-fits : {k : ℕ} (xs ys : List ℕ) → length xs ≡ k → k ≤ length (xs ++ ys)
+front-fits xs ys e = omega (arith, length-append xs ys)
+
+pub front-is : {k : ℕ} (xs ys : List ℕ) → length xs ≡ k → take k (xs ++ ys) ≡ xs
+front-is xs ys e = rw (← e) (take-append-seam xs ys)
 
 -- both buffers are of the length that is wanted
 pub fits-both : (wanted squares fourths : ℕ) → misfits wanted squares fourths ≡ false → (squares ≡ wanted) × (fourths ≡ wanted)
