@@ -78,8 +78,6 @@ pub fn sample(
         return Answer::Refused(unfit);
     }
     let elementwise = is_elementwise(manner);
-    // Drawn configurations read no bit.
-    let bits = [0usize; EDGES];
     let chunks = Chunks {
         drawn: true,
         seed,
@@ -87,13 +85,15 @@ pub fn sample(
         end: to,
         size: samples,
     };
+    // Drawn configurations read no bit: any list with an entry for each edge stands for them.
+    let ends = &early[..edges];
     if total_job(
         n,
         w,
         elementwise,
-        &early[..edges],
+        ends,
         &late[..edges],
-        &bits[..edges],
+        ends,
         us,
         vs,
         factors,

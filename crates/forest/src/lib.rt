@@ -60,7 +60,7 @@ pub fn number_free_edges(n: usize, early: &[usize], late: &[usize], bits: &mut [
     let mut free: usize = 0;
     let mut e: usize = 0;
     while e < early.len() {
-        let joins = union(p, early[e], late[e]);
+        let joins = union_lower(p, early[e], late[e]);
         bits[e] = bit_or_none(joins, free);
         free = with_edge(joins, free);
         e += 1;

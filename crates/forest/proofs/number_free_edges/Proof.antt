@@ -1,4 +1,4 @@
--- The roots stay the labels, edge by edge, so what `union` returns is the tree edge's test, and the free edges so far are counted.
+-- The roots stay the lowest labels, edge by edge, so what `union_lower` returns is the tree edge's test, and the free edges so far are counted.
 use mathlib.Core.Path.{_≡_, sym, ap, _∙_}
 use mathlib.Core.Bool.{Bool, cond, not}
 use Prim.Native.Nat.{ℕ, _+_, _-_, _≤_}
@@ -7,11 +7,11 @@ use borrow.Author.Needs.{needs}
 use lib.Seq.{length-take-le}
 use lib.ListN.{length}
 use Rattle.edge_bits.specs.Having.{tree}
-use Rattle.forest.specs.Labels.{labels, isTree}
+use Rattle.forest.specs.Lowest.{lowest}
 use Rattle.forest.specs.FreeEdges.{freeBefore, freeCount, bitOf, bitsOf}
 use Rattle.forest.specs.Laws.FreeEdges.{before-none, before-more, before-most}
 use Rattle.forest.specs.Forest.{Labelled}
-use Rattle.forest.proofs.Growth.{labels-none, union-takes, union-tree, union-labels}
+use Rattle.forest.proofs.Growth.{lowest-begun, union-takes, lower-tree, lower-labels}
 use Rattle.forest.proofs.Filled.{Filled, filled-none, filled-more, filled-all}
 use Rattle.forest.proofs.Numbers.{next-bit, next-count, all-bits, all-counted}
 use Rattle.forest.proofs.number_free_edges.Statement.{statement}
@@ -19,7 +19,7 @@ use Rattle.forest.proofs.number_free_edges.Tie as tie
 
 abbrev Inv-loop : tie.InvT-loop
 Inv-loop n early late bits₀ p₀ free₀ e₀ bits p free e =
-    Labelled n (labels early late e) p × Filled 0 (bitOf early late) (length early) e bits × (free ≡ freeBefore early late e) × (e ≤ length early)
+    Labelled n (lowest early late e) p × Filled 0 (bitOf early late) (length early) e bits × (free ≡ freeBefore early late e) × (e ≤ length early)
 
 abbrev μ-loop : tie.MeasureT-loop
 μ-loop n early late bits₀ p₀ free₀ e₀ bits p free e = length early - e
@@ -31,10 +31,10 @@ loop-holds : tie.Need-loop-holds Inv-loop μ-loop
 loop-holds c =
     let begun = c .before .before .start in
     let s = c .before .before .before .before .before .before .before .before in
-    (labels-none _ _ (begun .kept .0 ∙ length-take-le _ _ (omega arith)) (begun .ensures), filled-none _ (s .pre .2), sym (before-none _ _), omega arith)
+    (lowest-begun _ _ (begun .kept .0 ∙ length-take-le _ _ (omega arith)) (begun .ensures), filled-none _ (s .pre .2), sym (before-none _ _), omega arith)
 
-union-requires : tie.Need-union-requires Inv-loop μ-loop
-union-requires c κs =
+union-lower-requires : tie.Need-union-lower-requires Inv-loop μ-loop
+union-lower-requires c κs =
     let l = c .before .before .before .before in
     let s = l .before .before .before .before .before .before .before .before .before in
     union-takes (l .loop .inv .0) (s .pre .0) _ (omega arith)
@@ -50,9 +50,9 @@ loop-again c =
     let l = c .before .before .before .before .before .before .before .before .before in
     let s = l .before .before .before .before .before .before .before .before .before in
     let L = l .loop .inv .0 in
-    let M = c .before .before .before .before .union .ensures in
-    let t = union-tree (s .pre .0) _ (omega arith) L M in (
-      union-labels (s .pre .0) _ (omega arith) L M,
+    let M = c .before .before .before .before .union-lower .ensures in
+    let t = lower-tree (s .pre .0) _ (omega arith) L M in (
+      lower-labels (s .pre .0) _ (omega arith) L M,
       filled-more (l .loop .inv .1) (omega arith) (next-bit _ _ _ (l .loop .inv .2) t (c .before .bit-or-none .ensures)),
       next-count _ _ _ (l .loop .inv .2) t (c .with-edge .ensures),
       omega arith,
@@ -68,5 +68,5 @@ number-free-edges-spec =
     tie.close
     (tie.spec
     Inv-loop μ-loop (λ c. omega arith) slice-aggregate-p (λ c κs. search needs) loop-holds (λ c. omega arith) (λ c. omega arith)
-    (λ c. omega arith) (λ c. omega arith) union-requires (λ c κs. search needs) (λ c. omega arith) (λ c. omega arith) with-edge-requires
+    (λ c. omega arith) (λ c. omega arith) union-lower-requires (λ c κs. search needs) (λ c. omega arith) (λ c. omega arith) with-edge-requires
     (λ c. omega arith) (λ c. omega arith) loop-again (λ c. omega arith) returns)

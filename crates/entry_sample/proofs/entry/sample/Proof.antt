@@ -1,10 +1,9 @@
 -- The checks, then the chunks of drawn configurations.
-use mathlib.Core.Path.{_≡_, sym, _∙_}
+use mathlib.Core.Path.{_≡_, refl}
 use mathlib.Core.Bool.{Bool, false}
 use Prim.Native.Nat.{_-_, _*_, _≤_}
 use native.Mathlib.Omega.{arith}
 use lib.ListN.{length, take}
-use lib.Seq.{length-take-le}
 use Rattle.transfer_matrix.specs.Rounded.{ieee}
 use Rattle.transfer_matrix.specs.Totals.{square, fourth}
 use Rattle.refusals.specs.AcceptedTotals.{misfits}
@@ -68,13 +67,13 @@ fitting c = fits-both (sums (given (c .before .before .before .before .before .b
 
 -- what was found of the drawn configurations
 found : (c : tie.After-total-job)
-    → let s = c .before .before .before .before .before .before .before .before .before .before .before .before .before .before .before .before .before .before .before .before .before .before .before .before .before .before .before .before in
+    → let s = c .before .before .before .before .before .before .before .before .before .before .before .before .before .before .before .before .before .before .before .before .before .before .before .before .before .before .before in
     let a = s .args in
     let t = c .total-job in
     Finished (unsoundDrawn (given s) (a .seed) (a .from) (a .to) (a .samples)) (totalsOfDrawn (given s) (a .seed) (a .from) (a .to) (a .samples) (square ieee)) (totalsOfDrawn (given s) (a .seed) (a .from) (a .to) (a .samples) (fourth ieee)) (sums (given s)) (end (given s)) (t .result) (t .last .1 .1 .1 .1 .1 .1 .1 .1 .1 .1 .1 .0) (t .last .1 .1 .1 .1 .1 .1 .1 .1 .1 .1 .1 .1 .0) (a .work .now) (t .last .1 .1 .1 .1 .1 .1 .1 .1 .1 .1 .1 .1 .1 .0)
 found c =
-    let a = c .before .before .before .before .before .before .before .before .before .before .before .before .before .before .before .before .before .before .before .before .before .before .before .before .before .before .before .before .args in
-    totals-kept (c .before .before .before .before .before .before .before .before .before .before .before .before .before .before .check-with-betas .ensures .ready (c .before .before .before .before .before .before .before .before .before .before .if1 .left)) (length (a .betas .now)) (a .factors .now) (c .before .before .before .before .before .before .before .is-elementwise .ensures) (drawnChunks (a .seed) (a .from) (a .to) (a .samples)) (c .total-job .ensures)
+    let a = c .before .before .before .before .before .before .before .before .before .before .before .before .before .before .before .before .before .before .before .before .before .before .before .before .before .before .before .args in
+    totals-kept (c .before .before .before .before .before .before .before .before .before .before .before .before .before .check-with-betas .ensures .ready (c .before .before .before .before .before .before .before .before .before .if1 .left)) (length (a .betas .now)) (a .factors .now) (c .before .before .before .before .before .before .is-elementwise .ensures) (drawnChunks (a .seed) (a .from) (a .to) (a .samples)) (c .total-job .ensures)
 
 returns : tie.Need-returns
 returns c =
@@ -110,21 +109,14 @@ array-share-prefix-late c = late-fits (c .before .before .before .before .before
 slice-aggregate-total-job-2 : tie.Need-slice-aggregate-total-job-2
 slice-aggregate-total-job-2 c = late-part (c .before .before .before .before .before .before .before .before .before .check-with-betas .ensures .ready (c .before .before .before .before .before .if1 .left) .written)
 
-array-share-prefix-bits : tie.Need-array-share-prefix-bits
-array-share-prefix-bits c = c .before .before .before .before .before .before .before .before .before .check-with-betas .ensures .ready (c .before .before .before .before .before .if1 .left) .few-edges
-
-slice-aggregate-total-job-3 : tie.Need-slice-aggregate-total-job-3
-slice-aggregate-total-job-3 c = sym (length-take-le _ _ (c .before .before .before .before .before .before .before .before .before .before .check-with-betas .ensures .ready (c .before .before .before .before .before .before .if1 .left) .few-edges))
-
 total-job-requires : tie.Need-total-job-requires
 total-job-requires c κs =
-    let a = c .before .before .before .before .before .before .before .before .before .before .before .before .before .before .before .before .before .before .before .before .before .before .before .before .before .before .before .args in
-    let q = fitting (c .before .before .before .before .before .before .before) in
-    let g = c .before .before .before .before .before .before .before .before .before .before .before .before .before .check-with-betas .ensures .ready (c .before .before .before .before .before .before .before .before .before .if1 .left) in
-    (passed (c .before .before .before .before .before .before .before) .0, drawn-numbered (a .seed) (a .from) (a .to) (a .samples) _ _ _ (length-take-le _ _ (g .few-edges) ∙ early-part (g .written)), q .0, q .1)
+    let a = c .before .before .before .before .before .before .before .before .before .before .before .before .before .before .before .before .before .before .before .before .before .before .before .before .before .before .args in
+    let q = fitting (c .before .before .before .before .before .before) in
+    (passed (c .before .before .before .before .before .before) .0, drawn-numbered (a .seed) (a .from) (a .to) (a .samples) _ _ _ refl, q .0, q .1)
 
 sampled-count-requires : tie.Need-sampled-count-requires
-sampled-count-requires c κs = passed (c .before .before .before .before .before .before .before .before .before .before .before .before .before .before .before) .2
+sampled-count-requires c κs = passed (c .before .before .before .before .before .before .before .before .before .before .before .before .before .before) .2
 
 same-length : tie.Need-same-length
 same-length c = c .before .before .before .before .before .before .before .before .total-job .kept .1 .1 .1 .1 .1 .1 .1 .1 .1 .1 .1 .0
@@ -137,8 +129,8 @@ same-length-3 c = c .before .before .before .before .before .before .before .bef
 
 returns-3 : tie.Need-returns-3
 returns-3 c =
-    let s = c .before .before .before .before .before .before .before .before .before .before .before .before .before .before .before .before .before .before .before .before .before .before .before .before .before .before .before .before .before .before .before .before .before .before .before .before in
-    record { call = all-added (parts s) (c .before .before .before .before .before .before .before .before .before .before .before .before .before .before .before .before .before .before .before .before .before .before .check-with-betas .ensures .refusal) (c .before .before .before .before .before .before .before .before .before .before .before .before .before .before .before .before .before .before .if1 .left) (listed (c .before .before .before .before .before .before .before .before .before .before .before .before .before .before .before .before .before)) (c .before .before .before .before .before .before .before .before .before .before .before .before .before .before .before .before .if2 .left) (found (c .before .before .before .before .before .before .before .before)) (c .before .if3 .taken) (c .sampled-count .result) (c .sampled-count .ensures) }
+    let s = c .before .before .before .before .before .before .before .before .before .before .before .before .before .before .before .before .before .before .before .before .before .before .before .before .before .before .before .before .before .before .before .before .before .before .before in
+    record { call = all-added (parts s) (c .before .before .before .before .before .before .before .before .before .before .before .before .before .before .before .before .before .before .before .before .before .check-with-betas .ensures .refusal) (c .before .before .before .before .before .before .before .before .before .before .before .before .before .before .before .before .before .if1 .left) (listed (c .before .before .before .before .before .before .before .before .before .before .before .before .before .before .before .before)) (c .before .before .before .before .before .before .before .before .before .before .before .before .before .before .before .if2 .left) (found (c .before .before .before .before .before .before .before .before)) (c .before .if3 .taken) (c .sampled-count .result) (c .sampled-count .ensures) }
 
 same-length-4 : tie.Need-same-length-4
 same-length-4 c = c .before .before .before .before .before .before .before .total-job .kept .1 .1 .1 .1 .1 .1 .1 .1 .1 .1 .1 .0
@@ -151,9 +143,9 @@ same-length-6 c = c .before .before .before .before .before .before .before .tot
 
 returns-4 : tie.Need-returns-4
 returns-4 c =
-    let s = c .before .before .before .before .before .before .before .before .before .before .before .before .before .before .before .before .before .before .before .before .before .before .before .before .before .before .before .before .before .before .before .before .before .before .before in
-    let q = fitting (c .before .before .before .before .before .before .before .before .before .before .before .before .before .before .before) in
-    record { call = refused-14 (parts s) (c .before .before .before .before .before .before .before .before .before .before .before .before .before .before .before .before .before .before .before .before .before .check-with-betas .ensures .refusal) (c .before .before .before .before .before .before .before .before .before .before .before .before .before .before .before .before .before .if1 .left) (listed (c .before .before .before .before .before .before .before .before .before .before .before .before .before .before .before .before)) (c .before .before .before .before .before .before .before .before .before .before .before .before .before .before .before .if2 .left) (found (c .before .before .before .before .before .before .before)) (c .if3 .left) (q .0) (q .1) }
+    let s = c .before .before .before .before .before .before .before .before .before .before .before .before .before .before .before .before .before .before .before .before .before .before .before .before .before .before .before .before .before .before .before .before .before .before in
+    let q = fitting (c .before .before .before .before .before .before .before .before .before .before .before .before .before .before) in
+    record { call = refused-14 (parts s) (c .before .before .before .before .before .before .before .before .before .before .before .before .before .before .before .before .before .before .before .before .check-with-betas .ensures .refusal) (c .before .before .before .before .before .before .before .before .before .before .before .before .before .before .before .before .if1 .left) (listed (c .before .before .before .before .before .before .before .before .before .before .before .before .before .before .before)) (c .before .before .before .before .before .before .before .before .before .before .before .before .before .before .if2 .left) (found (c .before .before .before .before .before .before .before)) (c .if3 .left) (q .0) (q .1) }
 
 pub sample-spec : {M : Type 1} → statement M
 sample-spec =
@@ -161,5 +153,5 @@ sample-spec =
     (tie.spec
     (λ c. search needs) (λ c. search needs) (λ c. search needs) (λ c κs. search needs) returns mul-check-sampling check-sampling-requires
     returns-2 (λ c κs. search needs) array-share-prefix-early slice-aggregate-total-job array-share-prefix-late
-    slice-aggregate-total-job-2 array-share-prefix-bits slice-aggregate-total-job-3 total-job-requires sampled-count-requires same-length same-length-2 same-length-3 returns-3 same-length-4
+    slice-aggregate-total-job-2 total-job-requires sampled-count-requires same-length same-length-2 same-length-3 returns-3 same-length-4
     same-length-5 same-length-6 returns-4)
