@@ -100,14 +100,14 @@ returns-2 c =
 array-share-prefix-early : tie.Need-array-share-prefix-early
 array-share-prefix-early c = early-fits (c .before .before .before .before .before .before .before .check-with-betas .ensures .ready (c .before .before .before .if1 .left) .written)
 
-slice-aggregate-total-job : tie.Need-slice-aggregate-total-job
-slice-aggregate-total-job c = early-part (c .before .before .before .before .before .before .before .before .check-with-betas .ensures .ready (c .before .before .before .before .if1 .left) .written)
+slice-aggregate-ends : tie.Need-slice-aggregate-ends
+slice-aggregate-ends c = early-part (c .before .before .before .before .before .before .before .before .check-with-betas .ensures .ready (c .before .before .before .before .if1 .left) .written)
 
 array-share-prefix-late : tie.Need-array-share-prefix-late
 array-share-prefix-late c = late-fits (c .before .before .before .before .before .before .before .before .check-with-betas .ensures .ready (c .before .before .before .before .if1 .left) .written)
 
-slice-aggregate-total-job-2 : tie.Need-slice-aggregate-total-job-2
-slice-aggregate-total-job-2 c = late-part (c .before .before .before .before .before .before .before .before .before .check-with-betas .ensures .ready (c .before .before .before .before .before .if1 .left) .written)
+slice-aggregate-total-job : tie.Need-slice-aggregate-total-job
+slice-aggregate-total-job c = late-part (c .before .before .before .before .before .before .before .before .before .check-with-betas .ensures .ready (c .before .before .before .before .before .if1 .left) .written)
 
 total-job-requires : tie.Need-total-job-requires
 total-job-requires c κs =
@@ -152,6 +152,6 @@ sample-spec =
     tie.close
     (tie.spec
     (λ c. search needs) (λ c. search needs) (λ c. search needs) (λ c κs. search needs) returns mul-check-sampling check-sampling-requires
-    returns-2 (λ c κs. search needs) array-share-prefix-early slice-aggregate-total-job array-share-prefix-late
-    slice-aggregate-total-job-2 total-job-requires sampled-count-requires same-length same-length-2 same-length-3 returns-3 same-length-4
+    returns-2 (λ c κs. search needs) array-share-prefix-early slice-aggregate-ends array-share-prefix-late
+    slice-aggregate-total-job total-job-requires sampled-count-requires same-length same-length-2 same-length-3 returns-3 same-length-4
     same-length-5 same-length-6 returns-4)
