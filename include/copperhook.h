@@ -127,8 +127,8 @@ size_t copperhook_couplings(size_t n, const size_t *a, size_t a_len, const size_
 
 /*
  * For each beta and pair, the sum over all configurations of the correlation's square, in `squares`, and of its fourth power, in
- * `fourths`; how many configurations there are, 2 to the number of free edges, in *count. Bit i of a configuration's number gives the sign
- * of the i-th free edge, 0 for plus; tree edges are plus (copperhook_spanning_forest tells them).
+ * `fourths`; how many configurations there are, 2 to the number of free edges, in *count. A configuration gives an edge minus where the edge
+ * has a bit (copperhook_spanning_forest tells it) and that bit of the configuration's number is set.
  * `factors` has two doubles for each beta and kept edge: with k kept edges, those of beta i and edge e are at 2 * (i * k + e) for plus and
  * next to it for minus, exp of the coupling and of its negative. Both result lists have exactly betas_len * us_len doubles, that of beta i
  * and pair p at i * us_len + p. `work` is as copperhook_correlations takes it, with the room that copperhook_room answers.
@@ -242,13 +242,17 @@ size_t copperhook_n_components(size_t n, const size_t *a, size_t a_len, const si
 size_t copperhook_cyclomatic(size_t n, const size_t *a, size_t a_len, const size_t *b, size_t b_len, const double *m, size_t m_len,
                              size_t *free_edges);
 
+/* In the place of a bit: a tree edge, which has none. */
+#define COPPERHOOK_TREE SIZE_MAX
+
 /*
- * For each kept edge, in `tree`, whether it is a tree edge: no path of earlier kept edges joins its ends. `tree` is as long as there are
- * kept edges.
+ * For each kept edge, in `bits`, its bit of an enumerated configuration's number, or COPPERHOOK_TREE where it is a tree edge: no path of
+ * earlier kept edges joins its ends. The others, the free edges, have the bits 0, 1, 2, .. in edge order, as many as copperhook_cyclomatic
+ * counts, however many these are. `bits` is as long as there are kept edges.
  * Refusals: 1 to 5, 12.
  */
 size_t copperhook_spanning_forest(size_t n, const size_t *a, size_t a_len, const size_t *b, size_t b_len, const double *m,
-                                  size_t m_len, bool *tree, size_t tree_len);
+                                  size_t m_len, size_t *bits, size_t bits_len);
 
 /*
  * For each vertex, in `names`, the vertex that names its component. `names` has n elements.

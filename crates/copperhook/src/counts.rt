@@ -6,7 +6,8 @@ ghost use Rattle.refusals.specs.Edges.{windowFrom, keptEarly, keptLate};
 ghost use Rattle.refusals.specs.Request.{graphRequest};
 ghost use Rattle.refusals.specs.Refusal.{refusal, ofGraph};
 ghost use Rattle.refusals.specs.Answers.{left};
-ghost use Rattle.graph.specs.Graphs.{freeCount, ComponentMarks};
+ghost use Rattle.forest.specs.FreeEdges.{freeCount};
+ghost use Rattle.graph.specs.Graphs.{ComponentMarks};
 use c_values::tell_number;
 
 // As `lattice::window`, the window in `window`; where the call is refused, that keeps what it held.

@@ -1,27 +1,27 @@
-// The tree edges of a graph, and the names of its components.
+// The bits of a graph's free edges, and the names of its components.
 ghost use mathlib.Core.Path.{_≡_};
 ghost use mathlib.Core.Bool.{not};
 ghost use lib.Dec.{eqb};
 ghost use lib.ListN.{length};
-ghost use Rattle.forest.specs.Paths.{Spans};
+ghost use Rattle.forest.specs.FreeEdges.{bitsOf, ForestBits};
 ghost use Rattle.refusals.specs.Edges.{kept, keptEarly, keptLate};
 ghost use Rattle.refusals.specs.Request.{graphRequest};
 ghost use Rattle.refusals.specs.Refusal.{refusal, ofGraphWithBuffers};
 ghost use Rattle.refusals.specs.Answers.{left};
-ghost use Rattle.graph.specs.Graphs.{treeMarks, componentNames};
+ghost use Rattle.graph.specs.Graphs.{componentNames};
 
-// As `lattice::spanning_forest`.
+// As `lattice::spanning_forest`, with its free edges numbered.
 #[no_mangle]
 pub extern "C" fn copperhook_spanning_forest(
     n: usize,
     a: &[usize],
     b: &[usize],
     m: &[f64],
-    tree: &mut [bool],
+    bits: &mut [usize],
 ) -> usize
-    ensures { λ r. ⌜ (r ≡ refusal ofGraphWithBuffers (graphRequest n (now (a .entry)) (now (b .entry)) (now (m .entry)) (not (eqb (length (now (tree .entry))) (length (kept (now (a .entry)) (now (b .entry)) (now (m .entry)))))))) × (now (tree .exit) ≡ left r (treeMarks (keptEarly (now (a .entry)) (now (b .entry)) (now (m .entry))) (keptLate (now (a .entry)) (now (b .entry)) (now (m .entry)))) (now (tree .entry))) × (r ≡ 0 → Spans (keptEarly (now (a .entry)) (now (b .entry)) (now (m .entry))) (keptLate (now (a .entry)) (now (b .entry)) (now (m .entry))) (now (tree .exit))) ⌝ }
+    ensures { λ r. ⌜ (r ≡ refusal ofGraphWithBuffers (graphRequest n (now (a .entry)) (now (b .entry)) (now (m .entry)) (not (eqb (length (now (bits .entry))) (length (kept (now (a .entry)) (now (b .entry)) (now (m .entry)))))))) × (now (bits .exit) ≡ left r (bitsOf (keptEarly (now (a .entry)) (now (b .entry)) (now (m .entry))) (keptLate (now (a .entry)) (now (b .entry)) (now (m .entry)))) (now (bits .entry))) × (r ≡ 0 → ForestBits n (keptEarly (now (a .entry)) (now (b .entry)) (now (m .entry))) (keptLate (now (a .entry)) (now (b .entry)) (now (m .entry))) (now (bits .exit))) ⌝ }
 {
-    graph::spanning_forest(n, a, b, m, tree)
+    graph::spanning_forest(n, a, b, m, bits)
 }
 
 // As `lattice::components`.

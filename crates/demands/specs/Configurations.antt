@@ -10,7 +10,7 @@ use lib.Ieee.{Float}
 use lib.ListN.{length}
 use Rattle.list_laws.specs.Search.{some}
 use Rattle.list_laws.specs.Laws.Search.{none-at}
-use Rattle.forest.specs.Labels.{isTree}
+use Rattle.forest.specs.FreeEdges.{freeCount, bitOf}
 use Rattle.transfer_matrix.specs.Configuration.{enumeratedMinus}
 use Rattle.transfer_matrix.specs.Job.{Job}
 use Rattle.refusals.specs.Answers.{answered}
@@ -23,7 +23,6 @@ use Rattle.refusals.specs.Key.{Key}
 use Rattle.refusals.specs.Laws.First.{passed-at}
 use Rattle.refusals.specs.Refusal.{refusal, ofEnumeration}
 use Rattle.refusals.specs.Request.{enumerationRequest}
-use Rattle.graph.specs.Graphs.{freeCount}
 use Rattle.pair_correlations.specs.Sound.{unsound}
 use Rattle.entry_correlations.specs.Correlations.{mannerOf}
 use Rattle.entry_correlations.specs.declared.Manner.{Manner}
@@ -120,6 +119,6 @@ module _ (n floor : ℕ) (a b : List ℕ) (m : List Float) (us vs : List ℕ) (b
 
     pub configuration-sound : (x beta : ℕ) → x < 2 ^ free a b m → beta < length betas → Sound (job x beta) us vs
     configuration-sound x beta h l =
-        signed-sound (enumeration-facts .0) (enumeratedMinus (isTree (early a b m) (late a b m)) x) beta l
+        signed-sound (enumeration-facts .0) (enumeratedMinus (bitOf (early a b m) (late a b m)) x) beta l
         (none-at (λ c. unsound (job x c) us vs) (length betas) beta l
         (none-at (λ y. some (λ c. unsound (job y c) us vs) (length betas)) (2 ^ free a b m) x h none-bad))

@@ -16,7 +16,7 @@ use Rattle.accuracy.specs.Ring.{nat}
 use Rattle.accuracy.specs.Laws.Ring.{_⋆_}
 use Rattle.accuracy.specs.Stated.{squaresRoundings, fourthsRoundings, totalBound}
 use Rattle.estimate.specs.Estimates.{number, meanOf}
-use Rattle.forest.specs.Labels.{isTree}
+use Rattle.forest.specs.FreeEdges.{bitOf}
 use Rattle.transfer_matrix.specs.Configuration.{enumeratedMinus}
 use Rattle.transfer_matrix.specs.Job.{Job}
 use Rattle.transfer_matrix.specs.Rounded.{ieee}
@@ -108,7 +108,7 @@ module _ {n floor : ℕ} {a b : List ℕ} {m : List Float} {us vs : List ℕ} {b
     pub enumeration-accurate : (x beta : ℕ) → x < 2 ^ free → beta < length betas → Accurate (configuration x beta) us vs bound
     enumeration-accurate x beta h l =
         A.signed-accurate n floor a b m us vs betas factors manner misfit (length work) facts bound answered
-        (enumeratedMinus (isTree (C.early a b m) (C.late a b m)) x) beta l (enumeration-sound x beta h l)
+        (enumeratedMinus (bitOf (C.early a b m) (C.late a b m)) x) beta l (enumeration-sound x beta h l)
 
     module _ (k : ℕ) (l : k < length betas * length us) where
       abbrev ratio : ℕ → ℚ
@@ -118,7 +118,7 @@ module _ {n floor : ℕ} {a b : List ℕ} {m : List Float} {us vs : List ℕ} {b
       taken = A.roundings n floor a b m
 
       abbrev minus : ℕ → ℕ → ℕ → Bool
-      minus c j = enumeratedMinus (isTree (C.early a b m) (C.late a b m)) (c * chunkSize free + j)
+      minus c j = enumeratedMinus (bitOf (C.early a b m) (C.late a b m)) (c * chunkSize free + j)
 
       covered : chunkCount free * chunkSize free ≡ count
       covered = chunks-cover free ∙ sym enumeration-counted

@@ -10,7 +10,7 @@ use lib.Ieee.{Float, nan}
 use lib.ListN.{length, getD}
 use lib.Pow.{pow-pos}
 use Rattle.fraction.specs.Value.{value}
-use Rattle.forest.specs.Labels.{isTree}
+use Rattle.forest.specs.FreeEdges.{bitOf}
 use Rattle.transfer_matrix.specs.Configuration.{enumeratedMinus}
 use Rattle.accuracy.specs.Apart.{Apart}
 use Rattle.transfer_matrix.specs.Job.{Job}
@@ -111,4 +111,4 @@ module _ {n floor : ℕ} {a b : List ℕ} {m : List Float} {us vs : List ℕ} {b
       rw (stored-at x beta p h l k)
       (signed-accurate n floor a b m us vs betas factors manner misfit (length work)
       facts bound answered
-      (enumeratedMinus (isTree (C.early a b m) (C.late a b m)) x) beta l (storing-sound x beta h l) .correlation p k)
+      (enumeratedMinus (bitOf (C.early a b m) (C.late a b m)) x) beta l (storing-sound x beta h l) .correlation p k)

@@ -3,7 +3,7 @@ ghost use Rattle.totals_call.specs.Calls.{Enumerated};
 use buffer_checks::check_enumeration;
 use entry_correlations::Manner;
 use entry_correlations::is_elementwise;
-use forest::count_free_edges;
+use forest::number_free_edges;
 use job_checks::check_with_betas;
 use limits::COUNTED;
 use limits::EDGES;
@@ -55,7 +55,8 @@ pub fn exhaustive(
     }
     let w = job.window;
     let edges = job.edges;
-    let free = count_free_edges(n, &early[..edges], &late[..edges]);
+    let mut bits = [0usize; EDGES];
+    let free = number_free_edges(n, &early[..edges], &late[..edges], &mut bits[..edges]);
     let unfit = check_enumeration(
         n,
         w,
@@ -82,6 +83,7 @@ pub fn exhaustive(
         elementwise,
         &early[..edges],
         &late[..edges],
+        &bits[..edges],
         us,
         vs,
         factors,

@@ -7,7 +7,7 @@ use crate::job::store_job;
 use buffer_checks::check_enumeration;
 use entry_correlations::Manner;
 use entry_correlations::is_elementwise;
-use forest::count_free_edges;
+use forest::number_free_edges;
 use job_checks::check_with_betas;
 use limits::EDGES;
 use limits::STORED;
@@ -66,7 +66,8 @@ pub fn exhaustive_c(
     }
     let w = job.window;
     let edges = job.edges;
-    let free = count_free_edges(n, &early[..edges], &late[..edges]);
+    let mut bits = [0usize; EDGES];
+    let free = number_free_edges(n, &early[..edges], &late[..edges], &mut bits[..edges]);
     let unfit = check_enumeration(
         n,
         w,
@@ -92,6 +93,7 @@ pub fn exhaustive_c(
         elementwise,
         &early[..edges],
         &late[..edges],
+        &bits[..edges],
         us,
         vs,
         factors,

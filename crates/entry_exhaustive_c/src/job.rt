@@ -3,9 +3,8 @@ ghost use mathlib.Core.Path.{_≡_};
 ghost use Prim.Native.Nat.{_*_, _^_, _≤_};
 ghost use lib.ListN.{length};
 ghost use Rattle.limits.specs.Limits.{mostCounted};
-ghost use Rattle.graph.specs.Graphs.{freeCount};
+ghost use Rattle.forest.specs.FreeEdges.{freeCount, bitsOf};
 ghost use Rattle.totals_call.specs.Finished.{Passed, stepping, StoredAre};
-use forest::mark_tree_edges;
 use job_run::clear;
 use plan_layout::make_plan;
 use plan_layout::order_pairs;
@@ -16,14 +15,14 @@ use totals_call::clear_unsound;
 use totals_configuration::JobShape;
 use totals_stored::stored_correlations;
 
-// The correlations of all configurations, with the room at +0.0 after: plans the job, orders its pairs, marks the tree edges, stores and
-// clears. Returns whether every Z was finite and above zero; where one is not, all are +0.0.
+// The correlations of all configurations, with the room at +0.0 after: plans the job, orders its pairs, stores and clears. Returns whether every Z was finite and above zero; where one is not, all are +0.0.
 pub(crate) fn store_job(
     n: usize,
     w: usize,
     elementwise: bool,
     early: &[usize],
     late: &[usize],
+    bits: &[usize],
     us: &[usize],
     vs: &[usize],
     factors: &[f64],
@@ -33,7 +32,7 @@ pub(crate) fn store_job(
     work: &mut [f64],
 ) -> bool
     requires { ⌜ Passed n w (now early) (now late) (now us) (now vs) (length (now factors)) betas (length (now work))
-        × (free ≡ freeCount (now early) (now late)) × (free ≤ mostCounted)
+        × (free ≡ freeCount (now early) (now late)) × (free ≤ mostCounted) × (now bits ≡ bitsOf (now early) (now late))
         × (length (now stored) ≡ betas * length (now us) * 2 ^ free) ⌝ }
     ensures { λ r. ⌜ StoredAre n w (now (early .entry)) (now (late .entry)) (now (factors .entry)) (stepping elementwise) (now (us .entry))
         (now (vs .entry)) betas (betas * length (now (us .entry)) * 2 ^ free) (length (now (early .entry))) r (now (stored .exit))
@@ -41,16 +40,13 @@ pub(crate) fn store_job(
 {
     let mut plan = [0usize; PLAN];
     let mut orders = [0usize; PAIRS];
-    let mut trees = [false; EDGES];
     let mut signs = [false; EDGES];
     let mut c = [0.0f64; PAIRS];
     let pairs = us.len();
     let edges = early.len();
     let order = &mut orders[..pairs];
-    let tree = &mut trees[..edges];
     let layout = make_plan(&mut plan, n, w, early, late, us, vs);
     order_pairs(order, n, w, us, vs);
-    mark_tree_edges(n, early, late, tree);
     let shape = JobShape {
         n,
         w,
@@ -68,7 +64,7 @@ pub(crate) fn store_job(
         vs,
         order,
         factors,
-        tree,
+        bits,
         &mut signs[..edges],
         free,
         &mut c[..pairs],

@@ -85,12 +85,15 @@ pub fn sample(
         end: to,
         size: samples,
     };
+    // Drawn configurations read no bit: any list with an entry for each edge stands for them.
+    let ends = &early[..edges];
     if total_job(
         n,
         w,
         elementwise,
-        &early[..edges],
+        ends,
         &late[..edges],
+        ends,
         us,
         vs,
         factors,

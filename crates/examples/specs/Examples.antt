@@ -9,7 +9,10 @@ use lib.Ieee.{Float, fin, binary64, round, ofBits, ofInt, add, sub, mul, div, ne
 use lib.ListN.{getD}
 use Rattle.list_laws.specs.Most.{most}
 use Rattle.list_laws.specs.Tabulate.{tabulate}
+use Rattle.edge_bits.specs.Having.{tree}
+use Rattle.list_laws.specs.Count.{count}
 use Rattle.forest.specs.Labels.{isTree, labels}
+use Rattle.forest.specs.FreeEdges.{freeBefore, bitOf, bitsOf}
 use Rattle.distance.specs.Walks.{Distance, Walk, Adjacent, along, back}
 use Rattle.distance.specs.declared.Reach.the-variants.{Length}
 use Rattle.transfer_matrix.specs.Job.{Edge, Job, Manner, block, perElement, windowOf}
@@ -71,7 +74,7 @@ late = lateEnds (edges square)
 abbrev configuration : ℕ → Job Float
 configuration c =
     job 3 0
-    (configured +0·0 early late (two ∷ half ∷ two ∷ half ∷ two ∷ half ∷ two ∷ half ∷ []) 0 (enumeratedMinus (isTree early late) c))
+    (configured +0·0 early late (two ∷ half ∷ two ∷ half ∷ two ∷ half ∷ two ∷ half ∷ []) 0 (enumeratedMinus (bitOf early late) c))
     block
 
 pub examples : List (Type 0)
@@ -92,11 +95,11 @@ examples =
     -- a third vertex without edges, window 1, factor 2: pair 0-2 gives +0.0
     ∷ (answer ieee (job 2 0 (edge 0 1 two ∷ []) block) 0 2 ≡ +0·0)
     ∷ (answer ieee (job 2 0 (edge 0 1 two ∷ []) perElement) 0 2 ≡ +0·0)
-    -- square 2 by 2, free: edges 0-1, 0-2, 1-3, 2-3; window 2, of the strip and of the job; only edge 2-3 is free
+    -- square 2 by 2, free: edges 0-1, 0-2, 1-3, 2-3; window 2, of the strip and of the job; only edge 2-3 is free, and has bit 0
     ∷ EdgesOfSquare
     ∷ (Window.windowOf square ≡ 2)
     ∷ (windowOf 0 early late ≡ 2)
-    ∷ (tabulate (isTree early late) 4 ≡ true ∷ true ∷ true ∷ false ∷ [])
+    ∷ (bitsOf early late ≡ tree ∷ tree ∷ tree ∷ 0 ∷ [])
     -- there, factors 2 and 1/2, block manner: pair 0-1 gives the doubles nearest 255/353 and 15/34 in configurations 0 and 1
     ∷ (answer ieee (configuration 0) 0 1 ≡ nearest 255 353)
     ∷ (answer ieee (configuration 1) 0 1 ≡ nearest 15 34)
@@ -141,6 +144,6 @@ two-apart = ((2, (0, refl, along 1 (omega arith)), along 3 (omega arith)), short
     shorter (suc (suc j)) b w = omega arith
 
 pub examples-hold : AllHold examples
-unfolding examples add sub mul div neg lt le round ofBits ofInt sqrt answer room windowOf configured enumeratedMinus isTree labels tabulate most edgesBelow Rules.across Rules.wrap Rules.along Rules.rising Rules.falling estimateOf
+unfolding examples add sub mul div neg lt le round ofBits ofInt sqrt answer room windowOf configured enumeratedMinus bitsOf bitOf freeBefore count isTree labels tabulate most edgesBelow Rules.across Rules.wrap Rules.along Rules.rising Rules.falling estimateOf
 examples-hold =
     (refl, (refl, (refl, (refl, (refl, (refl, (refl, (refl, (refl, (refl, (refl, (refl, (edges-of-square, (refl, (refl, (refl, (refl, (refl, (refl, (refl, (two-apart, (refl, (refl, tt)))))))))))))))))))))))

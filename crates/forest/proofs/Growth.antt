@@ -1,9 +1,10 @@
 -- The forest grows edge by edge, and its roots stay the labels: those of `labels`, or the lowest ones.
 use mathlib.Core.Path.{_≡_, refl, _∙_}
-use mathlib.Core.Bool.{Bool}
+use mathlib.Core.Bool.{Bool, cond}
 use mathlib.Core.List.{List}
 use Prim.Native.Nat.{ℕ, _+_, _<_}
 use native.Mathlib.Numerals.{add-one}
+use lib.Dec.{eqb, ltb}
 use lib.ListN.{length}
 use Rattle.forest.specs.Paths.{end, Edges}
 use Rattle.forest.specs.Labels.{labels, isTree}
@@ -56,23 +57,23 @@ module _ {n : ℕ} {label : ℕ → ℕ} {p : List ℕ} (L : Labelled n label p)
   pub union-takes : {early late : List ℕ} → Edges n early late → (i : ℕ) → i < length early → Forest p × (end early i < length p) × (end late i < length p)
   union-takes E i h = (L .forest, rw (L .len) (E .early-below i h), rw (L .len) (E .late-below i h))
 
+-- merged by a rule that reads the labels of a, b and the vertex
+labelled-more : {n : ℕ} {label next : ℕ → ℕ} {p q : List ℕ} (a b : ℕ) (rule : ℕ → ℕ → ℕ → ℕ) → a < n → b < n → Labelled n label p → length q ≡ length p → Forest q
+    → ((v : ℕ) → v < length p → root q v ≡ rule (root p a) (root p b) (root p v)) → ((v : ℕ) → next v ≡ rule (label a) (label b) (label v)) → Labelled n next q
+labelled-more a b rule h k L len forest roots is = record {
+  len = len ∙ L .len;
+  forest = forest;
+  roots = λ v l. roots v (rw (L .len) l) ∙ rw (L .roots a h, L .roots b k, L .roots v l, is v);
+}
+
 -- the ends of the next edge, merged
 module _ {n : ℕ} {early late : List ℕ} {p q : List ℕ} {r : Bool} (E : Edges n early late) (i : ℕ) (h : i < length early) where
   module _ (L : Labelled n (labels early late i) p) (M : Merged p (end early i) (end late i) r q) where
-    pub union-tree : r ≡ isTree early late i
-    unfolding isTree
-    union-tree = M .is ∙ rw (L .roots (end early i) (E .early-below i h), L .roots (end late i) (E .late-below i h))
-
     pub union-labels : Labelled n (labels early late (i + 1)) q
     unfolding labels
     union-labels =
-        record {
-          len = M .len ∙ L .len;
-          forest = M .forest;
-          roots = λ v l.
-              M .roots v (rw (L .len) l)
-              ∙ rw (L .roots v l, L .roots (end early i) (E .early-below i h), L .roots (end late i) (E .late-below i h), add-one);
-        }
+        labelled-more (end early i) (end late i) (λ x y z. cond (eqb z x) y z) (E .early-below i h) (E .late-below i h) L (M .len) (M .forest) (M .roots)
+        (λ v. rw add-one)
 
   module _ (L : Labelled n (lowest early late i) p) (M : MergedLower p (end early i) (end late i) r q) where
     pub lower-tree : r ≡ isTree early late i
@@ -81,10 +82,5 @@ module _ {n : ℕ} {early late : List ℕ} {p q : List ℕ} {r : Bool} (E : Edge
     pub lower-labels : Labelled n (lowest early late (i + 1)) q
     unfolding lowest
     lower-labels =
-        record {
-          len = M .len ∙ L .len;
-          forest = M .forest;
-          roots = λ v l.
-              M .roots v (rw (L .len) l)
-              ∙ rw (L .roots v l, L .roots (end early i) (E .early-below i h), L .roots (end late i) (E .late-below i h), add-one);
-        }
+        labelled-more (end early i) (end late i) (λ x y z. cond (ltb x y) (cond (eqb z y) x z) (cond (eqb z x) y z)) (E .early-below i h) (E .late-below i h) L
+        (M .len) (M .forest) (M .roots) (λ v. rw add-one)

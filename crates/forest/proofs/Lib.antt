@@ -6,3 +6,4 @@ mod Hang
 mod Filled
 mod Growth
 mod Words
+mod Numbers

@@ -1,6 +1,6 @@
 -- What is proved of the definitions.
-pub mod Paths
 pub mod Labels
 pub mod Components
+pub mod FreeEdges
 pub mod Lowest
 pub mod Marks

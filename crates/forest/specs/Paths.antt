@@ -1,6 +1,5 @@
 -- The edges of a graph as two lists of ends, paths over the first of them, and which edges are tree edges.
 use mathlib.Core.Path.{_≡_}
-use mathlib.Core.Bool.{Bool, true, false}
 use mathlib.Core.List.{List}
 use mathlib.Core.Logic.{_⊎_}
 use Prim.Native.Nat.{ℕ, _<_}
@@ -29,9 +28,3 @@ pub data Joined (early late : List ℕ) (i : ℕ) : ℕ → ℕ → Type 0 where
 -- a path of the edges before e joins the ends of e
 abbrev pub Closes : List ℕ → List ℕ → ℕ → Type 0
 Closes early late e = Joined early late e (end early e) (end late e)
-
--- an edge is marked exactly where no path of the edges before it joins its ends
-pub record Spans (early late : List ℕ) (tree : List Bool) : Type 0 where
-  pub marks : length tree ≡ length early
-  pub marked : (e : ℕ) → e < length early → getD tree e false ≡ true → Closes early late e → ⊥
-  pub unmarked : (e : ℕ) → e < length early → getD tree e false ≡ false → Closes early late e

@@ -10,7 +10,8 @@ use Rattle.refusals.specs.Edges.{kept, keptEarly, keptLate}
 use Rattle.refusals.specs.Request.{distanceRequest, outside}
 use Rattle.refusals.specs.Refusal.{refusal, ofDistance}
 use Rattle.refusals.specs.Laws.Later.{then-pair, refused-before, refused-here, refused-not}
-use Rattle.forest.specs.Paths.{Edges, Spans}
+use Rattle.forest.specs.Paths.{Edges}
+use Rattle.forest.specs.FreeEdges.{ForestBits}
 use Rattle.distance.specs.Walks.{Distance}
 use Rattle.distance.specs.declared.Reach.{Reach}
 use Rattle.kept_edges.specs.Keep.{Written, CheckedGraph, KeptEdges}
@@ -20,8 +21,8 @@ pub use Rattle.kept_edges.specs.Laws.Buffers.{buffers-before, buffers-here, buf
 
 module _ {a b : List ℕ} {m : List Float} {k : ℕ} {early early′ late late′ : List ℕ} {mag mag′ : List Float}
     (W : Written a b m (length a) k early early′ late late′ mag mag′) where
-  pub spans-kept : {t : List Bool} → Spans (take k early′) (take k late′) t → Spans (keptEarly a b m) (keptLate a b m) t
-  spans-kept {t} s = subst₂ (λ x y. Spans x y t) (front-early W) (front-late W) s
+  pub forest-kept : {n : ℕ} {t : List ℕ} → ForestBits n (take k early′) (take k late′) t → ForestBits n (keptEarly a b m) (keptLate a b m) t
+  forest-kept {n} {t} s = subst₂ (λ x y. ForestBits n x y t) (front-early W) (front-late W) s
 
   pub distance-kept : (u v : ℕ) (r r′ : Reach) → r ≡ r′ → Distance (take k early′) (take k late′) u v r
       → Distance (keptEarly a b m) (keptLate a b m) u v r′

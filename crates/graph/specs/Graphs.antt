@@ -1,27 +1,19 @@
 -- What the entries answer.
 use mathlib.Core.Path.{_≡_}
-use mathlib.Core.Bool.{Bool, not}
 use mathlib.Core.List.{List}
 use Prim.Native.Nat.{ℕ}
 use lib.ListN.{length}
 use Rattle.limits.specs.Limits.{mostVertices}
 use Rattle.list_laws.specs.Count.{count}
 use Rattle.list_laws.specs.Tabulate.{tabulate}
-use Rattle.forest.specs.Labels.{isTree, labels}
+use Rattle.forest.specs.Labels.{labels}
 use Rattle.forest.specs.Components.{componentCount}
+use Rattle.forest.specs.FreeEdges.{freeCount}
 use Rattle.forest.specs.Lowest.{lowestMarks, marked, MarksLowest}
 use Rattle.graph.specs.declared.graph.Measure.{Measure}
 use Rattle.graph.specs.declared.graph.Measure.the-variants.{Window, Free}
 use Rattle.transfer_matrix.specs.Job.{windowOf}
 use Rattle.refusals.specs.Answers.{left}
-
--- how many of the kept edges are free: not tree edges
-unfoldable pub freeCount : List ℕ → List ℕ → ℕ
-freeCount early late = count (λ e. not (isTree early late e)) (length early)
-
--- for each kept edge, whether it is a tree edge
-unfoldable pub treeMarks : List ℕ → List ℕ → List Bool
-treeMarks early late = tabulate (isTree early late) (length early)
 
 -- for each of n vertices, the vertex that names its component
 unfoldable pub componentNames : ℕ → List ℕ → List ℕ → List ℕ

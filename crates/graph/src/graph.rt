@@ -3,15 +3,17 @@ ghost use mathlib.Core.Path.{_≡_};
 ghost use mathlib.Core.Bool.{false, not};
 ghost use lib.Dec.{eqb};
 ghost use lib.ListN.{length};
+ghost use Prim.Native.Nat.{_≤_};
+ghost use Rattle.limits.specs.Limits.{mostEdges};
 ghost use Rattle.transfer_matrix.specs.Job.{windowOf};
 ghost use Rattle.refusals.specs.Edges.{kept, keptEarly, keptLate};
 ghost use Rattle.refusals.specs.Request.{graphRequest, distanceRequest};
 ghost use Rattle.refusals.specs.Refusal.{refusal, ofGraph, ofGraphWithBuffers, ofDistance};
 ghost use Rattle.refusals.specs.Answers.{answered, left};
-ghost use Rattle.forest.specs.Paths.{Spans};
 ghost use Rattle.forest.specs.Components.{componentCount};
+ghost use Rattle.forest.specs.FreeEdges.{freeCount, bitsOf, ForestBits};
 ghost use Rattle.kept_edges.specs.Keep.{KeptEdges};
-ghost use Rattle.graph.specs.Graphs.{freeCount, treeMarks, componentNames, measureOf, ComponentMarks};
+ghost use Rattle.graph.specs.Graphs.{componentNames, measureOf, ComponentMarks};
 ghost use Rattle.graph.specs.Reached.{Distanced};
 use distance::Reach;
 use graph_checks::is_outside;
@@ -35,7 +37,7 @@ pub enum Measure {
 
 // The measure of the kept edges.
 fn measure_kept(measure: Measure, n: usize, early: &[usize], late: &[usize]) -> usize
-    requires { ⌜ KeptEdges n (now early) (now late) ⌝ }
+    requires { ⌜ KeptEdges n (now early) (now late) × (length (now early) ≤ mostEdges) ⌝ }
     ensures { λ r. ⌜ r ≡ measureOf measure n (now (early .entry)) (now (late .entry)) ⌝ }
 {
     match measure {
@@ -99,11 +101,12 @@ pub fn cyclomatic(n: usize, a: &[usize], b: &[usize], m: &[f64]) -> Answer
     measured(Measure::Free, n, a, b, m)
 }
 
-// Marks each kept edge that is a tree edge: no path of earlier kept edges joins its ends. Returns the refusal's number, 0 for accepted.
-pub fn spanning_forest(n: usize, a: &[usize], b: &[usize], m: &[f64], tree: &mut [bool]) -> usize
-    ensures { λ r. ⌜ (r ≡ refusal ofGraphWithBuffers (graphRequest n (now (a .entry)) (now (b .entry)) (now (m .entry)) (not (eqb (length (now (tree .entry))) (length (kept (now (a .entry)) (now (b .entry)) (now (m .entry))))))))
-        × (now (tree .exit) ≡ left r (treeMarks (keptEarly (now (a .entry)) (now (b .entry)) (now (m .entry))) (keptLate (now (a .entry)) (now (b .entry)) (now (m .entry)))) (now (tree .entry)))
-        × (r ≡ 0 → Spans (keptEarly (now (a .entry)) (now (b .entry)) (now (m .entry))) (keptLate (now (a .entry)) (now (b .entry)) (now (m .entry))) (now (tree .exit))) ⌝ }
+// Gives each kept edge that is free its bit of a configuration's number, in edge order from 0, and each tree edge TREE: no path of earlier kept
+// edges joins its ends. Returns the refusal's number, 0 for accepted.
+pub fn spanning_forest(n: usize, a: &[usize], b: &[usize], m: &[f64], bits: &mut [usize]) -> usize
+    ensures { λ r. ⌜ (r ≡ refusal ofGraphWithBuffers (graphRequest n (now (a .entry)) (now (b .entry)) (now (m .entry)) (not (eqb (length (now (bits .entry))) (length (kept (now (a .entry)) (now (b .entry)) (now (m .entry))))))))
+        × (now (bits .exit) ≡ left r (bitsOf (keptEarly (now (a .entry)) (now (b .entry)) (now (m .entry))) (keptLate (now (a .entry)) (now (b .entry)) (now (m .entry)))) (now (bits .entry)))
+        × (r ≡ 0 → ForestBits n (keptEarly (now (a .entry)) (now (b .entry)) (now (m .entry))) (keptLate (now (a .entry)) (now (b .entry)) (now (m .entry))) (now (bits .exit))) ⌝ }
 {
     let mut early = [0usize; EDGES];
     let mut late = [0usize; EDGES];
@@ -114,10 +117,10 @@ pub fn spanning_forest(n: usize, a: &[usize], b: &[usize], m: &[f64], tree: &mut
         return refusal;
     }
     let edges = g.edges;
-    if tree.len() != edges {
+    if bits.len() != edges {
         return 12;
     }
-    forest::mark_tree_edges(n, &early[..edges], &late[..edges], tree);
+    forest::number_free_edges(n, &early[..edges], &late[..edges], bits);
     0
 }
 

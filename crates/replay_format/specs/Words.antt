@@ -27,10 +27,6 @@ unfoldable pub mixedAll : ℕ → (ℕ → ℕ) → ℕ → ℕ
 mixedAll hash word zero = hash
 mixedAll hash word (suc n) = mixed (mixedAll hash word n) (word n)
 
--- a mark as a word
-abbrev pub marked : Bool → ℕ
-marked x = cond x 1 0
-
 -- the first n tests hold
 unfoldable pub every : (ℕ → Bool) → ℕ → Bool
 every test zero = true

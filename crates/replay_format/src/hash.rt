@@ -1,9 +1,8 @@
-// FNV-1a over words: numbers, marks and doubles.
+// FNV-1a over words: numbers and doubles.
 ghost use mathlib.Core.Path.{_≡_};
-ghost use mathlib.Core.Bool.{false};
 ghost use lib.Ieee.{binary64, toBits, nan};
 ghost use lib.ListN.{length, getD};
-ghost use Rattle.replay_format.specs.Words.{mixed, mixedAll, marked};
+ghost use Rattle.replay_format.specs.Words.{mixed, mixedAll};
 
 pub const OFFSET: u64 = 0xcbf2_9ce4_8422_2325;
 
@@ -26,24 +25,6 @@ pub fn mix_numbers(hash: u64, xs: &[usize]) -> u64
     let mut i: usize = 0;
     while i < xs.len() {
         h = mix_number(h, xs[i]);
-        i += 1;
-    }
-    h
-}
-
-fn mark(x: bool) -> usize
-    ensures { λ r. ⌜ r ≡ marked x ⌝ }
-{
-    if x { 1 } else { 0 }
-}
-
-pub fn mix_marks(hash: u64, xs: &[bool]) -> u64
-    ensures { λ r. ⌜ r ≡ mixedAll hash (λ i. marked (getD (now (xs .entry)) i false)) (length (now (xs .entry))) ⌝ }
-{
-    let mut h = hash;
-    let mut i: usize = 0;
-    while i < xs.len() {
-        h = mix_number(h, mark(xs[i]));
         i += 1;
     }
     h

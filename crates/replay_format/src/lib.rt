@@ -10,7 +10,6 @@ pub use files::read_file;
 pub use hash::OFFSET;
 pub use hash::mix;
 pub use hash::mix_doubles;
-pub use hash::mix_marks;
 pub use hash::mix_number;
 pub use hash::mix_numbers;
 pub use lists::EdgeLists;

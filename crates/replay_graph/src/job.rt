@@ -11,7 +11,6 @@ use replay_format::load_doubles;
 use replay_format::load_numbers;
 use replay_format::mix;
 use replay_format::mix_doubles;
-use replay_format::mix_marks;
 use replay_format::mix_number;
 use replay_format::mix_numbers;
 
@@ -103,13 +102,13 @@ fn mix_components(hash: u64, n: usize, a: &[usize], b: &[usize], m: &[f64], lent
 }
 
 fn mix_forest(hash: u64, n: usize, a: &[usize], b: &[usize], m: &[f64], lent: usize) -> u64 {
-    let mut out = [false; 4096];
+    let mut out = [BEFORE; 4096];
     if 4096 < lent {
         return hash;
     }
-    let tree = &mut out[..lent];
-    let h = mix_number(hash, graph::spanning_forest(n, a, b, m, tree));
-    mix_marks(h, tree)
+    let bits = &mut out[..lent];
+    let h = mix_number(hash, graph::spanning_forest(n, a, b, m, bits));
+    mix_numbers(h, bits)
 }
 
 fn mix_graph(hash: u64, n: usize, a: &[usize], b: &[usize], m: &[f64], lent: usize) -> u64 {

@@ -6,6 +6,7 @@ use Prim.Native.Nat.{ℕ, _*_, _≤_}
 use lib.Ieee.{Float}
 use lib.ListN.{length}
 use Rattle.list_laws.specs.Front.{over}
+use Rattle.forest.specs.FreeEdges.{freeCount, bitsOf}
 use Rattle.transfer_matrix.specs.Job.{Manner, block, perElement}
 use Rattle.transfer_matrix.specs.Room.{room}
 use Rattle.transfer_matrix.specs.Rounded.{ieee}
@@ -21,9 +22,11 @@ pub record Passed (n w : ℕ) (early late us vs : List ℕ) (factors betas work 
   pub few-betas : betas ≤ 64
   pub factored : factors ≡ 2 * (betas * length early)
 
--- few enough free edges, and numbers that fit, where configurations go by number
-pub record Numbered (k : Chunks) (free : ℕ) : Type 0 where
-  pub few : k .drawn ≡ false → free ≤ 63
+-- where configurations go by number, the bits that the forest gives the edges, few enough free ones, and numbers that fit; drawn ones read no bit
+pub record Numbered (k : Chunks) (early late bits : List ℕ) : Type 0 where
+  pub long : length bits ≡ length early
+  pub given : k .drawn ≡ false → bits ≡ bitsOf early late
+  pub few : k .drawn ≡ false → freeCount early late ≤ 63
   pub fits : k .drawn ≡ false → k .end * k .size ≤ 18446744073709551615
 
 -- Whether every Z was finite and above zero; then a list holds the answers, else +0.0.

@@ -5,7 +5,7 @@ use lib.Ieee.{Float}
 use lib.ListN.{length}
 use Rattle.transfer_matrix.specs.Room.{room}
 use Rattle.refusals.specs.Edges.{kept, windowFrom, keptEarly, keptLate}
-use Rattle.graph.specs.Graphs.{freeCount}
+use Rattle.forest.specs.FreeEdges.{freeCount}
 use Rattle.entry_correlations.specs.declared.Manner.{Manner}
 
 pub record Given : Type 0 where

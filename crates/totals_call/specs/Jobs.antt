@@ -7,12 +7,11 @@ use lib.Ieee.{Float, nan}
 use lib.ListN.{length}
 use Rattle.list_laws.specs.Search.{some}
 use Rattle.list_laws.specs.Tabulate.{tabulate}
-use Rattle.forest.specs.Labels.{isTree}
+use Rattle.forest.specs.FreeEdges.{freeCount, bitOf}
 use Rattle.transfer_matrix.specs.Job.{Job, Manner}
 use Rattle.transfer_matrix.specs.Configuration.{configured, enumeratedMinus, sampledMinus}
 use Rattle.transfer_matrix.specs.Rounded.{ieee}
 use Rattle.transfer_matrix.specs.Totals.{enumerated, sampled}
-use Rattle.graph.specs.Graphs.{freeCount}
 use Rattle.totals_configuration.specs.Powers.{correlationAt, unsoundBetas}
 use Rattle.totals_chunks.specs.declared.Chunks.{Chunks}
 use Rattle.totals_chunks.specs.Totals.{unsoundChunks, totalsOver}
@@ -23,16 +22,16 @@ storedCount early late us betas = betas * length us * 2 ^ freeCount early late
 
 -- Which edges are minus in configuration j of chunk i.
 abbrev pub minusIn : (early late : List ℕ) → Chunks → (i j : ℕ) → ℕ → Bool
-minusIn early late k i j = cond (k .drawn) (sampledMinus (k .seed) (length early) i j) (enumeratedMinus (isTree early late) (i * k .size + j))
+minusIn early late k i j = cond (k .drawn) (sampledMinus (k .seed) (length early) i j) (enumeratedMinus (bitOf early late) (i * k .size + j))
 
 module _ (n w : ℕ) (early late : List ℕ) (factors : List Float) (manner : Manner) where
   -- The job at beta b, with the sign of each edge by a rule.
   abbrev pub jobSigned : (ℕ → Bool) → ℕ → Job Float
   jobSigned minus b = record { last = n - 1; window = w; edges = configured nan early late factors b minus; manner = manner }
 
-  -- That of configuration x, of a chunk's sample, and of configuration j of chunk i.
+  -- That of configuration x, which gives an edge minus where the forest gives it a bit and that bit of x is set; of a chunk's sample, and of configuration j of chunk i.
   abbrev pub jobEnumerated : ℕ → ℕ → Job Float
-  jobEnumerated x = jobSigned (enumeratedMinus (isTree early late) x)
+  jobEnumerated x = jobSigned (enumeratedMinus (bitOf early late) x)
 
   abbrev pub jobSampled : (seed chunk sample : ℕ) → ℕ → Job Float
   jobSampled seed chunk sample = jobSigned (sampledMinus seed (length early) chunk sample)

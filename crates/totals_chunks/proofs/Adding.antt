@@ -28,22 +28,22 @@ size-some free = let h : 1 ≤ 2 ^ free = pow-mono {i = 0} (omega arith) in omeg
 
 -- ---- the plan of a chunk is of its samples, or of the configurations with its numbers
 
-module _ (J : ℕ → ℕ → Job Float) (plan : List ℕ) (factors : List Float) (k : Chunks) (tree : List Bool) (i : ℕ) (s : JobShape)
-    (of : PlanOfRun J plan factors (length tree) (signsIn k tree i) s) where
-  plan-where : (d : Bool) → k .drawn ≡ d → PlanOfRun J plan factors (length tree)
-      (λ j. cond d (sampledSigns (k .seed) (length tree) i j) (enumeratedSigns tree (i * k .size + j))) s
+module _ (J : ℕ → ℕ → Job Float) (plan : List ℕ) (factors : List Float) (k : Chunks) (bits : List ℕ) (i : ℕ) (s : JobShape)
+    (of : PlanOfRun J plan factors (length bits) (signsIn k bits i) s) where
+  plan-where : (d : Bool) → k .drawn ≡ d → PlanOfRun J plan factors (length bits)
+      (λ j. cond d (sampledSigns (k .seed) (length bits) i j) (enumeratedSigns bits (i * k .size + j))) s
   plan-where d e =
-      subst (λ (x : Bool). PlanOfRun J plan factors (length tree)
-      (λ j. cond x (sampledSigns (k .seed) (length tree) i j) (enumeratedSigns tree (i * k .size + j))) s) e of
+      subst (λ (x : Bool). PlanOfRun J plan factors (length bits)
+      (λ j. cond x (sampledSigns (k .seed) (length bits) i j) (enumeratedSigns bits (i * k .size + j))) s) e of
 
-  pub drawn-plan : (signs : ℕ) → signs ≡ length tree → k .drawn ≡ true → PlanOfSamples J plan factors signs (k .seed) i s
+  pub drawn-plan : (signs : ℕ) → signs ≡ length bits → k .drawn ≡ true → PlanOfSamples J plan factors signs (k .seed) i s
   drawn-plan signs e d = subst (λ (m : ℕ). PlanOfSamples J plan factors m (k .seed) i s) (sym e) (plan-where true d)
 
-  pub numbered-plan : k .drawn ≡ false → PlanFrom J plan factors tree (i * k .size) s
+  pub numbered-plan : k .drawn ≡ false → PlanFrom J plan factors bits (i * k .size) s
   numbered-plan d = plan-where false d
 
 -- the numbers of a chunk fit
-pub numbers-fit : {k : Chunks} {tree : List Bool} {signs : ℕ} (i : ℕ) → Summable k tree signs → k .drawn ≡ false → i < k .end
+pub numbers-fit : {k : Chunks} {bits : List ℕ} {signs : ℕ} (i : ℕ) → Summable k bits signs → k .drawn ≡ false → i < k .end
     → i * k .size + k .size ≤ 18446744073709551615
 numbers-fit {k} i g d l = let h : (i + 1) * k .size ≤ k .end * k .size = mul-le-mul-right (k .size) (omega arith) in omega (arith, g .fits d)
 

@@ -5,13 +5,13 @@ use mathlib.Core.List.{List}
 use mathlib.Core.Logic.{_⊎_}
 use Prim.Native.Nat.{ℕ, _+_, _-_, _*_, _≤_}
 use lib.Ieee.{Float}
-use lib.ListN.{length, getD}
+use lib.ListN.{length}
 use Rattle.list_laws.specs.Search.{some}
 use Rattle.list_laws.specs.Tabulate.{tabulate}
-use Rattle.transfer_matrix.specs.Configuration.{freeBefore}
 use Rattle.transfer_matrix.specs.Job.{Job}
 use Rattle.transfer_matrix.specs.Rounded.{ieee}
 use Rattle.transfer_matrix.specs.Totals.{square, fourth, sampled, chunkSize, chunkCount}
+use Rattle.totals_signs.specs.Fit.{BitsFit}
 use Rattle.totals_configuration.specs.declared.JobShape.{JobShape}
 use Rattle.totals_configuration.specs.Powers.{correlationAt, unsoundBetas}
 use Rattle.totals_configuration.specs.Signed.{PlanOfRun}
@@ -28,19 +28,19 @@ allChunks free = record { drawn = false; seed = 0; first = 0; end = chunkCount f
 abbrev pub drawnChunks : (seed from to samples : ℕ) → Chunks
 drawnChunks seed from to samples = record { drawn = true; seed = seed; first = from; end = to; size = samples }
 
--- The signs of configuration j of chunk i, by the marks of the tree edges.
-abbrev pub signsIn : Chunks → List Bool → (i j : ℕ) → List Bool
-signsIn k tree i j = cond (k .drawn) (sampledSigns (k .seed) (length tree) i j) (enumeratedSigns tree (i * k .size + j))
+-- The signs of configuration j of chunk i, by the bits of the edges.
+abbrev pub signsIn : Chunks → List ℕ → (i j : ℕ) → List Bool
+signsIn k bits i j = cond (k .drawn) (sampledSigns (k .seed) (length bits) i j) (enumeratedSigns bits (i * k .size + j))
 
--- A mark and a sign for each edge; and, where configurations go by number, few enough free edges, and numbers that fit.
-pub record Summable (k : Chunks) (tree : List Bool) (signs : ℕ) : Type 0 where
-  pub matched : signs ≡ length tree
-  pub few : k .drawn ≡ false → freeBefore (λ e. getD tree e false) (length tree) ≤ 63
+-- A bit or none, and a sign, for each edge; and, where configurations go by number, bits and numbers that fit.
+pub record Summable (k : Chunks) (bits : List ℕ) (signs : ℕ) : Type 0 where
+  pub matched : signs ≡ length bits
+  pub bits-fit : k .drawn ≡ false → BitsFit bits
   pub fits : k .drawn ≡ false → k .end * k .size ≤ 18446744073709551615
 
 -- The plan is of the job of each configuration, at each beta.
-abbrev pub PlanOfChunks : (ℕ → ℕ → ℕ → Job Float) → List ℕ → List Float → List Bool → Chunks → JobShape → Type 0
-PlanOfChunks J plan factors tree k s = (i : ℕ) → PlanOfRun (J i) plan factors (length tree) (signsIn k tree i) s
+abbrev pub PlanOfChunks : (ℕ → ℕ → ℕ → Job Float) → List ℕ → List Float → List ℕ → Chunks → JobShape → Type 0
+PlanOfChunks J plan factors bits k s = (i : ℕ) → PlanOfRun (J i) plan factors (length bits) (signsIn k bits i) s
 
 -- Some pair's Z is not finite and above zero, at any beta and configuration.
 abbrev pub unsoundChunks : (ℕ → ℕ → ℕ → Job Float) → List ℕ → List ℕ → ℕ → Chunks → Bool
@@ -66,7 +66,7 @@ abbrev pub Idle : (first end size n : ℕ) → Type 0
 Idle first end size n = (end ≤ first) ⊎ ((size ≡ 0) ⊎ (n ≡ 0))
 
 -- Before chunk i.
-pub record Chunking (plan us vs : List ℕ) (factors : List Float) (tree : List Bool) (k : Chunks) (s : JobShape) (i : ℕ)
+pub record Chunking (plan us vs : List ℕ) (factors : List Float) (bits : List ℕ) (k : Chunks) (s : JobShape) (i : ℕ)
     (room₀ room : List Float) (signs₀ signs : List Bool) (c₀ c p₀ p q₀ q squares₀ squares fourths₀ fourths : List Float) : Type 0 where
   pub above : k .first ≤ i
   pub below : i ≤ k .end
@@ -77,6 +77,6 @@ pub record Chunking (plan us vs : List ℕ) (factors : List Float) (tree : List 
   pub part-fourthds : length q ≡ length q₀
   pub squareds : length squares ≡ length squares₀
   pub fourthds : length fourths ≡ length fourths₀
-  pub chunked : (J : ℕ → ℕ → ℕ → Job Float) → PlanOfChunks J plan factors tree k s
+  pub chunked : (J : ℕ → ℕ → ℕ → Job Float) → PlanOfChunks J plan factors bits k s
       → Chunked (λ h j. unsoundBetas (J (k .first + h) j) us vs (s .betas)) (λ h j. correlationAt (J (k .first + h) j) us vs) (k .size) (i - k .first)
       (s .betas * length us) squares fourths

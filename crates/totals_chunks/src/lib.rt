@@ -66,7 +66,7 @@ fn sum_chunk(
     vs: &[usize],
     order: &[usize],
     factors: &[f64],
-    tree: &[bool],
+    bits: &[usize],
     signs: &mut [bool],
     chunks: Chunks,
     i: u64,
@@ -74,11 +74,11 @@ fn sum_chunk(
     squares: &mut [f64],
     fourths: &mut [f64],
 ) -> bool
-    requires { ⌜ Stage (now plan) (now us) (now vs) (now order) (length (now tree)) shape (length (now room)) (length (now c))
-        × EnoughFactors (length (now factors)) (length (now tree)) (shape .betas) × Summable chunks (now tree) (length (now signs)) × (i < chunks .end)
+    requires { ⌜ Stage (now plan) (now us) (now vs) (now order) (length (now bits)) shape (length (now room)) (length (now c))
+        × EnoughFactors (length (now factors)) (length (now bits)) (shape .betas) × Summable chunks (now bits) (length (now signs)) × (i < chunks .end)
         × (length (now squares) ≡ shape .betas * length (now us)) × (length (now fourths) ≡ shape .betas * length (now us)) ⌝ }
     ensures { λ r. ⌜ ((J : ℕ → ℕ → Job Float)
-        → PlanOfRun J (now (plan .entry)) (now (factors .entry)) (length (now (tree .entry))) (signsIn chunks (now (tree .entry)) i) shape
+        → PlanOfRun J (now (plan .entry)) (now (factors .entry)) (length (now (bits .entry))) (signsIn chunks (now (bits .entry)) i) shape
         → RunSummed J (now (us .entry)) (now (vs .entry)) (shape .betas) (chunks .size) r (now (squares .exit)) (now (fourths .exit))) ⌝ }
 {
     let size = chunks.size;
@@ -109,7 +109,7 @@ fn sum_chunk(
         vs,
         order,
         factors,
-        tree,
+        bits,
         signs,
         from,
         size,
@@ -130,7 +130,7 @@ pub fn chunked_totals(
     vs: &[usize],
     order: &[usize],
     factors: &[f64],
-    tree: &[bool],
+    bits: &[usize],
     signs: &mut [bool],
     chunks: Chunks,
     c: &mut [f64],
@@ -139,11 +139,11 @@ pub fn chunked_totals(
     squares: &mut [f64],
     fourths: &mut [f64],
 ) -> bool
-    requires { ⌜ Stage (now plan) (now us) (now vs) (now order) (length (now tree)) shape (length (now room)) (length (now c))
-        × EnoughFactors (length (now factors)) (length (now tree)) (shape .betas) × Summable chunks (now tree) (length (now signs))
+    requires { ⌜ Stage (now plan) (now us) (now vs) (now order) (length (now bits)) shape (length (now room)) (length (now c))
+        × EnoughFactors (length (now factors)) (length (now bits)) (shape .betas) × Summable chunks (now bits) (length (now signs))
         × Lists (shape .betas * length (now us)) (length (now subsquares)) (length (now subfourths)) (length (now squares)) (length (now fourths)) ⌝ }
     ensures { λ r. ⌜ ((J : ℕ → ℕ → ℕ → Job Float)
-        → PlanOfChunks J (now (plan .entry)) (now (factors .entry)) (now (tree .entry)) chunks shape
+        → PlanOfChunks J (now (plan .entry)) (now (factors .entry)) (now (bits .entry)) chunks shape
         → ChunksSummed J (now (us .entry)) (now (vs .entry)) (shape .betas) chunks r (now (squares .exit)) (now (fourths .exit))) ⌝ }
 {
     let sums = squares.len();
@@ -162,7 +162,7 @@ pub fn chunked_totals(
             vs,
             order,
             factors,
-            tree,
+            bits,
             signs,
             chunks,
             i,

@@ -28,7 +28,7 @@ fn enumerated_run(
     order: &[usize],
     factors: &[f64],
     b: usize,
-    tree: &[bool],
+    bits: &[usize],
     signs: &mut [bool],
     first: usize,
     size: usize,
@@ -36,10 +36,10 @@ fn enumerated_run(
     squares: &mut [f64],
     fourths: &mut [f64],
 ) -> bool
-    requires { ⌜ Stage (now plan) (now us) (now vs) (now order) (length (now tree)) shape (length (now room)) (length (now c))
-        × EnoughFactors (length (now factors)) (length (now tree)) (b + 1) × Enumerates (now tree) (length (now signs)) first size
+    requires { ⌜ Stage (now plan) (now us) (now vs) (now order) (length (now bits)) shape (length (now room)) (length (now c))
+        × EnoughFactors (length (now factors)) (length (now bits)) (b + 1) × Enumerates (now bits) (length (now signs)) first size
         × (length (now squares) ≡ length (now us)) × (length (now fourths) ≡ length (now us)) ⌝ }
-    ensures { λ r. ⌜ ((J : ℕ → Job Float) → PlanOfBeta J (now (plan .entry)) (now (factors .entry)) (now (tree .entry)) first b shape
+    ensures { λ r. ⌜ ((J : ℕ → Job Float) → PlanOfBeta J (now (plan .entry)) (now (factors .entry)) (now (bits .entry)) first b shape
         → (r ≡ not (some (λ j. unsound (J j) (now (us .entry)) (now (vs .entry))) size))
         × (r ≡ true → Sums (λ j. pairAt (J j) (now (us .entry)) (now (vs .entry))) size (length (now (us .entry)))
         (now (squares .exit)) (now (fourths .exit)))) ⌝ }
@@ -49,8 +49,8 @@ fn enumerated_run(
     fill(fourths, 0, sums, 0.0);
     let mut j = 0usize;
     while j < size {
-        let last = enumerated_signs(signs, tree, first + j);
-        let changed = standing_from(plan, shape.n, tree, last, j);
+        let last = enumerated_signs(signs, bits, first + j);
+        let changed = standing_from(plan, shape.n, bits, last, j);
         if !add_beta(
             room,
             plan,
@@ -83,7 +83,7 @@ pub fn enumerated_chunk(
     vs: &[usize],
     order: &[usize],
     factors: &[f64],
-    tree: &[bool],
+    bits: &[usize],
     signs: &mut [bool],
     first: usize,
     size: usize,
@@ -91,10 +91,10 @@ pub fn enumerated_chunk(
     squares: &mut [f64],
     fourths: &mut [f64],
 ) -> bool
-    requires { ⌜ Stage (now plan) (now us) (now vs) (now order) (length (now tree)) shape (length (now room)) (length (now c))
-        × EnoughFactors (length (now factors)) (length (now tree)) (shape .betas) × Enumerates (now tree) (length (now signs)) first size
+    requires { ⌜ Stage (now plan) (now us) (now vs) (now order) (length (now bits)) shape (length (now room)) (length (now c))
+        × EnoughFactors (length (now factors)) (length (now bits)) (shape .betas) × Enumerates (now bits) (length (now signs)) first size
         × (length (now squares) ≡ shape .betas * length (now us)) × (length (now fourths) ≡ shape .betas * length (now us)) ⌝ }
-    ensures { λ r. ⌜ ((J : ℕ → ℕ → Job Float) → PlanFrom J (now (plan .entry)) (now (factors .entry)) (now (tree .entry)) first shape
+    ensures { λ r. ⌜ ((J : ℕ → ℕ → Job Float) → PlanFrom J (now (plan .entry)) (now (factors .entry)) (now (bits .entry)) first shape
         → RunSummed J (now (us .entry)) (now (vs .entry)) (shape .betas) size r (now (squares .exit)) (now (fourths .exit))) ⌝ }
 {
     let pairs = us.len();
@@ -111,7 +111,7 @@ pub fn enumerated_chunk(
             order,
             factors,
             b,
-            tree,
+            bits,
             signs,
             first,
             size,

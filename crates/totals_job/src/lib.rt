@@ -1,15 +1,8 @@
 // A call for totals that passed its checks: from its kept edges to the totals.
 ghost use mathlib.Core.Path.{_≡_};
-ghost use mathlib.Core.Bool.{false};
-ghost use Prim.Native.Nat.{_*_, _≤_};
+ghost use Prim.Native.Nat.{_*_};
 ghost use lib.ListN.{length};
-ghost use Rattle.limits.specs.Limits.{mostVertices};
-ghost use Rattle.list_laws.specs.Tabulate.{tabulate};
-ghost use Rattle.forest.specs.Labels.{isTree};
-ghost use Rattle.forest.specs.Paths.{Edges};
-ghost use Rattle.graph.specs.Graphs.{freeCount};
 ghost use Rattle.totals_call.specs.Finished.{Passed, Numbered, stepping, TotalsAre};
-use forest::mark_tree_edges;
 use job_run::clear;
 use plan_layout::make_plan;
 use plan_layout::order_pairs;
@@ -22,25 +15,15 @@ use totals_chunks::Chunks;
 use totals_chunks::chunked_totals;
 use totals_configuration::JobShape;
 
-// Marks the tree edges, where configurations go by number; drawn ones read no mark.
-fn mark_edges(drawn: bool, n: usize, early: &[usize], late: &[usize], tree: &mut [bool])
-    requires { ⌜ Edges n (now early) (now late) × (n ≤ mostVertices) × (length (now tree) ≡ length (now early)) ⌝ }
-    ensures { λ _. ⌜ (drawn ≡ false
-        → now (tree .exit) ≡ tabulate (isTree (now (early .entry)) (now (late .entry))) (length (now (early .entry)))) ⌝ }
-{
-    if !drawn {
-        mark_tree_edges(n, early, late, tree);
-    }
-}
-
-// The totals of chunks of configurations, with the room at +0.0 after: plans the job, orders its pairs, marks its tree edges, adds up and
-// clears. Returns whether every Z was finite and above zero; where one is not, all totals are +0.0.
+// The totals of chunks of configurations, with the room at +0.0 after: plans the job, orders its pairs, adds up and clears. Drawn
+// configurations read no bit. Returns whether every Z was finite and above zero; where one is not, all totals are +0.0.
 pub fn total_job(
     n: usize,
     w: usize,
     elementwise: bool,
     early: &[usize],
     late: &[usize],
+    bits: &[usize],
     us: &[usize],
     vs: &[usize],
     factors: &[f64],
@@ -51,14 +34,13 @@ pub fn total_job(
     work: &mut [f64],
 ) -> bool
     requires { ⌜ Passed n w (now early) (now late) (now us) (now vs) (length (now factors)) betas (length (now work))
-        × Numbered chunks (freeCount (now early) (now late))
+        × Numbered chunks (now early) (now late) (now bits)
         × (length (now squares) ≡ betas * length (now us)) × (length (now fourths) ≡ betas * length (now us)) ⌝ }
     ensures { λ r. ⌜ TotalsAre n w (now (early .entry)) (now (late .entry)) (now (factors .entry)) (stepping elementwise) (now (us .entry))
         (now (vs .entry)) betas chunks (length (now (early .entry))) r (now (squares .exit)) (now (fourths .exit)) (now (work .entry)) (now (work .exit)) ⌝ }
 {
     let mut plan = [0usize; PLAN];
     let mut orders = [0usize; PAIRS];
-    let mut trees = [false; EDGES];
     let mut signs = [false; EDGES];
     let mut c = [0.0f64; PAIRS];
     let mut subsquares = [0.0f64; SUMS];
@@ -67,10 +49,8 @@ pub fn total_job(
     let edges = early.len();
     let sums = squares.len();
     let order = &mut orders[..pairs];
-    let tree = &mut trees[..edges];
     let layout = make_plan(&mut plan, n, w, early, late, us, vs);
     order_pairs(order, n, w, us, vs);
-    mark_edges(chunks.drawn, n, early, late, tree);
     let shape = JobShape {
         n,
         w,
@@ -88,7 +68,7 @@ pub fn total_job(
         vs,
         order,
         factors,
-        tree,
+        bits,
         &mut signs[..edges],
         chunks,
         &mut c[..pairs],

@@ -8,7 +8,6 @@ use native.Mathlib.Decide.{decLt}
 use native.Mathlib.Numerals.{add-one}
 use native.Mathlib.Omega.{arith}
 use lib.ListN.{length, getD, drop, set, drop-of-length-le}
-use Rattle.list_laws.specs.Count.{count}
 use Rattle.list_laws.specs.Front.{over}
 use Rattle.list_laws.specs.Laws.Front.{over-more, over-behind}
 use Rattle.list_laws.specs.Tabulate.{tabulate}
@@ -32,15 +31,6 @@ module _ {A : Type 0} (f : ℕ → A) (before : List A) where
   filled-all e p =
       let l = tabulate-length f e in
       ap (λ (k : List A). tabulate f e ++ k) (drop-of-length-le before {i = length (tabulate f e)} (omega arith)) ∙ append-nil (tabulate f e)
-
--- no more pass below e than below n
-pub count-below : (test : ℕ → Bool) (e n : ℕ) → e ≤ n → count test e ≤ count test n
-unfolding count
-count-below test e zero l = let z : e ≡ 0 = omega arith in rw z (omega arith)
-count-below test e (suc n) l =
-    dite (decLt e (suc n))
-    (λ b. omega (arith, count-below test e n (omega arith)))
-    (λ b. let z : e ≡ suc n = omega arith in rw z (omega arith))
 
 -- ---- the signs that changed
 

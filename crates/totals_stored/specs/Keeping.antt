@@ -15,12 +15,12 @@ use Rattle.totals_stored.specs.Stored.{Stored}
 use Rattle.totals_enumerated.specs.Configurations.{enumeratedSigns}
 
 -- Before configuration x, where each is stored.
-pub record Keeping (plan us vs : List ℕ) (factors : List Float) (tree : List Bool) (s : JobShape) (x all : ℕ)
+pub record Keeping (plan us vs : List ℕ) (factors : List Float) (bits : List ℕ) (s : JobShape) (x all : ℕ)
     (room₀ room : List Float) (signs₀ signs : List Bool) (c₀ c stored₀ stored : List Float) : Type 0 where
   pub below : x ≤ all
   pub rooms : length room ≡ length room₀
   pub marks : length signs ≡ length signs₀
   pub results : length c ≡ length c₀
   pub storeds : length stored ≡ length stored₀
-  pub so-far : (J : ℕ → ℕ → Job Float) → PlanOfRun J plan factors (length tree) (enumeratedSigns tree) s → (some (λ y. some (λ b. unsound (J y b) us vs) (s .betas)) x ≡ false)
+  pub so-far : (J : ℕ → ℕ → Job Float) → PlanOfRun J plan factors (length bits) (enumeratedSigns bits) s → (some (λ y. some (λ b. unsound (J y b) us vs) (s .betas)) x ≡ false)
       × Stored (λ y. correlationAt (J y) us vs) all (s .betas * length us) x 0 stored

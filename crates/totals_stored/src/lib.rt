@@ -29,16 +29,16 @@ pub fn stored_correlations(
     vs: &[usize],
     order: &[usize],
     factors: &[f64],
-    tree: &[bool],
+    bits: &[usize],
     signs: &mut [bool],
     free: usize,
     c: &mut [f64],
     stored: &mut [f64],
 ) -> bool
-    requires { ⌜ Stage (now plan) (now us) (now vs) (now order) (length (now tree)) shape (length (now room)) (length (now c))
-        × EnoughFactors (length (now factors)) (length (now tree)) (shape .betas) × Enumerates (now tree) (length (now signs)) 0 (2 ^ free) × (free ≤ mostCounted)
+    requires { ⌜ Stage (now plan) (now us) (now vs) (now order) (length (now bits)) shape (length (now room)) (length (now c))
+        × EnoughFactors (length (now factors)) (length (now bits)) (shape .betas) × Enumerates (now bits) (length (now signs)) 0 (2 ^ free) × (free ≤ mostCounted)
         × (length (now stored) ≡ shape .betas * length (now us) * 2 ^ free) ⌝ }
-    ensures { λ r. ⌜ ((J : ℕ → ℕ → Job Float) → PlanOfRun J (now (plan .entry)) (now (factors .entry)) (length (now (tree .entry))) (enumeratedSigns (now (tree .entry))) shape
+    ensures { λ r. ⌜ ((J : ℕ → ℕ → Job Float) → PlanOfRun J (now (plan .entry)) (now (factors .entry)) (length (now (bits .entry))) (enumeratedSigns (now (bits .entry))) shape
         → (r ≡ not (some (λ x. unsoundBetas (J x) (now (us .entry)) (now (vs .entry)) (shape .betas)) (2 ^ free)))
         × (r ≡ true → now (stored .exit)
         ≡ tabulate (λ k. correlationAt (J (k % 2 ^ free)) (now (us .entry)) (now (vs .entry)) (k / 2 ^ free)) (shape .betas * length (now (us .entry)) * 2 ^ free))) ⌝ }
@@ -49,7 +49,7 @@ pub fn stored_correlations(
     let all = pow2(free);
     let mut x = 0usize;
     while x < all {
-        enumerated_signs(signs, tree, x);
+        enumerated_signs(signs, bits, x);
         if !store_configuration(
             room,
             plan,

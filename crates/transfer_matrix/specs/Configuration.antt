@@ -1,25 +1,19 @@
 -- The sign of each kept edge in a configuration, and the factors in use: of an enumerated configuration, and of a sample.
-use mathlib.Core.Bool.{Bool, cond, not, _&&_}
+use mathlib.Core.Bool.{Bool, cond, _&&_}
 use mathlib.Core.List.{List}
 use Prim.Native.Nat.{ℕ, zero, suc, _+_, _*_, _-_, _/_, _%_, _^_}
 use lib.ListN.{length, getD}
 use Rattle.rng.specs.Xoshiro.{result, next, streamed}
+use Rattle.edge_bits.specs.Having.{hasBit}
 use Rattle.list_laws.specs.Bits.{bit}
-use Rattle.list_laws.specs.Count.{count}
 use Rattle.list_laws.specs.Tabulate.{tabulate}
 use Rattle.transfer_matrix.specs.Job.{Edge, Manner, Job}
 
--- ---- enumeration: tree e says that kept edge e is a tree edge
+-- ---- enumeration: each kept edge has a bit of the configuration's number, or none
 
--- How many free edges stand before edge e: the bit of e's own, if it is free.
-unfoldable pub freeBefore : (ℕ → Bool) → ℕ → ℕ
-unfolding count
-freeBefore tree e = count (λ i. not (tree i)) e
-
--- Bit i of the configuration number gives the i-th free edge, 0 for plus; tree edges are plus.
-unfoldable pub enumeratedMinus : (ℕ → Bool) → ℕ → ℕ → Bool
-unfolding freeBefore
-enumeratedMinus tree configuration e = not (tree e) && bit (freeBefore tree e) configuration
+-- Configuration c gives edge e minus where e has a bit and that bit of c is set.
+unfoldable pub enumeratedMinus : (ℕ → ℕ) → ℕ → ℕ → Bool
+enumeratedMinus bits c e = hasBit (bits e) && bit (bits e) c
 
 -- ---- sampling
 

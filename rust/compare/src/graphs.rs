@@ -1,4 +1,4 @@
-//! Graphs: the kept edges, as they are and turned, with their raw places, window, components, free edges, tree edges and distances.
+//! Graphs: the kept edges, as they are and turned, with their raw places, window, components, free edges and their bits, and distances.
 
 use crate::draw::Draw;
 use crate::guarded::{equal, same, Guarded};
@@ -64,7 +64,7 @@ pub fn try_one(draw: &mut Draw) -> Result<usize, String> {
     let answers = [
         kept(draw, &lent, refusal, original.as_ref(), false)?,
         kept(draw, &lent, refusal, original.as_ref(), true)?,
-        trees(draw, &lent, refusal, original.as_ref())?,
+        forest(draw, &lent, refusal, original.as_ref())?,
         components(draw, &lent, refusal, original.as_ref())?,
         distance(draw, &lent, refusal, original.as_ref())?,
     ];
@@ -137,15 +137,21 @@ fn kept(draw: &mut Draw, lent: &Lent, refusal: usize, original: Option<&Graph>, 
     Ok(number)
 }
 
-fn trees(draw: &mut Draw, lent: &Lent, refusal: usize, original: Option<&Graph>) -> Result<usize, String> {
+/// The bits by the rules, which hold the original's tree marks.
+fn forest(draw: &mut Draw, lent: &Lent, refusal: usize, original: Option<&Graph>) -> Result<usize, String> {
     let wanted = original.map_or(lent.edges.a.len().min(20), |g| g.edges.len());
-    let before: Vec<bool> = (0..length(draw, wanted)).map(|_| draw.once_in(2)).collect();
-    let mut tree = Guarded::new(&before);
-    let pointer = tree.pointer_mut();
+    let before = vec![BEFORE; length(draw, wanted)];
+    let mut bits = Guarded::new(&before);
+    let pointer = bits.pointer_mut();
     let number = call!(copperhook_spanning_forest, lent; pointer, before.len());
     let expected = first(refusal, || unless(before.len() == wanted, 12));
-    equal("answer of the tree edges", number, expected)?;
-    tree.holds("tree", &original.filter(|_| expected == 0).map_or(before, |g| g.spanning_forest()))?;
+    equal("answer of the forest", number, expected)?;
+    let Some(g) = original.filter(|_| expected == 0) else {
+        return bits.holds("bits", &before).map(|()| number);
+    };
+    let rule = lent.edges.bits();
+    same("tree edges by the rules", &rule.iter().map(Option::is_none).collect::<Vec<bool>>(), &g.spanning_forest())?;
+    bits.holds("bits", &rule.iter().map(|bit| bit.unwrap_or(sys::COPPERHOOK_TREE)).collect::<Vec<usize>>())?;
     Ok(number)
 }
 

@@ -1,7 +1,8 @@
-//! Graphs: kept edges, window, tree edges, components and distances.
+//! Graphs: kept edges, window, spanning forest, components and distances.
 
 use crate::call::call_of_graph;
 use crate::refusal::Refusal;
+use crate::sys::COPPERHOOK_TREE;
 
 /// A graph as it is lent: edge i joins vertices `a[i]` and `b[i]`, in either order, with magnitude `m[i]`; one of magnitude zero is
 /// dropped. Any numbers and lengths may stand here: the calls refuse what is bad.
@@ -41,6 +42,25 @@ impl Components {
     /// Returns whether `v` is the lowest vertex of its component; no vertex from the graph's `n` on is.
     pub fn is_lowest(&self, v: usize) -> bool {
         self.marks.get(v / 64).is_some_and(|word| word >> (v % 64) & 1 == 1)
+    }
+}
+
+/// What a kept edge is in the spanning forest, and in an enumeration.
+#[derive(Clone, Copy, Debug, PartialEq, Eq)]
+pub enum ForestEdge {
+    /// A tree edge: no path of earlier kept edges joins its ends. Every configuration gives it plus.
+    Tree,
+    /// A free edge, with its bit: a configuration gives it minus where this bit of the configuration's number is set.
+    Bit(usize),
+}
+
+impl ForestEdge {
+    /// Returns the edge's bit, `None` for a tree edge.
+    pub fn bit(self) -> Option<usize> {
+        match self {
+            ForestEdge::Tree => None,
+            ForestEdge::Bit(bit) => Some(bit),
+        }
     }
 }
 
@@ -91,9 +111,15 @@ impl<'a> Graph<'a> {
         Refusal::told(number).map(|()| free)
     }
 
-    /// Marks each kept edge that is a tree edge: no path of earlier kept edges joins its ends. `tree` has one mark for each kept edge.
-    pub fn spanning_forest(&self, tree: &mut [bool]) -> Result<(), Refusal> {
-        Refusal::told(call_of_graph!(copperhook_spanning_forest(self; write tree)))
+    /// Tells of each kept edge whether it is a tree edge, and which bit it has if it is free: bits run from 0 in edge order, as many as
+    /// [`Graph::cyclomatic`] counts. `edges` has one entry for each kept edge.
+    pub fn spanning_forest(&self, edges: &mut [ForestEdge]) -> Result<(), Refusal> {
+        let mut bits = vec![0; edges.len()];
+        Refusal::told(call_of_graph!(copperhook_spanning_forest(self; write bits)))?;
+        for (edge, bit) in edges.iter_mut().zip(bits) {
+            *edge = if bit == COPPERHOOK_TREE { ForestEdge::Tree } else { ForestEdge::Bit(bit) };
+        }
+        Ok(())
     }
 
     /// Names each vertex's component by one of its vertices. `names` has one number for each vertex.

@@ -66,7 +66,7 @@ pub mod sys;
 
 pub use accuracy::mean_error_bound;
 pub use estimate::{estimate, estimates, sqrt, Estimate};
-pub use graph::{Components, Graph, Kept};
+pub use graph::{Components, ForestEdge, Graph, Kept};
 pub use job::{Job, Manner, Pair, Sampling};
 pub use kind::Kind;
 pub use lists::{EdgeList, Factors, KeptList, LabelledPair};

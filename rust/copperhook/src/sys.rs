@@ -5,6 +5,9 @@
 
 use crate::job::Pair;
 
+/// In the place of a bit: a tree edge, which has none.
+pub const COPPERHOOK_TREE: usize = usize::MAX;
+
 extern "C" {
     /// The doubles of work memory that a job needs.
     pub fn copperhook_room(
@@ -303,7 +306,7 @@ extern "C" {
         free_edges: *mut usize,
     ) -> usize;
 
-    /// Which kept edges are tree edges.
+    /// The bit of each kept edge, or [`COPPERHOOK_TREE`].
     pub fn copperhook_spanning_forest(
         n: usize,
         a: *const usize,
@@ -312,8 +315,8 @@ extern "C" {
         b_len: usize,
         m: *const f64,
         m_len: usize,
-        tree: *mut bool,
-        tree_len: usize,
+        bits: *mut usize,
+        bits_len: usize,
     ) -> usize;
 
     /// The name of each vertex's component.

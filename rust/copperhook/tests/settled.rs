@@ -1,5 +1,6 @@
 //! The settled examples of document 01, through the bindings, and what lists hold after calls that are refused.
 
+use copperhook::ForestEdge::{Bit, Tree};
 use copperhook::{
     estimate, estimates, mean_error_bound, Dilution, EdgeList, Estimate, Graph, Job, Kind, Manner, Pair, Refusal, Rng, Sampling, Strip,
 };
@@ -35,9 +36,9 @@ fn the_square() {
     let edges = strip.edge_list().unwrap();
     assert_eq!((&edges.a[..], &edges.b[..]), (&[0, 0, 1, 2][..], &[1, 2, 3, 3][..]));
     let graph = edges.graph(4);
-    let mut tree = [false; 4];
-    graph.spanning_forest(&mut tree).unwrap();
-    assert_eq!((graph.window(), tree, graph.cyclomatic()), (Ok(2), [true, true, true, false], Ok(1)));
+    let mut forest = [Tree; 4];
+    graph.spanning_forest(&mut forest).unwrap();
+    assert_eq!((graph.window(), forest, graph.cyclomatic()), (Ok(2), [Tree, Tree, Tree, Bit(0)], Ok(1)));
     assert_eq!((graph.distance(0, 3), graph.distance(3, 3), graph.distance(0, 4)), (Ok(Some(2)), Ok(Some(0)), Err(Refusal::PairEnds)));
     let job = Job { graph, us: &[0, 0], vs: &[1, 3] };
     let mut work = vec![0.0; job.room().unwrap()];
@@ -334,6 +335,21 @@ fn a_diluted_graph_has_the_strips_places_and_window() {
     assert_eq!(strip.diluted_kept(&Dilution { keep: 0.5, low: 1.0, high: 1.0, seed: 2 }).unwrap().raw, [1]);
 }
 
+/// However many free edges there are, each has its bit; a list of another length is refused and stays.
+#[test]
+fn bits_go_on_past_a_word() {
+    let strip = Strip { kind: Kind::Square, width: 9, length: 10, periodic: false };
+    let edges = strip.edge_list().unwrap();
+    let graph = edges.graph(90);
+    let mut forest = vec![Tree; edges.m.len()];
+    graph.spanning_forest(&mut forest).unwrap();
+    let bits: Vec<usize> = forest.iter().filter_map(|edge| edge.bit()).collect();
+    assert_eq!((graph.cyclomatic(), bits), (Ok(72), (0..72).collect()));
+    let mut short = vec![Bit(9); edges.m.len() - 1];
+    assert_eq!(graph.spanning_forest(&mut short), Err(Refusal::Buffer));
+    assert!(short.iter().all(|&edge| edge == Bit(9)));
+}
+
 /// Correlations, totals and every graph entry, on as many vertices as there may be.
 fn largest_calls() -> Result<(), Refusal> {
     let strip = Strip { kind: Kind::Triangular, width: 4, length: 256, periodic: true };
@@ -348,7 +364,7 @@ fn largest_calls() -> Result<(), Refusal> {
     graph.rotated(&mut [0; 4096], &mut [0; 4096], &mut [0.0; 4096], &mut [0; 4096])?;
     let by = Dilution { keep: 0.9, low: 0.5, high: 1.5, seed: 7 };
     strip.diluted_graph(&by, &mut [0; 4096], &mut [0; 4096], &mut [0.0; 4096], &mut [0; 4096])?;
-    graph.spanning_forest(&mut vec![false; edges.m.len()])?;
+    graph.spanning_forest(&mut vec![Tree; edges.m.len()])?;
     graph.components(&mut vec![0; 1024])?;
     graph.error_bound(&vec![1.5; edges.m.len()])?;
     let betas: [f64; 64] = std::array::from_fn(|i| 0.5 + i as f64 / 1024.0);

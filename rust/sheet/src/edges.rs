@@ -1,4 +1,4 @@
-//! The edges of a strip by their places in its edge list: which of them a job keeps, and which of these are free.
+//! The edges of a strip by their places in its edge list: which of them a job keeps, and which of these are free, with their bits.
 
 use crate::board::{counted, diluted, strip, title};
 use crate::explained;
@@ -7,14 +7,13 @@ use crate::record::{lines, Record};
 use crate::sheet::bits;
 use crate::text::aligned;
 use crate::trouble::Trouble;
-use copperhook::{EdgeList, Refusal, Strip};
+use copperhook::{EdgeList, ForestEdge, Refusal, Strip};
 
 /// What becomes of an edge.
 #[derive(Clone, Copy, Debug, PartialEq)]
 enum Fate {
     Dropped,
-    Tree,
-    Free,
+    Kept(ForestEdge),
 }
 
 impl Fate {
@@ -30,8 +29,16 @@ impl Fate {
     fn forest(self) -> Option<&'static str> {
         match self {
             Fate::Dropped => None,
-            Fate::Tree => Some("tree"),
-            Fate::Free => Some("free"),
+            Fate::Kept(ForestEdge::Tree) => Some("tree"),
+            Fate::Kept(ForestEdge::Bit(_)) => Some("free"),
+        }
+    }
+
+    /// The bit of a free edge.
+    fn bit(self) -> Option<usize> {
+        match self {
+            Fate::Dropped => None,
+            Fate::Kept(edge) => edge.bit(),
         }
     }
 }
@@ -50,11 +57,11 @@ struct Listing {
 fn fates(edges: &EdgeList, n: usize) -> Result<Vec<Fate>, Refusal> {
     let graph = edges.graph(n);
     let raw = graph.kept_list()?.raw;
-    let mut tree = vec![false; raw.len()];
-    graph.spanning_forest(&mut tree)?;
+    let mut forest = vec![ForestEdge::Tree; raw.len()];
+    graph.spanning_forest(&mut forest)?;
     let mut fates = vec![Fate::Dropped; edges.m.len()];
-    for (place, in_tree) in raw.into_iter().zip(tree) {
-        fates[place] = if in_tree { Fate::Tree } else { Fate::Free };
+    for (place, edge) in raw.into_iter().zip(forest) {
+        fates[place] = Fate::Kept(edge);
     }
     Ok(fates)
 }
@@ -66,24 +73,25 @@ impl Listing {
         let (n, window) = (strip.n().map_err(named)?, strip.window().map_err(named)?);
         let fates = fates(&edges, n).map_err(named)?;
         let many = |wanted: fn(&Fate) -> bool| fates.iter().filter(|&fate| wanted(fate)).count();
-        let (kept, free) = (many(|&fate| fate != Fate::Dropped), many(|&fate| fate == Fate::Free));
+        let (kept, free) = (many(|&fate| fate != Fate::Dropped), many(|&fate| fate.bit().is_some()));
         let title = title(&strip, diluted(options).as_deref(), [n, kept, window]);
         let record = Record::of_edges(options, &strip, [n, kept, free, window]);
         Ok(Listing { strip, edges, fates, title, record, bits: options.bits })
     }
 
-    /// Place, ends, magnitude, whether it is kept, and whether it is free, cell by cell; `nothing` stands for what a dropped edge has not.
+    /// Place, ends, magnitude, whether it is kept, whether it is free, and its bit, cell by cell; `nothing` stands for what an edge has not.
     fn row(&self, place: usize, nothing: &str) -> Vec<String> {
         let (magnitude, fate) = (self.edges.m[place], self.fates[place]);
         let mut cells = vec![place.to_string(), self.edges.a[place].to_string(), self.edges.b[place].to_string(), format!("{magnitude:?}")];
         cells.extend(self.bits.then(|| bits(magnitude)));
-        cells.extend([fate.kept().to_string(), fate.forest().unwrap_or(nothing).to_string()]);
+        let bit = fate.bit().map_or(nothing.to_string(), |bit| bit.to_string());
+        cells.extend([fate.kept().to_string(), fate.forest().unwrap_or(nothing).to_string(), bit]);
         cells
     }
 
     fn head(&self) -> Vec<String> {
         let bits = self.bits.then_some("magnitude_bits");
-        ["place", "u", "v", "magnitude"].into_iter().chain(bits).chain(["kept", "forest"]).map(String::from).collect()
+        ["place", "u", "v", "magnitude"].into_iter().chain(bits).chain(["kept", "forest", "bit"]).map(String::from).collect()
     }
 
     fn text(&self) -> String {
@@ -92,7 +100,7 @@ impl Listing {
         table.extend((0..self.fates.len()).map(|place| self.row(place, "-")));
         let record: String = lines(&self.record, 120).into_iter().map(|line| line + "\n").collect();
         format!(
-            "{}\n{count}, by place in the strip's edge list\n\n{}\na kept edge is in the spanning forest, or free: its sign tells configurations apart\n\n{record}",
+            "{}\n{count}, by place in the strip's edge list\n\n{}\na kept edge is in the spanning forest, or free: it is minus in configurations whose number has its bit set\n\n{record}",
             self.title,
             aligned(&table)
         )

@@ -24,7 +24,8 @@ what is asked of it
                              Vertex (x, y), x along and y across, is x times the width + y
     --edges                  its edges, and no pairs: each with its place in the strip's edge list, counted from 0, its
                              ends and magnitude, whether it is kept or dropped, and if kept, whether it is a tree edge
-                             or free; as text or csv. With --bits the bits of the magnitude too
+                             or free, with its bit of a configuration's number; as text or csv. With --bits the bits
+                             of the magnitude too
     --manner M               block (the default) or element: how often a sweep is rescaled; the last bits depend on it
 of which configurations: one of these; without any, all, where at most 20 edges are free
     --signs S                one: the sign of each kept edge in order, as +-++, or plus for all

@@ -12,13 +12,13 @@ fn the_settled_square() {
 square strip, free, 2 by 2: 4 vertices, 4 kept edges, window 2
 4 edges, by place in the strip's edge list
 
-place  u  v  magnitude  kept  forest
-0      0  1        1.0  kept    tree
-1      0  2        1.0  kept    tree
-2      1  3        1.0  kept    tree
-3      2  3        1.0  kept    free
+place  u  v  magnitude  kept  forest  bit
+0      0  1        1.0  kept    tree    -
+1      0  2        1.0  kept    tree    -
+2      1  3        1.0  kept    tree    -
+3      2  3        1.0  kept    free    0
 
-a kept edge is in the spanning forest, or free: its sign tells configurations apart
+a kept edge is in the spanning forest, or free: it is minus in configurations whose number has its bit set
 ";
     assert_eq!(body(&printed("--kind square --width 2 --length 2 --edges")), expected);
 }
@@ -27,12 +27,11 @@ a kept edge is in the spanning forest, or free: its sign tells configurations ap
 fn rows(strip: &Strip, by: [f64; 3], seed: u64) -> Vec<String> {
     let raw = drawn(strip.raw_edges(), by, seed);
     let edges = Edges::new(strip.n(), &raw);
-    let (places, free) = (edges.places(), edges.free());
+    let (places, bits) = (edges.places(), edges.bits());
     let row = |(place, &(u, v, m)): (usize, &(usize, usize, f64))| {
         let fate = match places.iter().position(|&kept| kept == place) {
-            None => "dropped,",
-            Some(kept) if free.contains(&kept) => "kept,free",
-            Some(_) => "kept,tree",
+            None => "dropped,,".to_string(),
+            Some(kept) => bits[kept].map_or("kept,tree,".to_string(), |bit| format!("kept,free,{bit}")),
         };
         format!("{},{},{},{},{place},{u},{v},{m:?},0x{:016x},{fate}", strip.kind.name(), strip.bc(), strip.w, strip.l, m.to_bits())
     };
@@ -48,7 +47,7 @@ fn every_edge_is_told_with_its_place() {
         let cylinder = if periodic { "--cylinder" } else { "" };
         let line = format!("--kind {} --width {w} --length {l} {cylinder} --dilute {keep},-1,2,9 --edges --format csv --bits", kind.name());
         let csv = table(&printed(&line));
-        let head = "kind,boundary,width,length,place,u,v,magnitude,magnitude_bits,kept,forest";
+        let head = "kind,boundary,width,length,place,u,v,magnitude,magnitude_bits,kept,forest,bit";
         let expected: String = [head.to_string()].into_iter().chain(rows(&strip, [keep, -1.0, 2.0], 9)).map(|row| row + "\n").collect();
         assert_eq!(csv, expected, "{line}");
     }

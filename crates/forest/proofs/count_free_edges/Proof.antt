@@ -1,21 +1,16 @@
--- Each tree edge makes of two components one, so the edges and the components are at least as many as the vertices.
+-- The bits lie in a list that is made here.
+use mathlib.Core.Path.{sym}
 use native.Mathlib.Omega.{arith}
 use borrow.Author.Needs.{needs}
-use Rattle.forest.specs.Laws.Components.{trees-and-components, enough-edges, free-edges}
+use lib.Seq.{length-take-le}
 use Rattle.forest.proofs.count_free_edges.Statement.{statement}
 use Rattle.forest.proofs.count_free_edges.Tie as tie
 
-count-components-requires : tie.Need-count-components-requires
-count-components-requires c κs = search needs
+slice-aggregate-number-free-edges : tie.Need-slice-aggregate-number-free-edges
+slice-aggregate-number-free-edges c = sym (length-take-le _ _ (omega arith))
 
-add-result : tie.Need-add-result
-add-result c = omega (arith, trees-and-components (c .before .before .before .pre .0))
-
-sub-result : tie.Need-sub-result
-sub-result c = omega (arith, enough-edges (c .before .before .before .pre .0))
-
-returns : tie.Need-returns
-returns c = (cc, cc (free-edges (c .before .before .before .pre .0)))
+number-free-edges-requires : tie.Need-number-free-edges-requires
+number-free-edges-requires c κs = let p = c .before .before .before .pre in (p .0, p .1, length-take-le _ _ (omega arith))
 
 pub count-free-edges-spec : {M : Type 1} → statement M
-count-free-edges-spec = tie.close (tie.spec count-components-requires add-result sub-result returns)
+count-free-edges-spec = tie.close (tie.spec (λ c. search needs) slice-aggregate-number-free-edges number-free-edges-requires (λ c. search needs))

@@ -11,7 +11,7 @@ use lib.Dec.{eqb}
 use lib.ListN.{length}
 use borrow.Author.Tests.{eq-eqb, ne-eqb, eqb-true}
 use Rattle.list_laws.specs.Count.{count}
-use Rattle.list_laws.specs.Laws.Count.{count-zero, count-hit, count-miss, count-most, count-both, count-ext}
+use Rattle.list_laws.specs.Laws.Count.{count-zero, count-hit, count-miss, count-ext}
 use Rattle.forest.specs.Paths.{end, Edges, Joined}
 use Rattle.forest.specs.Labels.{merge, labels, isTree}
 use Rattle.forest.specs.Laws.Labels.{merge-in, merge-out, merge-same, label-own, label-below}
@@ -111,11 +111,3 @@ module _ {n : ℕ} {early late : List ℕ} (E : Edges n early late) where
   pub trees-and-components : count (isTree early late) (length early) + componentCount n early late ≡ n
   unfolding componentCount labels
   trees-and-components = own-and-trees n (isTree early late) (labels early late) (length early) (λ v. refl) one-merged
-
-  -- ---- the edges that are no tree edges
-
-  pub enough-edges : n ≤ length early + componentCount n early late
-  enough-edges = omega (arith, trees-and-components, count-most (isTree early late) (length early))
-
-  pub free-edges : count (λ e. not (isTree early late e)) (length early) ≡ length early + componentCount n early late - n
-  free-edges = omega (arith, trees-and-components, count-both (isTree early late) (length early))

@@ -8,11 +8,9 @@ use native.Mathlib.Nat.{le-refl, not-suc-le-zero}
 use native.Mathlib.Decide.{ℕ-discrete}
 use native.Mathlib.Omega.{arith}
 use lib.Dec.{eqb}
-use lib.ListN.{length, getD}
+use lib.ListN.{length}
 use borrow.Author.Tests.{eq-eqb, ne-eqb, eqb-true, not-false}
-use Rattle.list_laws.specs.Tabulate.{tabulate}
-use Rattle.list_laws.specs.Laws.Tabulate.{tabulate-length, tabulate-at}
-use Rattle.forest.specs.Paths.{end, Edges, Link, Joined, stay, along, Closes, Spans}
+use Rattle.forest.specs.Paths.{end, Edges, Link, Joined, stay, along, Closes}
 use Rattle.forest.specs.Labels.{merge, labels, isTree}
 
 -- ---- one merge
@@ -148,15 +146,3 @@ module _ (early late : List ℕ) where
   pub free-closes : (e : ℕ) → isTree early late e ≡ false → Closes early late e
   unfolding isTree
   free-closes e t = labels-joined e (end early e) (end late e) (eqb-true _ _ (not-false _ t))
-
-  -- so the list of these tests spans
-  pub trees-span : Spans early late (tabulate (isTree early late) (length early))
-  trees-span =
-      record {
-        marks = tabulate-length (isTree early late) (length early);
-        marked = λ e h t. tree-open e (sym (mark e h) ∙ t);
-        unmarked = λ e h t. free-closes e (sym (mark e h) ∙ t);
-      }
-    where
-      mark : (e : ℕ) → e < length early → getD (tabulate (isTree early late) (length early)) e false ≡ isTree early late e
-      mark e h = tabulate-at (isTree early late) (length early) e false h

@@ -1,18 +1,18 @@
 -- A call that its checks pass, from the fronts of the lists that its kept edges stand in.
 use mathlib.Core.Path.{_≡_, sym, ap, _∙_, subst}
 use mathlib.Core.Bool.{Bool, true, false, not}
-use mathlib.Core.List.{List}
+use mathlib.Core.List.{List, _++_}
 use Prim.Native.Nat.{ℕ, _-_, _*_, _≤_, _<_}
 use native.Mathlib.Nat.{mul-le-mul-right}
 use native.Mathlib.Decide.{decLt}
 use native.Mathlib.Omega.{arith}
 use lib.Dec.{eqb, ltb}
 use lib.Ieee.{Float}
-use lib.ListN.{length, take}
+use lib.ListN.{length, take, length-append}
+use lib.Seq.{take-append-seam}
 use borrow.Author.Tests.{lt-ltb, ltb-false, eqb-true, not-false}
-use Rattle.list_laws.specs.Count.{count}
 use Rattle.list_laws.specs.Laws.Search.{or-false}
-use Rattle.forest.specs.Labels.{isTree}
+use Rattle.forest.specs.FreeEdges.{freeCount, bitsOf}
 use Rattle.forest.specs.Paths as Paths
 use Rattle.transfer_matrix.specs.Job as Job
 use Rattle.transfer_matrix.specs.Room.{room}
@@ -27,7 +27,6 @@ use Rattle.refusals.specs.AcceptedTotals.{misfits, enumerationLists, samplingLi
 use Rattle.refusals.specs.Laws.AcceptedTotals.{misfits-alone, few-samples}
 use Rattle.plan_steps.specs.Edges.{Edges}
 use Rattle.kept_edges.specs.Laws.Fronts.{front-early, front-late, early-part}
-use Rattle.graph.specs.Graphs.{freeCount}
 use Rattle.job_checks.specs.Checked.{ReadyJob}
 use Rattle.job_checks.specs.Laws.Plannable.{edge-count, plannable}
 use Rattle.totals_configuration.specs.Powers.{correlationAt}
@@ -36,6 +35,7 @@ use Rattle.totals_chunks.specs.Totals.{allChunks, drawnChunks}
 use Rattle.totals_chunks.specs.Laws.Blocks.{all-unsound, all-totals, all-fit}
 use Rattle.totals_call.specs.Jobs.{jobEnumerated, unsoundEnumeration, unsoundIn, enumeratedTotals, totalsIn}
 use Rattle.totals_call.specs.Finished.{Passed, Numbered, Finished, TotalsAre, StoredAre}
+use Rattle.totals_call.specs.Laws.Signing.{as-long}
 
 -- a sum for each beta and pair
 pub few-products : (betas pairs : ℕ) → betas ≤ 64 → pairs ≤ 256 → betas * pairs ≤ 16384
@@ -48,6 +48,13 @@ joins g = record {
   early-below = λ e l. omega (arith, g .ordered e l, g .inside e l);
   late-below = λ e l. g .inside e l;
 }
+
+-- a list that was filled in the front of a longer one
+pub front-fits : {k : ℕ} (xs ys : List ℕ) → length xs ≡ k → k ≤ length (xs ++ ys)
+front-fits xs ys e = omega (arith, length-append xs ys)
+
+pub front-is : {k : ℕ} (xs ys : List ℕ) → length xs ≡ k → take k (xs ++ ys) ≡ xs
+front-is xs ys e = rw (← e) (take-append-seam xs ys)
 
 -- both buffers are of the length that is wanted
 pub fits-both : (wanted squares fourths : ℕ) → misfits wanted squares fourths ≡ false → (squares ≡ wanted) × (fourths ≡ wanted)
@@ -104,16 +111,8 @@ module _ {n floor : ℕ} {a b : List ℕ} {m : List Float} {us vs : List ℕ} {k
       (p .0, p .1, ltb-false most free (t9 .0))
 
   -- the free edges of the fronts are those of the kept edges
-  pub free-is : (free : ℕ) → free ≡ count (λ e. not (isTree (take k early′) (take k late′) e)) (length (take k early′)) → free ≡ freeCount (take k early′) (take k late′)
-  unfolding freeCount
-  free-is free e = e
-
-  free-fronts : freeCount (take k early′) (take k late′) ≡ freeCount (keptEarly a b m) (keptLate a b m)
-  free-fronts = rw (front-early (g .written), front-late (g .written))
-
-  pub free-kept : (free : ℕ) → free ≡ count (λ e. not (isTree (take k early′) (take k late′) e)) (length (take k early′))
-      → free ≡ freeCount (keptEarly a b m) (keptLate a b m)
-  free-kept free e = free-is free e ∙ free-fronts
+  pub free-kept : (free : ℕ) → free ≡ freeCount (take k early′) (take k late′) → free ≡ freeCount (keptEarly a b m) (keptLate a b m)
+  free-kept free e = rw (front-early (g .written), front-late (g .written)) at e
 
   -- ---- of an enumeration that stores each correlation
 
@@ -166,12 +165,18 @@ module _ {n floor : ℕ} {a b : List ℕ} {m : List Float} {us vs : List ℕ} {k
 -- ---- chunks
 
 -- all configurations, of few enough free edges
-pub all-numbered : (k : Chunks) (free graph : ℕ) → k ≡ allChunks free → free ≤ 34 → free ≡ graph → Numbered k graph
-all-numbered k free graph e few f = record { few = λ _. omega arith; fits = λ _. rw e (all-fit free few) }
+pub all-numbered : (k : Chunks) (free : ℕ) (early late bits : List ℕ) → k ≡ allChunks free → free ≤ 34 → free ≡ freeCount early late → bits ≡ bitsOf early late
+    → Numbered k early late bits
+all-numbered k free early late bits e few f given = record {
+  long = as-long early late bits given;
+  given = λ _. given;
+  few = λ _. omega arith;
+  fits = λ _. rw e (all-fit free few);
+}
 
 -- drawn ones
-pub drawn-numbered : (seed from to samples graph : ℕ) → Numbered (drawnChunks seed from to samples) graph
-drawn-numbered seed from to samples graph = record { few = λ z. absurd (no z); fits = λ z. absurd (no z) }
+pub drawn-numbered : (seed from to samples : ℕ) (early late bits : List ℕ) → length bits ≡ length early → Numbered (drawnChunks seed from to samples) early late bits
+drawn-numbered seed from to samples early late bits l = record { long = l; given = λ z. absurd (no z); few = λ z. absurd (no z); fits = λ z. absurd (no z) }
   where
     no : true ≡ false → ⊥
     no z = let z′ : _≡_ {A = ℕ} 0 1 = cc in omega arith

@@ -1,23 +1,23 @@
 -- The plan of a job is that of each of its configurations.
 use mathlib.Core.Path.{_≡_, refl, sym, ap, _∙_, subst}
-use mathlib.Core.Bool.{Bool, true, false, cond, not, _&&_}
+use mathlib.Core.Bool.{Bool, true, false, cond, _&&_}
 use mathlib.Core.List.{List}
 use Prim.Native.Nat.{ℕ, _+_, _-_, _*_, _≤_, _<_}
 use native.Mathlib.Omega.{arith}
 use lib.Ieee.{Float, nan}
 use lib.ListN.{length, getD}
 use Rattle.list_laws.specs.Bits.{bit}
-use Rattle.list_laws.specs.Count.{count}
-use Rattle.list_laws.specs.Laws.Count.{count-ext}
 use Rattle.list_laws.specs.Tabulate.{tabulate}
 use Rattle.list_laws.specs.Laws.Tabulate.{tabulate-length, tabulate-at, tabulate-ext}
-use Rattle.forest.specs.Labels.{isTree}
+use Rattle.edge_bits.specs.Having.{hasBit}
+use Rattle.forest.specs.FreeEdges.{freeCount, bitOf, bitsOf}
+use Rattle.forest.specs.Laws.FreeEdges.{bits-long, bits-at, bit-below}
 use Rattle.transfer_matrix.specs.Job.{Edge}
-use Rattle.transfer_matrix.specs.Configuration.{freeBefore, enumeratedMinus, sampledMinus, lentAt, edgesWith, configured}
-use Rattle.graph.specs.Graphs.{freeCount}
+use Rattle.transfer_matrix.specs.Configuration.{enumeratedMinus, sampledMinus, lentAt, edgesWith, configured}
 use Rattle.plan_layout.specs.Work.{Planned}
 use Rattle.vertex_step.specs.Ready.{PlanOf}
 use Rattle.pair_correlations.specs.Laws.Planning.{plan-of}
+use Rattle.totals_signs.specs.Fit.{BitsFit}
 use Rattle.totals_signs.specs.Signed.{factorsInUse}
 use Rattle.totals_configuration.specs.declared.JobShape.{JobShape}
 use Rattle.totals_configuration.specs.Signed.{PlanOfAll, PlanOfRun}
@@ -28,32 +28,29 @@ use Rattle.totals_chunks.specs.Totals.{PlanOfChunks}
 use Rattle.totals_call.specs.Jobs.{jobSigned, jobEnumerated, jobIn}
 use Rattle.totals_call.specs.Finished.{stepping}
 
--- ---- the marks of the tree edges, as a list and as a rule
+-- ---- the bits of the edges, as a list and as a rule
 
--- rules that agree up to an edge give it one sign
-same-minus : (s t : ℕ → Bool) (x e : ℕ) → ((i : ℕ) → i ≤ e → s i ≡ t i) → enumeratedMinus s x e ≡ enumeratedMinus t x e
-unfolding enumeratedMinus freeBefore
-same-minus s t x e h =
-    let q = count-ext (λ i. not (s i)) (λ i. not (t i)) e (λ i l. ap not (h i (omega arith))) in
-    ap (λ (y : Bool). not y && bit (count (λ i. not (s i)) e) x) (h e (omega arith)) ∙ ap (λ (k : ℕ). not (t e) && bit k x) q
+-- rules that agree at an edge give it one sign
+same-minus : (s t : ℕ → ℕ) (x e : ℕ) → s e ≡ t e → enumeratedMinus s x e ≡ enumeratedMinus t x e
+unfolding enumeratedMinus
+same-minus s t x e h = ap (λ (b : ℕ). hasBit b && bit b x) h
 
-module _ (early late : List ℕ) (tree : List Bool) (marked : tree ≡ tabulate (isTree early late) (length early)) where
-  mark : (e : ℕ) → e < length early → getD tree e false ≡ isTree early late e
-  mark e l = ap (λ (y : List Bool). getD y e false) marked ∙ tabulate-at (isTree early late) (length early) e false l
+module _ (early late bits : List ℕ) (given : bits ≡ bitsOf early late) where
+  own : (e : ℕ) → e < length early → getD bits e 0 ≡ bitOf early late e
+  own e l = ap (λ (y : List ℕ). getD y e 0) given ∙ bits-at early late e l
 
-  pub marks-long : length tree ≡ length early
-  marks-long = ap length marked ∙ tabulate-length (isTree early late) (length early)
+  pub as-long : length bits ≡ length early
+  as-long = ap length given ∙ bits-long early late
 
-  pub marks-free : freeBefore (λ e. getD tree e false) (length tree) ≡ freeCount early late
-  unfolding freeBefore freeCount
-  marks-free =
-      ap (count (λ e. not (getD tree e false))) marks-long
-      ∙ count-ext (λ e. not (getD tree e false)) (λ e. not (isTree early late e)) (length early) (λ e l. ap not (mark e l))
+  pub few-bits : freeCount early late ≤ 64 → BitsFit bits
+  few-bits few e l t =
+      let k : e < length early = omega (arith, as-long) in
+      omega (arith, own e k, bit-below early late e k (ap hasBit (sym (own e k)) ∙ t))
 
-  same-signs : (x : ℕ) → enumeratedSigns tree x ≡ tabulate (enumeratedMinus (isTree early late) x) (length early)
+  same-signs : (x : ℕ) → enumeratedSigns bits x ≡ tabulate (enumeratedMinus (bitOf early late) x) (length early)
   same-signs x =
-      ap (tabulate (enumeratedMinus (λ e. getD tree e false) x)) marks-long
-      ∙ tabulate-ext _ _ (length early) (λ e l. same-minus (λ i. getD tree i false) (isTree early late) x e (λ i k. mark i (omega arith)))
+      ap (tabulate (enumeratedMinus (λ e. getD bits e 0) x)) as-long
+      ∙ tabulate-ext _ _ (length early) (λ e l. same-minus (λ i. getD bits i 0) (bitOf early late) x e (own e l))
 
 -- ---- the plan
 
@@ -89,23 +86,22 @@ module _ (plan early late us vs : List ℕ) (n w places scales at end : ℕ) (g 
       (subst (λ (l : List Bool). PlanOfAll J plan factors (length early) l shape) (sym s) (signed-plan minus))
 
   -- configurations by number
-  pub numbered-plan : (tree : List Bool) → tree ≡ tabulate (isTree early late) (length early)
-      → PlanOfRun (jobEnumerated n w early late factors (stepping elementwise)) plan factors (length tree) (enumeratedSigns tree) shape
-  numbered-plan tree marked x =
-      listed-plan (enumeratedMinus (isTree early late) x) (length tree) (enumeratedSigns tree x) (marks-long early late tree marked)
-      (same-signs early late tree marked x)
+  pub numbered-plan : (bits : List ℕ) → bits ≡ bitsOf early late
+      → PlanOfRun (jobEnumerated n w early late factors (stepping elementwise)) plan factors (length bits) (enumeratedSigns bits) shape
+  numbered-plan bits given x =
+      listed-plan (enumeratedMinus (bitOf early late) x) (length bits) (enumeratedSigns bits x) (as-long early late bits given)
+      (same-signs early late bits given x)
 
-  -- and chunk by chunk, where drawn ones read no mark
-  pub chunked-plan : (k : Chunks) (tree : List Bool) → length tree ≡ length early
-      → (k .drawn ≡ false → tree ≡ tabulate (isTree early late) (length early))
-      → PlanOfChunks (jobIn n w early late factors (stepping elementwise) k) plan factors tree k shape
-  chunked-plan k tree long marked i j = go (k .drawn) refl
+  -- and chunk by chunk, where drawn ones read no bit
+  pub chunked-plan : (k : Chunks) (bits : List ℕ) → length bits ≡ length early → (k .drawn ≡ false → bits ≡ bitsOf early late)
+      → PlanOfChunks (jobIn n w early late factors (stepping elementwise) k) plan factors bits k shape
+  chunked-plan k bits long given i j = go (k .drawn) refl
     where
       go : (d : Bool) → k .drawn ≡ d
           → PlanOfAll (jobSigned n w early late factors (stepping elementwise)
-          (cond d (sampledMinus (k .seed) (length early) i j) (enumeratedMinus (isTree early late) (i * k .size + j)))) plan factors (length tree)
-          (cond d (sampledSigns (k .seed) (length tree) i j) (enumeratedSigns tree (i * k .size + j))) shape
+          (cond d (sampledMinus (k .seed) (length early) i j) (enumeratedMinus (bitOf early late) (i * k .size + j)))) plan factors (length bits)
+          (cond d (sampledSigns (k .seed) (length bits) i j) (enumeratedSigns bits (i * k .size + j))) shape
       go true e =
-          listed-plan (sampledMinus (k .seed) (length early) i j) (length tree) (sampledSigns (k .seed) (length tree) i j) long
+          listed-plan (sampledMinus (k .seed) (length early) i j) (length bits) (sampledSigns (k .seed) (length bits) i j) long
           (ap (λ (m : ℕ). sampledSigns (k .seed) m i j) long)
-      go false e = numbered-plan tree (marked e) (i * k .size + j)
+      go false e = numbered-plan bits (given e) (i * k .size + j)

@@ -11,10 +11,9 @@ use lib.Pow.{pow-mono}
 use lib.Seq.{length-take-le}
 use Rattle.list_laws.specs.Search.{some}
 use Rattle.list_laws.specs.Tabulate.{tabulate}
-use Rattle.forest.specs.Labels.{isTree}
+use Rattle.forest.specs.FreeEdges.{freeCount, bitsOf}
 use Rattle.transfer_matrix.specs.Room.{room}
 use Rattle.transfer_matrix.specs.Job.{Job}
-use Rattle.graph.specs.Graphs.{freeCount}
 use Rattle.plan_steps.specs.Layout.{Holds}
 use Rattle.plan_layout.specs.Order.{Ordered}
 use Rattle.plan_layout.specs.Work.{Planned}
@@ -27,7 +26,7 @@ use Rattle.totals_enumerated.specs.Configurations.{Enumerates}
 use Rattle.job_run.specs.Zeros.{zeros}
 use Rattle.totals_call.specs.Finished.{Passed, Numbered, Finished, Answered}
 use Rattle.totals_call.specs.Laws.Entering.{few-products}
-use Rattle.totals_call.specs.Laws.Signing.{marks-long, marks-free}
+use Rattle.totals_call.specs.Laws.Signing.{as-long, few-bits}
 
 module _ {n w : ℕ} {early late us vs : List ℕ} {factors betas work : ℕ} (p : Passed n w early late us vs factors betas work) where
   pub enough-factors : (m : ℕ) → m ≡ length early → EnoughFactors factors m betas
@@ -72,22 +71,21 @@ module _ {n w : ℕ} {early late us vs : List ℕ} {factors betas work : ℕ} (p
               ∙ ap (λ (j : ℕ). zeros (room n w (length early) us vs) ++ drop j memory) (sym k);
         }
 
-pub enumerates : (early late : List ℕ) (tree : List Bool) (signs free : ℕ) → tree ≡ tabulate (isTree early late) (length early) → signs ≡ length early
-    → free ≡ freeCount early late → free ≤ 34 → Enumerates tree signs 0 (2 ^ free)
-enumerates early late tree signs free marked e f few =
+pub enumerates : (early late bits : List ℕ) (signs free : ℕ) → bits ≡ bitsOf early late → signs ≡ length early → free ≡ freeCount early late → free ≤ 34
+    → Enumerates bits signs 0 (2 ^ free)
+enumerates early late bits signs free given e f few =
     let m : 2 ^ free ≤ 2 ^ 34 = pow-mono few in
     record {
-      matched = e ∙ sym (marks-long early late tree marked);
-      free = omega (arith, marks-free early late tree marked);
+      matched = e ∙ sym (as-long early late bits given);
+      bits-fit = few-bits early late bits given (omega arith);
       fits = omega arith;
     }
 
 -- what the chunks of so many free edges ask for
-pub summable : (early late : List ℕ) (k : Chunks) (tree : List Bool) (signs : ℕ) → Numbered k (freeCount early late) → length tree ≡ length early
-    → signs ≡ length early → (k .drawn ≡ false → tree ≡ tabulate (isTree early late) (length early)) → Summable k tree signs
-summable early late k tree signs g long e marked = record {
-  matched = e ∙ sym long;
-  few = λ d. omega (arith, marks-free early late tree (marked d), g .few d);
+pub summable : (early late : List ℕ) (k : Chunks) (bits : List ℕ) (signs : ℕ) → Numbered k early late bits → signs ≡ length early → Summable k bits signs
+summable early late k bits signs g e = record {
+  matched = e ∙ sym (g .long);
+  bits-fit = λ d. few-bits early late bits (g .given d) (omega (arith, g .few d));
   fits = g .fits;
 }
 

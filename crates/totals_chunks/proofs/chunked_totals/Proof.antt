@@ -21,17 +21,17 @@ use Rattle.totals_chunks.proofs.chunked_totals.Statement.{statement}
 use Rattle.totals_chunks.proofs.chunked_totals.Tie as tie
 
 abbrev Inv-loop : tie.InvT-loop
-Inv-loop room₀ plan shape us vs order factors tree signs₀ chunks c₀ subsquares₀ subfourths₀ squares₀ fourths₀ sums i₀ room signs c subsquares subfourths squares fourths i = Chunking plan us vs factors tree chunks shape i room₀ room signs₀ signs c₀ c subsquares₀ subsquares subfourths₀ subfourths squares₀ squares fourths₀ fourths
+Inv-loop room₀ plan shape us vs order factors bits signs₀ chunks c₀ subsquares₀ subfourths₀ squares₀ fourths₀ sums i₀ room signs c subsquares subfourths squares fourths i = Chunking plan us vs factors bits chunks shape i room₀ room signs₀ signs c₀ c subsquares₀ subsquares subfourths₀ subfourths squares₀ squares fourths₀ fourths
 
 abbrev μ-loop : tie.MeasureT-loop
-μ-loop room₀ plan shape us vs order factors tree signs₀ chunks c₀ subsquares₀ subfourths₀ squares₀ fourths₀ sums i₀ room signs c subsquares subfourths squares fourths i = chunks .end - i
+μ-loop room₀ plan shape us vs order factors bits signs₀ chunks c₀ subsquares₀ subfourths₀ squares₀ fourths₀ sums i₀ room signs c subsquares subfourths squares fourths i = chunks .end - i
 
 -- what was found of chunk i, counted from the first
 found : (c : tie.After-sum-chunk Inv-loop μ-loop)
     → let a = c .before .before .before .before .before .before .before .before .before .before .before .before .before .before .before .before .before .before .before .before .before .before .before .before .before .before .before .before .before .before .before .before .args in
     let i = c .before .before .before .before .before .before .before .before .loop .i in
     let r = c .sum-chunk in
-    (J : ℕ → ℕ → ℕ → Job Float) → PlanOfChunks J (a .plan .now) (a .factors .now) (a .tree .now) (a .chunks) (a .shape)
+    (J : ℕ → ℕ → ℕ → Job Float) → PlanOfChunks J (a .plan .now) (a .factors .now) (a .bits .now) (a .chunks) (a .shape)
     → (r .result ≡ not (some (λ j. unsoundBetas (J (a .chunks .first + (i - a .chunks .first)) j) (a .us .now) (a .vs .now) (a .shape .betas)) (a .chunks .size)))
     × (r .result ≡ true → Sums (λ j. correlationAt (J (a .chunks .first + (i - a .chunks .first)) j) (a .us .now) (a .vs .now)) (a .chunks .size) (a .shape .betas * length (a .us .now)) (r .last .1 .1 .1 .1 .1 .1 .1 .1 .1 .1 .1 .1 .0) (r .last .1 .1 .1 .1 .1 .1 .1 .1 .1 .1 .1 .1 .1 .0))
 found c J of =
@@ -85,7 +85,7 @@ sum-chunk-requires c κs =
     let g = p .2 in (
       stage-with (p .0) refl (i .rooms) (i .results),
       p .1,
-      record { matched = i .marks ∙ g .matched; few = g .few; fits = g .fits },
+      record { matched = i .marks ∙ g .matched; bits-fit = g .bits-fit; fits = g .fits },
       omega (arith, c .before .before .before .before .before .if2 .taken),
       i .part-squareds ∙ p .3 .part-squared,
       i .part-fourthds ∙ p .3 .part-fourthed,

@@ -18,7 +18,7 @@ returns c =
     let a = s .args in
     λ J of.
     c .before .before .before .before .before .before .before .before .before .before .sampled-chunk .ensures J
-    (drawn-plan J (a .plan .now) (a .factors .now) (a .chunks) (a .tree .now) (a .i) (a .shape) of _ (s .pre .2 .matched) (c .before .before .before .before .before .before .before .before .before .before .before .before .before .before .before .before .if1 .taken))
+    (drawn-plan J (a .plan .now) (a .factors .now) (a .chunks) (a .bits .now) (a .i) (a .shape) of _ (s .pre .2 .matched) (c .before .before .before .before .before .before .before .before .before .before .before .before .before .before .before .before .if1 .taken))
 
 mul-from : tie.Need-mul-from
 mul-from c =
@@ -31,7 +31,7 @@ enumerated-chunk-requires c κs =
     let d = c .before .before .before .before .before .if1 .left in (
       p .0,
       p .1,
-      record { matched = p .2 .matched; free = p .2 .few d; fits = omega (arith, numbers-fit (c .before .before .before .before .before .before .before .before .before .before .before .before .before .before .before .before .before .args .i) (p .2) d (p .3)) },
+      record { matched = p .2 .matched; bits-fit = p .2 .bits-fit d; fits = omega (arith, numbers-fit (c .before .before .before .before .before .before .before .before .before .before .before .before .before .before .before .before .before .args .i) (p .2) d (p .3)) },
       p .4,
       p .5,
     )
@@ -41,7 +41,7 @@ returns-2 c =
     let a = c .before .before .before .before .before .before .before .before .before .before .before .before .before .before .before .before .before .before .before .before .before .before .before .before .before .before .before .before .args in
     λ J of.
     c .before .before .before .before .before .before .before .before .before .before .enumerated-chunk .ensures J
-    (numbered-plan J (a .plan .now) (a .factors .now) (a .chunks) (a .tree .now) (a .i) (a .shape) of (c .before .before .before .before .before .before .before .before .before .before .before .before .before .before .before .before .if1 .left))
+    (numbered-plan J (a .plan .now) (a .factors .now) (a .chunks) (a .bits .now) (a .i) (a .shape) of (c .before .before .before .before .before .before .before .before .before .before .before .before .before .before .before .before .if1 .left))
 
 pub sum-chunk-spec : {M : Type 1} → statement M
 sum-chunk-spec =

@@ -13,10 +13,10 @@ use Rattle.totals_enumerated.proofs.enumerated_chunk.Statement.{stateme
 use Rattle.totals_enumerated.proofs.enumerated_chunk.Tie as tie
 
 abbrev Inv-loop : tie.InvT-loop
-Inv-loop room₀ plan shape us vs order factors tree signs₀ first size c₀ squares₀ fourths₀ pairs b₀ room signs c squares fourths b = Ranging plan us vs factors tree first shape size b room₀ room signs₀ signs c₀ c squares₀ squares fourths₀ fourths
+Inv-loop room₀ plan shape us vs order factors bits signs₀ first size c₀ squares₀ fourths₀ pairs b₀ room signs c squares fourths b = Ranging plan us vs factors bits first shape size b room₀ room signs₀ signs c₀ c squares₀ squares fourths₀ fourths
 
 abbrev μ-loop : tie.MeasureT-loop
-μ-loop room₀ plan shape us vs order factors tree signs₀ first size c₀ squares₀ fourths₀ pairs b₀ room signs c squares fourths b = shape .betas - b
+μ-loop room₀ plan shape us vs order factors bits signs₀ first size c₀ squares₀ fourths₀ pairs b₀ room signs c squares fourths b = shape .betas - b
 
 loop-holds : tie.Need-loop-holds Inv-loop μ-loop
 loop-holds c = record {
@@ -97,7 +97,7 @@ enumerated-run-requires c κs =
     let k : l .b * np + np - l .b * np ≡ np = omega arith in (
       stage-with (p .0) refl (i .rooms) (i .results),
       factors-first (l .b) (p .1) t,
-      record { matched = i .marks ∙ p .2 .matched; free = p .2 .free; fits = p .2 .fits },
+      record { matched = i .marks ∙ p .2 .matched; bits-fit = p .2 .bits-fit; fits = p .2 .fits },
       mid-len (l .b * np) (l .b * np + np) (l .squares) (omega (arith, h, i .squareds, p .3)) ∙ k,
       mid-len (l .b * np) (l .b * np + np) (l .fourths) (omega (arith, h, i .fourthds, p .4)) ∙ k,
     )

@@ -16,17 +16,17 @@ use Rattle.totals_enumerated.proofs.enumerated_run.Statement.{statement
 use Rattle.totals_enumerated.proofs.enumerated_run.Tie as tie
 
 abbrev Inv-loop : tie.InvT-loop
-Inv-loop room₀ plan shape us vs order factors b tree signs₀ first size c₀ squares₀ fourths₀ sums j₀ room signs c squares fourths j = Counting plan us vs factors tree b first shape j size room₀ room signs₀ signs c₀ c squares₀ squares fourths₀ fourths
+Inv-loop room₀ plan shape us vs order factors b bits signs₀ first size c₀ squares₀ fourths₀ sums j₀ room signs c squares fourths j = Counting plan us vs factors bits b first shape j size room₀ room signs₀ signs c₀ c squares₀ squares fourths₀ fourths
 
 abbrev μ-loop : tie.MeasureT-loop
-μ-loop room₀ plan shape us vs order factors b tree signs₀ first size c₀ squares₀ fourths₀ sums j₀ room signs c squares fourths j = size - j
+μ-loop room₀ plan shape us vs order factors b bits signs₀ first size c₀ squares₀ fourths₀ sums j₀ room signs c squares fourths j = size - j
 
 -- what was added at configuration j
 added : (c : tie.After-add-beta Inv-loop μ-loop)
     → let a = c .before .before .before .before .before .before .before .before .before .before .before .before .before .before .before .before .before .before .before .before .before .before .before .before .before .before .before .before .before .before .before .before .args in
     let l = c .before .before .before .before .before .before .before .before .before .before .before .before .loop in
     let r = c .add-beta in
-    (J : ℕ → Job Float) → PlanOfBeta J (a .plan .now) (a .factors .now) (a .tree .now) (a .first) (a .b) (a .shape)
+    (J : ℕ → Job Float) → PlanOfBeta J (a .plan .now) (a .factors .now) (a .bits .now) (a .first) (a .b) (a .shape)
     → AddedBeta (J (l .j)) (a .plan .now) (a .us .now) (a .vs .now) (r .last .0) (a .shape .n) (a .shape .w) (r .result) (l .squares) (r .last .1 .1 .1 .1 .1 .1 .1 .1 .1 .1 .1 .0) (l .fourths) (r .last .1 .1 .1 .1 .1 .1 .1 .1 .1 .1 .1 .1 .0)
 added c J of =
     let s = c .before .before .before .before .before .before .before .before .before .before .before .before .before .before .before .before .before .before .before .before .before .before .before .before .before .before .before .before .before .before .before .before in
@@ -34,8 +34,8 @@ added c J of =
     let l = c .before .before .before .before .before .before .before .before .before .before .before .before .loop in
     let e = c .before .before .before .before .before .before .before .before .before .enumerated-signs in
     c .add-beta .ensures (J (l .j))
-    (signed-at (J (l .j)) (a .plan .now) (a .factors .now) (a .tree .now) _ (a .b) (a .first + l .j) (a .shape) (e .ensures .0) (of (l .j)))
-    (run-stands (a .plan .now) (a .factors .now) (a .tree .now) (l .signs) _ (l .room) _ (a .shape) (a .b) (a .first) (l .j) _ _ (s .pre .0 .ready) (s .pre .0 .ends) (c .before .before .before .before .before .before .standing-from .ensures) (l .inv .signed) (e .ensures .0) (e .ensures .1) J of (l .inv .stands J of))
+    (signed-at (J (l .j)) (a .plan .now) (a .factors .now) (a .bits .now) _ (a .b) (a .first + l .j) (a .shape) (e .ensures .0) (of (l .j)))
+    (run-stands (a .plan .now) (a .factors .now) (a .bits .now) (l .signs) _ (l .room) _ (a .shape) (a .b) (a .first) (l .j) _ _ (s .pre .0 .ready) (s .pre .0 .ends) (c .before .before .before .before .before .before .standing-from .ensures) (l .inv .signed) (e .ensures .0) (e .ensures .1) J of (l .inv .stands J of))
 
 fill-requires-2 : tie.Need-fill-requires-2 Inv-loop μ-loop
 fill-requires-2 c κs = let p = c .before .before .before .before .before .before .before .before .before .before .before .before .before .before .before .before .pre in omega (arith, p .3, p .4)
@@ -61,7 +61,7 @@ add-enumerated-signs : tie.Need-add-enumerated-signs Inv-loop μ-loop
 add-enumerated-signs c = omega (arith, c .before .before .before .before .before .before .before .before .before .before .before .before .before .before .before .before .before .before .before .before .before .before .pre .2 .fits, c .before .loop-test .taken)
 
 enumerated-signs-requires : tie.Need-enumerated-signs-requires Inv-loop μ-loop
-enumerated-signs-requires c κs = let p = c .before .before .before .before .before .before .before .before .before .before .before .before .before .before .before .before .before .before .before .before .before .before .pre .2 in (c .before .before .loop .inv .marks ∙ p .matched, p .free)
+enumerated-signs-requires c κs = let p = c .before .before .before .before .before .before .before .before .before .before .before .before .before .before .before .before .before .before .before .before .before .before .pre .2 in (c .before .before .loop .inv .marks ∙ p .matched, p .bits-fit)
 
 standing-from-requires : tie.Need-standing-from-requires Inv-loop μ-loop
 standing-from-requires c κs = let p = c .before .before .before .before .before .before .before .before .before .before .before .before .before .before .before .before .before .before .before .before .before .before .before .before .before .pre .0 in (p .some, edges-in (p .ready) (p .ends))

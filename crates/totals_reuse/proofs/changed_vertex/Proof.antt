@@ -7,10 +7,10 @@ use Rattle.totals_reuse.proofs.changed_vertex.Statement.{statement}
 use Rattle.totals_reuse.proofs.changed_vertex.Tie as tie
 
 abbrev Inv-loop : tie.InvT-loop
-Inv-loop plan n tree last t₀ t = (t < n) × SettledAbove plan tree last n t
+Inv-loop plan n bits last t₀ t = (t < n) × SettledAbove plan bits last n t
 
 abbrev μ-loop : tie.MeasureT-loop
-μ-loop plan n tree last t₀ t = t
+μ-loop plan n bits last t₀ t = t
 
 sub-t : tie.Need-sub-t Inv-loop μ-loop
 sub-t c = omega (arith, c .before .before .pre .0)
@@ -28,7 +28,7 @@ loop-again : tie.Need-loop-again Inv-loop μ-loop
 loop-again c =
     let s = c .before .before .before .before .before .before in
     let l = c .before .before .before .loop in
-    (omega (arith, l .inv .0), settled-more (s .args .plan .now) (s .args .tree .now) _ _ (l .t) (l .inv .1) (c .before .step-may-change .ensures (c .if1 .left)) _ (omega (arith, c .before .before .loop-test .taken)))
+    (omega (arith, l .inv .0), settled-more (s .args .plan .now) (s .args .bits .now) _ _ (l .t) (l .inv .1) (c .before .step-may-change .ensures (c .if1 .left)) _ (omega (arith, c .before .before .loop-test .taken)))
 
 returns-2 : tie.Need-returns-2 Inv-loop μ-loop
 returns-2 c = λ u a b. c .before .loop .inv .1 u (omega arith) b

@@ -10,10 +10,10 @@ use Rattle.totals_reuse.proofs.step_may_change.Statement.{statement}
 use Rattle.totals_reuse.proofs.step_may_change.Tie as tie
 
 abbrev Inv-loop : tie.InvT-loop
-Inv-loop plan t tree last near i₀ i = (i ≤ near) × ((k : ℕ) → k < i → Settled tree last (nearEdge plan t k))
+Inv-loop plan t bits last near i₀ i = (i ≤ near) × ((k : ℕ) → k < i → Settled bits last (nearEdge plan t k))
 
 abbrev μ-loop : tie.MeasureT-loop
-μ-loop plan t tree last near i₀ i = near - i
+μ-loop plan t bits last near i₀ i = near - i
 
 no : true ≡ false → ⊥
 no z = let z′ : _≡_ {A = ℕ} 0 1 = cc in omega arith

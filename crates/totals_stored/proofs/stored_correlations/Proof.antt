@@ -15,10 +15,10 @@ use Rattle.totals_stored.proofs.stored_correlations.Statement.{statemen
 use Rattle.totals_stored.proofs.stored_correlations.Tie as tie
 
 abbrev Inv-loop : tie.InvT-loop
-Inv-loop room₀ plan shape us vs order factors tree signs₀ free c₀ stored₀ all x₀ room signs c stored x = (all ≡ 2 ^ free) × Keeping plan us vs factors tree shape x all room₀ room signs₀ signs c₀ c stored₀ stored
+Inv-loop room₀ plan shape us vs order factors bits signs₀ free c₀ stored₀ all x₀ room signs c stored x = (all ≡ 2 ^ free) × Keeping plan us vs factors bits shape x all room₀ room signs₀ signs c₀ c stored₀ stored
 
 abbrev μ-loop : tie.MeasureT-loop
-μ-loop room₀ plan shape us vs order factors tree signs₀ free c₀ stored₀ all x₀ room signs c stored x = all - x
+μ-loop room₀ plan shape us vs order factors bits signs₀ free c₀ stored₀ all x₀ room signs c stored x = all - x
 
 returns : tie.Need-returns Inv-loop μ-loop
 returns c =
@@ -46,7 +46,7 @@ loop-holds c =
     )
 
 enumerated-signs-requires : tie.Need-enumerated-signs-requires Inv-loop μ-loop
-enumerated-signs-requires c κs = let p = c .before .before .before .before .before .before .before .before .before .before .before .before .before .before .before .pre .2 in (c .before .before .loop .inv .1 .marks ∙ p .matched, p .free)
+enumerated-signs-requires c κs = let p = c .before .before .before .before .before .before .before .before .before .before .before .before .before .before .before .pre .2 in (c .before .before .loop .inv .1 .marks ∙ p .matched, p .bits-fit)
 
 store-configuration-requires : tie.Need-store-configuration-requires Inv-loop μ-loop
 store-configuration-requires c κs =

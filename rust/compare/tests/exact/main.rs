@@ -5,7 +5,7 @@
 mod natural;
 mod sums;
 
-use copperhook::{estimate, Estimate, Graph, Job, Kind, Manner, Sampling, Strip};
+use copperhook::{estimate, Estimate, ForestEdge, Graph, Job, Kind, Manner, Sampling, Strip};
 use natural::Natural;
 use oracle::rng::Rng;
 use oracle::rules::strips::eight_edges;
@@ -216,11 +216,10 @@ struct Configurations {
 
 impl Configurations {
     fn all(shape: &Shape, graph: &Graph) -> Configurations {
-        let mut tree = vec![false; shape.edges.len()];
-        graph.spanning_forest(&mut tree).unwrap();
-        let free: Vec<usize> = (0..tree.len()).filter(|&e| !tree[e]).collect();
-        let signs = |x: usize| (0..tree.len()).map(|e| free.iter().position(|&f| f == e).is_some_and(|i| x >> i & 1 == 1)).collect();
-        let count = 1 << free.len();
+        let mut forest = vec![ForestEdge::Tree; shape.edges.len()];
+        graph.spanning_forest(&mut forest).unwrap();
+        let signs = |x: usize| forest.iter().map(|edge| edge.bit().is_some_and(|i| x >> i & 1 == 1)).collect();
+        let count = 1 << graph.cyclomatic().unwrap();
         let size = count.min(1024);
         Configurations { minus: (0..count).map(signs).collect(), chunks: (count / size) as u64, size: size as u64 }
     }

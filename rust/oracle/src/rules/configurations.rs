@@ -47,11 +47,11 @@ impl Entry {
     }
 }
 
-/// Returns all configurations: bit i of the configuration's number gives the i-th free edge.
+/// Returns all configurations: an edge is minus where it has a bit and that bit of the configuration's number is set.
 fn enumerated(edges: &Edges) -> Vec<Vec<bool>> {
-    let (kept, free) = (edges.kept().len(), edges.free());
-    let sign = |x: usize, e: usize| free.iter().position(|&f| f == e).is_some_and(|i| x >> i & 1 == 1);
-    (0..1 << free.len()).map(|x| (0..kept).map(|e| sign(x, e)).collect()).collect()
+    let bits = edges.bits();
+    let sign = |x: usize, bit: Option<usize>| bit.is_some_and(|i| x >> i & 1 == 1);
+    (0..1 << edges.free().len()).map(|x| bits.iter().map(|&bit| sign(x, bit)).collect()).collect()
 }
 
 /// Returns the samples of a chunk: a new word every 64 edges and for each sample, lowest bit first.

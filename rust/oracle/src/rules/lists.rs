@@ -106,6 +106,12 @@ impl Edges {
         }
         free
     }
+
+    /// Returns each kept edge's bit of a configuration's number: its position among the free edges; a tree edge has none.
+    pub fn bits(&self) -> Vec<Option<usize>> {
+        let free = self.free();
+        (0..self.kept().len()).map(|e| free.iter().position(|&f| f == e)).collect()
+    }
 }
 
 impl Pairs {

@@ -1,5 +1,5 @@
 -- The checks, then the chunks of drawn configurations.
-use mathlib.Core.Path.{_≡_}
+use mathlib.Core.Path.{_≡_, refl}
 use mathlib.Core.Bool.{Bool, false}
 use Prim.Native.Nat.{_-_, _*_, _≤_}
 use native.Mathlib.Omega.{arith}
@@ -70,7 +70,7 @@ found : (c : tie.After-total-job)
     → let s = c .before .before .before .before .before .before .before .before .before .before .before .before .before .before .before .before .before .before .before .before .before .before .before .before .before .before .before in
     let a = s .args in
     let t = c .total-job in
-    Finished (unsoundDrawn (given s) (a .seed) (a .from) (a .to) (a .samples)) (totalsOfDrawn (given s) (a .seed) (a .from) (a .to) (a .samples) (square ieee)) (totalsOfDrawn (given s) (a .seed) (a .from) (a .to) (a .samples) (fourth ieee)) (sums (given s)) (end (given s)) (t .result) (t .last .1 .1 .1 .1 .1 .1 .1 .1 .1 .1 .0) (t .last .1 .1 .1 .1 .1 .1 .1 .1 .1 .1 .1 .0) (a .work .now) (t .last .1 .1 .1 .1 .1 .1 .1 .1 .1 .1 .1 .1 .0)
+    Finished (unsoundDrawn (given s) (a .seed) (a .from) (a .to) (a .samples)) (totalsOfDrawn (given s) (a .seed) (a .from) (a .to) (a .samples) (square ieee)) (totalsOfDrawn (given s) (a .seed) (a .from) (a .to) (a .samples) (fourth ieee)) (sums (given s)) (end (given s)) (t .result) (t .last .1 .1 .1 .1 .1 .1 .1 .1 .1 .1 .1 .0) (t .last .1 .1 .1 .1 .1 .1 .1 .1 .1 .1 .1 .1 .0) (a .work .now) (t .last .1 .1 .1 .1 .1 .1 .1 .1 .1 .1 .1 .1 .1 .0)
 found c =
     let a = c .before .before .before .before .before .before .before .before .before .before .before .before .before .before .before .before .before .before .before .before .before .before .before .before .before .before .before .args in
     totals-kept (c .before .before .before .before .before .before .before .before .before .before .before .before .before .check-with-betas .ensures .ready (c .before .before .before .before .before .before .before .before .before .if1 .left)) (length (a .betas .now)) (a .factors .now) (c .before .before .before .before .before .before .is-elementwise .ensures) (drawnChunks (a .seed) (a .from) (a .to) (a .samples)) (c .total-job .ensures)
@@ -100,32 +100,32 @@ returns-2 c =
 array-share-prefix-early : tie.Need-array-share-prefix-early
 array-share-prefix-early c = early-fits (c .before .before .before .before .before .before .before .check-with-betas .ensures .ready (c .before .before .before .if1 .left) .written)
 
-slice-aggregate-total-job : tie.Need-slice-aggregate-total-job
-slice-aggregate-total-job c = early-part (c .before .before .before .before .before .before .before .before .check-with-betas .ensures .ready (c .before .before .before .before .if1 .left) .written)
+slice-aggregate-ends : tie.Need-slice-aggregate-ends
+slice-aggregate-ends c = early-part (c .before .before .before .before .before .before .before .before .check-with-betas .ensures .ready (c .before .before .before .before .if1 .left) .written)
 
 array-share-prefix-late : tie.Need-array-share-prefix-late
 array-share-prefix-late c = late-fits (c .before .before .before .before .before .before .before .before .check-with-betas .ensures .ready (c .before .before .before .before .if1 .left) .written)
 
-slice-aggregate-total-job-2 : tie.Need-slice-aggregate-total-job-2
-slice-aggregate-total-job-2 c = late-part (c .before .before .before .before .before .before .before .before .before .check-with-betas .ensures .ready (c .before .before .before .before .before .if1 .left) .written)
+slice-aggregate-total-job : tie.Need-slice-aggregate-total-job
+slice-aggregate-total-job c = late-part (c .before .before .before .before .before .before .before .before .before .check-with-betas .ensures .ready (c .before .before .before .before .before .if1 .left) .written)
 
 total-job-requires : tie.Need-total-job-requires
 total-job-requires c κs =
     let a = c .before .before .before .before .before .before .before .before .before .before .before .before .before .before .before .before .before .before .before .before .before .before .before .before .before .before .args in
     let q = fitting (c .before .before .before .before .before .before) in
-    (passed (c .before .before .before .before .before .before) .0, drawn-numbered (a .seed) (a .from) (a .to) (a .samples) _, q .0, q .1)
+    (passed (c .before .before .before .before .before .before) .0, drawn-numbered (a .seed) (a .from) (a .to) (a .samples) _ _ _ refl, q .0, q .1)
 
 sampled-count-requires : tie.Need-sampled-count-requires
 sampled-count-requires c κs = passed (c .before .before .before .before .before .before .before .before .before .before .before .before .before .before) .2
 
 same-length : tie.Need-same-length
-same-length c = c .before .before .before .before .before .before .before .before .total-job .kept .1 .1 .1 .1 .1 .1 .1 .1 .1 .1 .0
+same-length c = c .before .before .before .before .before .before .before .before .total-job .kept .1 .1 .1 .1 .1 .1 .1 .1 .1 .1 .1 .0
 
 same-length-2 : tie.Need-same-length-2
-same-length-2 c = c .before .before .before .before .before .before .before .before .total-job .kept .1 .1 .1 .1 .1 .1 .1 .1 .1 .1 .1 .0
+same-length-2 c = c .before .before .before .before .before .before .before .before .total-job .kept .1 .1 .1 .1 .1 .1 .1 .1 .1 .1 .1 .1 .0
 
 same-length-3 : tie.Need-same-length-3
-same-length-3 c = c .before .before .before .before .before .before .before .before .total-job .kept .1 .1 .1 .1 .1 .1 .1 .1 .1 .1 .1 .1 .0
+same-length-3 c = c .before .before .before .before .before .before .before .before .total-job .kept .1 .1 .1 .1 .1 .1 .1 .1 .1 .1 .1 .1 .1 .0
 
 returns-3 : tie.Need-returns-3
 returns-3 c =
@@ -133,13 +133,13 @@ returns-3 c =
     record { call = all-added (parts s) (c .before .before .before .before .before .before .before .before .before .before .before .before .before .before .before .before .before .before .before .before .before .check-with-betas .ensures .refusal) (c .before .before .before .before .before .before .before .before .before .before .before .before .before .before .before .before .before .if1 .left) (listed (c .before .before .before .before .before .before .before .before .before .before .before .before .before .before .before .before)) (c .before .before .before .before .before .before .before .before .before .before .before .before .before .before .before .if2 .left) (found (c .before .before .before .before .before .before .before .before)) (c .before .if3 .taken) (c .sampled-count .result) (c .sampled-count .ensures) }
 
 same-length-4 : tie.Need-same-length-4
-same-length-4 c = c .before .before .before .before .before .before .before .total-job .kept .1 .1 .1 .1 .1 .1 .1 .1 .1 .1 .0
+same-length-4 c = c .before .before .before .before .before .before .before .total-job .kept .1 .1 .1 .1 .1 .1 .1 .1 .1 .1 .1 .0
 
 same-length-5 : tie.Need-same-length-5
-same-length-5 c = c .before .before .before .before .before .before .before .total-job .kept .1 .1 .1 .1 .1 .1 .1 .1 .1 .1 .1 .0
+same-length-5 c = c .before .before .before .before .before .before .before .total-job .kept .1 .1 .1 .1 .1 .1 .1 .1 .1 .1 .1 .1 .0
 
 same-length-6 : tie.Need-same-length-6
-same-length-6 c = c .before .before .before .before .before .before .before .total-job .kept .1 .1 .1 .1 .1 .1 .1 .1 .1 .1 .1 .1 .0
+same-length-6 c = c .before .before .before .before .before .before .before .total-job .kept .1 .1 .1 .1 .1 .1 .1 .1 .1 .1 .1 .1 .1 .0
 
 returns-4 : tie.Need-returns-4
 returns-4 c =
@@ -152,6 +152,6 @@ sample-spec =
     tie.close
     (tie.spec
     (λ c. search needs) (λ c. search needs) (λ c. search needs) (λ c κs. search needs) returns mul-check-sampling check-sampling-requires
-    returns-2 (λ c κs. search needs) array-share-prefix-early slice-aggregate-total-job array-share-prefix-late
-    slice-aggregate-total-job-2 total-job-requires sampled-count-requires same-length same-length-2 same-length-3 returns-3 same-length-4
+    returns-2 (λ c κs. search needs) array-share-prefix-early slice-aggregate-ends array-share-prefix-late
+    slice-aggregate-total-job total-job-requires sampled-count-requires same-length same-length-2 same-length-3 returns-3 same-length-4
     same-length-5 same-length-6 returns-4)

@@ -1,7 +1,6 @@
 -- The answer of each measure's own function.
 use Rattle.graph.proofs.Building.{joined}
 use Rattle.graph.proofs.Setting.{of-measure}
-use Rattle.graph.specs.Graphs.{freeCount}
 use Rattle.graph.specs.declared.graph.Measure.the-variants.{Free}
 use borrow.Author.Needs.{needs}
 use Rattle.graph.proofs.graph.measure_kept.Statement.{statement}
@@ -11,7 +10,7 @@ enum-told : tie.Need-enum-told
 enum-told c = search needs
 
 count-free-edges-requires : tie.Need-count-free-edges-requires
-count-free-edges-requires c κs = let es = c .before .before .before .before .pre in (joined es, es .few)
+count-free-edges-requires c κs = let es = c .before .before .before .before .pre in (joined (es .0), es .0 .few, es .1)
 
 returns : tie.Need-returns
 returns c =
@@ -19,10 +18,9 @@ returns c =
     of-measure (x .n) (x .early .now) (x .late .now) _ _ (c .before .before .measure .given .1) _ (c .window-of .ensures)
 
 returns-2 : tie.Need-returns-2
-unfolding freeCount
 returns-2 c =
     let x = c .before .before .before .before .before .args in
-    of-measure (x .n) (x .early .now) (x .late .now) _ Free (c .before .enum-told .given .1) _ (c .count-free-edges .ensures .1)
+    of-measure (x .n) (x .early .now) (x .late .now) _ Free (c .before .enum-told .given .1) _ (c .count-free-edges .ensures)
 
 pub measure-kept-spec : {M : Type 1} → statement M
 measure-kept-spec =

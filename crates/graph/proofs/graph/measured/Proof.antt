@@ -2,6 +2,7 @@
 use Rattle.graph.specs.Graphs.{measureOf}
 use Rattle.graph.proofs.Building.{kept-fronts, of-kept}
 use Rattle.refusals.specs.Laws.Answers.{refused-is, number-is}
+use native.Mathlib.Omega.{arith}
 use borrow.Author.Needs.{needs}
 use Rattle.graph.proofs.graph.measured.Statement.{statement}
 use Rattle.graph.proofs.graph.measured.Tie as tie
@@ -12,7 +13,8 @@ returns c = refused-is _ _ _ (c .before .before .before .before .build .ensures 
 measure-kept-requires : tie.Need-measure-kept-requires
 measure-kept-requires c κs =
     let passed = c .before .before in
-    kept-fronts (passed .before .before .before .before .build .ensures) (passed .if1 .left)
+    let g = passed .before .before .before .before .build .ensures in
+    (kept-fronts g (passed .if1 .left), omega (arith, g .early-fits, g .early-part))
 
 returns-2 : tie.Need-returns-2
 returns-2 c =

@@ -1,6 +1,7 @@
--- The tree edges, if the graph is accepted and the buffer fits.
-use Rattle.graph.specs.Graphs.{treeMarks}
-use Rattle.graph.proofs.Building.{buffers-before, buffers-here, buffers-not, kept-fronts, joined, of-kept, spans-kept}
+-- The bits, if the graph is accepted and the buffer fits.
+use Rattle.forest.specs.FreeEdges.{bitsOf}
+use Rattle.forest.specs.Laws.FreeEdges.{forest-bits}
+use Rattle.graph.proofs.Building.{buffers-before, buffers-here, buffers-not, kept-fronts, joined, of-kept, forest-kept}
 use Rattle.refusals.specs.Edges.{kept}
 use Rattle.refusals.specs.Laws.Answers.{left-alone}
 use borrow.Author.Tests.{eq-eqb, ne-eqb}
@@ -15,7 +16,7 @@ use Rattle.graph.proofs.graph.spanning_forest.Tie as tie
 
 -- whether the buffer misfits, where the graph is built
 abbrev misfit : tie.After-build → Bool
-misfit c = let x = c .before .before .before .before .before .before .before .before .args in not (eqb (length (x .tree .now)) (length (kept (x .a .now) (x .b .now) (x .m .now))))
+misfit c = let x = c .before .before .before .before .before .before .before .before .args in not (eqb (length (x .bits .now)) (length (kept (x .a .now) (x .b .now) (x .m .now))))
 
 returns : tie.Need-returns
 returns c =
@@ -31,26 +32,29 @@ returns-2 c =
       λ z. absurd (omega arith),
     )
 
-mark-tree-edges-requires : tie.Need-mark-tree-edges-requires
-mark-tree-edges-requires c κs =
+number-free-edges-requires : tie.Need-number-free-edges-requires
+number-free-edges-requires c κs =
     let fits = c .before .before .before in
     let g = fits .before .before .before .before .before in
     let graph = kept-fronts (g .build .ensures) (fits .before .if1 .left) in
     (joined graph, graph .few, fits .if2 .left ∙ g .build .ensures .early-part)
 
 returns-3 : tie.Need-returns-3
-unfolding treeMarks
 returns-3 c =
     let fits = c .before .before .before .before .before .before in
     let g = fits .before .before .before .before .before in
     let z = fits .before .if1 .left in
     let w = g .build .ensures .written z in
-    let marked = c .before .before .mark-tree-edges .ensures in
-    (buffers-not (g .build .ensures) (misfit g) z (ap not (eq-eqb _ _ (fits .if2 .left ∙ w .edges))), of-kept w treeMarks (marked .0), λ _. spans-kept w (marked .1))
+    let is = c .before .before .number-free-edges .ensures .1 in
+    let graph = kept-fronts (g .build .ensures) z in (
+      buffers-not (g .build .ensures) (misfit g) z (ap not (eq-eqb _ _ (fits .if2 .left ∙ w .edges))),
+      of-kept w bitsOf is,
+      λ _. forest-kept w (rw is (forest-bits (joined graph) (omega (arith, g .build .ensures .early-fits, g .build .ensures .early-part)))),
+    )
 
 pub spanning-forest-spec : {M : Type 1} → statement M
 spanning-forest-spec =
     tie.close
     (tie.spec
     (λ c. search needs) (λ c. search needs) (λ c. search needs) (λ c κs. search needs) returns returns-2 (λ c. search needs)
-    (λ c. search needs) (λ c. search needs) (λ c. search needs) mark-tree-edges-requires (λ c. search needs) returns-3)
+    (λ c. search needs) (λ c. search needs) (λ c. search needs) number-free-edges-requires (λ c. search needs) returns-3)

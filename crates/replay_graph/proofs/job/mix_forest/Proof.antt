@@ -6,12 +6,12 @@ use borrow.Author.Needs.{needs}
 use Rattle.replay_graph.proofs.job.mix_forest.Statement.{statement}
 use Rattle.replay_graph.proofs.job.mix_forest.Tie as tie
 
-slice-aggregate-tree : tie.Need-slice-aggregate-tree
-slice-aggregate-tree c = sym (length-take-le _ _ (omega arith))
+slice-aggregate-bits : tie.Need-slice-aggregate-bits
+slice-aggregate-bits c = sym (length-take-le _ _ (omega arith))
 
 pub mix-forest-spec : {M : Type 1} → statement M
 mix-forest-spec =
     tie.close
     (tie.spec
-    (λ c. search needs) (λ c. search needs) slice-aggregate-tree (λ c κs. search needs) (λ c κs. search needs) (λ c κs. search needs)
+    (λ c. search needs) (λ c. search needs) slice-aggregate-bits (λ c κs. search needs) (λ c κs. search needs) (λ c κs. search needs)
     (λ c. search needs))

@@ -38,7 +38,7 @@ const NOT_JOINED: u64 = 1 << 33;
 /// What the buffers hold before the call.
 const BEFORE: u64 = 9;
 
-/// The words that a replay mixes: window, components, free edges; then, each with its buffers, the components' names, the tree marks, the kept
+/// The words that a replay mixes: window, components, free edges; then, each with its buffers, the components' names, the bits of the edges, the kept
 /// edges with their raw places, and the turned ones with theirs.
 fn graph_hash(job: &GraphJob) -> u64 {
     let words = match job.refusal() {
@@ -53,7 +53,7 @@ fn graph_hash(job: &GraphJob) -> u64 {
 fn refused_words(refusal: u64) -> Vec<u64> {
     let mut words = vec![REFUSED + refusal; 3];
     words.extend([refusal, BEFORE, BEFORE, BEFORE]);
-    words.extend([refusal, 0, 0, 0]);
+    words.extend([refusal, BEFORE, BEFORE, BEFORE]);
     for _ in 0..2 {
         words.extend([REFUSED + refusal, BEFORE, BEFORE, BEFORE]);
         words.extend([BEFORE; 3]);
@@ -69,7 +69,7 @@ fn short_words(g: &Graph) -> Vec<u64> {
     words.push(12);
     words.extend(vec![BEFORE; g.n - 1]);
     words.push(12);
-    words.extend(vec![0; g.edges.len() - 1]);
+    words.extend(vec![BEFORE; g.edges.len() - 1]);
     for _ in 0..2 {
         words.push(REFUSED + 12);
         words.extend(vec![BEFORE; 2 * (g.edges.len() - 1)]);
@@ -85,7 +85,8 @@ fn answered_words(g: &Graph, places: &[usize]) -> Vec<u64> {
     words.push(0);
     words.extend(g.components().iter().map(|&c| c as u64));
     words.push(0);
-    words.extend(g.spanning_forest().iter().map(|&t| t as u64));
+    let mut bit = 0..;
+    words.extend(g.spanning_forest().iter().filter_map(|&tree| if tree { Some(u64::MAX) } else { bit.next() }));
     for made in [g, &g.rotated()] {
         words.push(made.win as u64);
         words.extend(made.edges.iter().map(|e| e.0 as u64).chain([BEFORE; 2]));
