@@ -32,6 +32,7 @@ given s = let a = s .args in record {
   betas = a .betas .now;
   factors = a .factors .now;
   manner = a .manner;
+  caller = a .caller;
 }
 
 abbrev misfit : tie.Start → Bool
@@ -45,7 +46,7 @@ counted c = free-kept (c .before .before .before .before .before .before .before
 listed : (c : tie.After-check-enumeration) → c .check-enumeration .result ≡ listsOfAll (given (c .before .before .before .before .before .before .before .before .before .before .before .before .before .before .before .before .before .before .before .before .before .before)) (misfit (c .before .before .before .before .before .before .before .before .before .before .before .before .before .before .before .before .before .before .before .before .before .before)) (length (c .before .before .before .before .before .before .before .before .before .before .before .before .before .before .before .before .before .before .before .before .before .before .args .work .now)) mostCounted
 listed c =
     let a = c .before .before .before .before .before .before .before .before .before .before .before .before .before .before .before .before .before .before .before .before .before .before .args in
-    all-lists (c .before .before .before .before .before .before .before .before .check-with-betas .ensures .ready (c .before .before .before .before .if1 .left)) (length (a .betas .now)) (a .factors .now) _ _ mostCounted (misfit (c .before .before .before .before .before .before .before .before .before .before .before .before .before .before .before .before .before .before .before .before .before .before)) (length (a .work .now)) _ (counted (c .before)) (c .check-enumeration .ensures)
+    all-lists (c .before .before .before .before .before .before .before .before .check-with-betas .ensures .ready (c .before .before .before .before .if1 .left)) (a .caller) (length (a .betas .now)) (a .factors .now) _ _ mostCounted (misfit (c .before .before .before .before .before .before .before .before .before .before .before .before .before .before .before .before .before .before .before .before .before .before)) (length (a .work .now)) _ (counted (c .before)) (c .check-enumeration .ensures)
 
 -- and none refused
 passed : (c : tie.Else2)
@@ -58,7 +59,7 @@ passed c =
     let a = c .before .before .before .before .before .before .before .before .before .before .before .before .before .before .before .before .before .before .before .before .before .before .before .args in
     let k = c .before .before .before .before .before .before .before .before .before .check-with-betas .ensures in
     let v = c .before .before .before .before .before .if1 .left in
-    all-passed (k .ready v) (length (a .betas .now)) (a .factors .now) _ mostCounted (misfit (c .before .before .before .before .before .before .before .before .before .before .before .before .before .before .before .before .before .before .before .before .before .before .before)) (length (a .work .now)) _ (k .betas-pass v .few) (c .before .check-enumeration .ensures) (c .if2 .left)
+    all-passed (k .ready v) (a .caller) (length (a .betas .now)) (a .factors .now) _ mostCounted (misfit (c .before .before .before .before .before .before .before .before .before .before .before .before .before .before .before .before .before .before .before .before .before .before .before)) (length (a .work .now)) _ (k .betas-pass v .few) (c .before .check-enumeration .ensures) (c .if2 .left)
 
 fitting : (c : tie.Else2)
     → (length (c .before .before .before .before .before .before .before .before .before .before .before .before .before .before .before .before .before .before .before .before .before .before .before .args .squares .now) ≡ sums (given (c .before .before .before .before .before .before .before .before .before .before .before .before .before .before .before .before .before .before .before .before .before .before .before))) × (length (c .before .before .before .before .before .before .before .before .before .before .before .before .before .before .before .before .before .before .before .before .before .before .before .args .fourths .now) ≡ sums (given (c .before .before .before .before .before .before .before .before .before .before .before .before .before .before .before .before .before .before .before .before .before .before .before)))

@@ -31,6 +31,7 @@ given s = let a = s .args in record {
   betas = a .betas .now;
   factors = a .factors .now;
   manner = a .manner;
+  caller = a .caller;
 }
 
 abbrev misfit : tie.Start → Bool
