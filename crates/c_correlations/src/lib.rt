@@ -27,6 +27,8 @@ pub fn correlations_between(
     let us = e.us;
     let vs = e.vs;
     let asked = options_numbered(options);
+    let manner = asked.manner;
+    let caller = asked.caller;
     entry_correlations::correlations(
         n,
         floor,
@@ -36,8 +38,8 @@ pub fn correlations_between(
         &us[..count],
         &vs[..count],
         factors,
-        asked.manner,
-        asked.caller,
+        manner,
+        caller,
         results,
         work,
     )

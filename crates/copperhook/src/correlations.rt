@@ -23,6 +23,8 @@ pub extern "C" fn copperhook_correlations(
         (now (factors .entry)) (optionsNumbered options .manner) (optionsNumbered options .caller) r (now (results .entry)) (now (results .exit)) (now (work .entry)) (now (work .exit)) ⌝ }
 {
     let asked = options_numbered(options);
+    let manner = asked.manner;
+    let caller = asked.caller;
     entry_correlations::correlations(
         n,
         floor,
@@ -32,8 +34,8 @@ pub extern "C" fn copperhook_correlations(
         us,
         vs,
         factors,
-        asked.manner,
-        asked.caller,
+        manner,
+        caller,
         results,
         work,
     )

@@ -30,6 +30,8 @@ pub extern "C" fn copperhook_exhaustive(
     ensures { λ r. ⌜ ((r ≡ 0 → ⊥) → now (count .exit) ≡ now (count .entry)) ⌝ }
 {
     let asked = options_numbered(options);
+    let manner = asked.manner;
+    let caller = asked.caller;
     let answer = entry_exhaustive::exhaustive(
         n,
         floor,
@@ -40,8 +42,8 @@ pub extern "C" fn copperhook_exhaustive(
         vs,
         betas,
         factors,
-        asked.manner,
-        asked.caller,
+        manner,
+        caller,
         squares,
         fourths,
         work,
@@ -72,6 +74,8 @@ pub extern "C" fn copperhook_exhaustive_c(
     ensures { λ r. ⌜ ((r ≡ 0 → ⊥) → now (count .exit) ≡ now (count .entry)) ⌝ }
 {
     let asked = options_numbered(options);
+    let manner = asked.manner;
+    let caller = asked.caller;
     let answer = entry_exhaustive_c::exhaustive_c(
         n,
         floor,
@@ -82,8 +86,8 @@ pub extern "C" fn copperhook_exhaustive_c(
         vs,
         betas,
         factors,
-        asked.manner,
-        asked.caller,
+        manner,
+        caller,
         stored,
         work,
     );
@@ -118,6 +122,8 @@ pub extern "C" fn copperhook_sample(
     ensures { λ r. ⌜ ((r ≡ 0 → ⊥) → now (count .exit) ≡ now (count .entry)) ⌝ }
 {
     let asked = options_numbered(options);
+    let manner = asked.manner;
+    let caller = asked.caller;
     let answer = entry_sample::sample(
         n,
         floor,
@@ -128,8 +134,8 @@ pub extern "C" fn copperhook_sample(
         vs,
         betas,
         factors,
-        asked.manner,
-        asked.caller,
+        manner,
+        caller,
         seed,
         from,
         to,
