@@ -3,7 +3,7 @@
 use mathlib.Core.Path.{_≡_, refl, sym, ap, _∙_}
 use mathlib.Core.Bool.{not}
 use mathlib.Core.List.{List}
-use Prim.Native.Nat.{ℕ, zero, suc, _≤_}
+use Prim.Native.Nat.{ℕ, zero, suc, _*_, _≤_}
 use native.Mathlib.Omega.{arith}
 use lib.Dec.{eqb}
 use lib.Ieee.{Float}
@@ -36,7 +36,7 @@ held (Number k) = k
 held (Refused k) = k
 
 number-told : (k x j : ℕ) → answered k x ≡ Refused (suc j) → k ≡ suc j
-number-told zero x j e = let z : 0 ≡ 1 = ap kind e in absurd (omega arith)
+number-told zero x j e = let z : _≡_ {A = ℕ} 0 1 = ap kind e in absurd (omega arith)
   where
     kind : Answer → ℕ
     kind (Number k) = 0
@@ -45,7 +45,7 @@ number-told (suc k) x j e = ap held e
 
 -- ---- `correlations`
 
-module _ {n floor : ℕ} {a b : List ℕ} {m : List Float} {us vs : List ℕ} {factors : List Float} {manner : Manner} {results work : List Float} where
+module _ (n floor : ℕ) (a b : List ℕ) (m : List Float) (us vs : List ℕ) (factors : List Float) (manner : Manner) (results work : List Float) where
   abbrev request : Caller → Request
   request caller =
       correlationRequest caller n floor a b m us vs factors (length results) (length work) (unsound (jobGiven n floor a b m factors manner) us vs)
@@ -88,13 +88,13 @@ module _ {k j count : ℕ} {correlations : List Float} {end : ℕ} {r s : Answer
       let e : k ≡ j = desk (λ p. h (t .answer ∙ ap (λ (i : ℕ). answered i count) p)) in
       (t .answer ∙ rw e (sym (d .answer)), t .stored-are ∙ rw e (sym (d .stored-are)), t .memory ∙ rw e (sym (d .memory)))
 
-module _ {n floor : ℕ} {a b : List ℕ} {m : List Float} {us vs : List ℕ} {betas factors : List Float} {manner : Manner} where
+module _ (n floor : ℕ) (a b : List ℕ) (m : List Float) (us vs : List ℕ) (betas factors : List Float) (manner : Manner) where
   abbrev given : Given
   given = record { n = n; floor = floor; a = a; b = b; m = m; us = us; vs = vs; betas = betas; factors = factors; manner = manner; caller = Desk }
 
   -- ---- `exhaustive`
 
-  module _ {squares fourths work : List Float} where
+  module _ (squares fourths work : List Float) where
     abbrev counting : Caller → Request
     counting caller =
         enumerationRequest caller n floor a b m us vs betas factors (free a b m) mostCounted
@@ -121,7 +121,7 @@ module _ {n floor : ℕ} {a b : List ℕ} {m : List Float} {us vs : List ℕ} {b
 
   -- ---- `exhaustive_c`
 
-  module _ {stored work : List Float} where
+  module _ (stored work : List Float) where
     abbrev storing : Caller → Request
     storing caller =
         enumerationRequest caller n floor a b m us vs betas factors (free a b m) mostStored (misfitStored given (length stored)) (length work)
@@ -147,7 +147,7 @@ module _ {n floor : ℕ} {a b : List ℕ} {m : List Float} {us vs : List ℕ} {b
 
   -- ---- `sample`
 
-  module _ {seed from to samples : ℕ} {squares fourths work : List Float} where
+  module _ (seed from to samples : ℕ) (squares fourths work : List Float) where
     abbrev drawing : Caller → Request
     drawing caller =
         samplingRequest caller n floor a b m us vs betas factors (free a b m) from to samples

@@ -28,7 +28,7 @@ pub struct Job {
 impl Job {
     /// Whether the manner is per element: the options are not odd.
     pub fn each(&self) -> bool {
-        self.options % 2 == 0
+        self.options & 1 == 0
     }
 
     /// Whether the call is the tester's.

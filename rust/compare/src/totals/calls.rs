@@ -32,7 +32,7 @@ pub const MOST_MODELLED: f64 = (1 << 17) as f64;
 impl Call {
     /// Whether the manner is per element: the options are not odd.
     pub fn each(&self) -> bool {
-        self.options % 2 == 0
+        self.options & 1 == 0
     }
 
     /// Whether the call is the tester's.
@@ -44,7 +44,10 @@ impl Call {
         let options = self.options;
         let (n, floor, edges) = (self.edges.n, self.edges.floor, self.edges.a.len());
         let (pairs, betas) = (self.pairs.us.len(), self.betas.len());
-        format!("{:?}, {n} vertices, floor {floor}, {edges} edges, {pairs} pairs, {betas} betas, options {options}, {:?}", self.entry, self.by)
+        format!(
+            "{:?}, {n} vertices, floor {floor}, {edges} edges, {pairs} pairs, {betas} betas, options {options}, {:?}",
+            self.entry, self.by
+        )
     }
 
     /// The call as the rules take it.
