@@ -2,7 +2,7 @@
 -- never refused by 22; and an accepted one is within the tester's limits.
 use mathlib.Core.Path.{_≡_, refl, sym, ap, _∙_}
 use mathlib.Core.Bool.{not}
-use mathlib.Core.List.{List}
+use mathlib.Core.List.{List, _∷_, _++_}
 use Prim.Native.Nat.{ℕ, zero, suc, _*_, _≤_}
 use native.Mathlib.Omega.{arith}
 use lib.Dec.{eqb}
@@ -18,8 +18,8 @@ use Rattle.refusals.specs.declared.Answer.the-variants.{Number, Refused}
 use Rattle.refusals.specs.Edges.{windowFrom}
 use Rattle.refusals.specs.Key.{Key}
 use Rattle.refusals.specs.Laws.First.{passed-at}
-use Rattle.refusals.specs.Laws.Tester.{as-at-desk, desk-not-22}
-use Rattle.refusals.specs.Refusal.{ofCorrelations, ofEnumeration, ofSampling}
+use Rattle.refusals.specs.Laws.Tester.{atDesk, as-at-desk, desk-not-22}
+use Rattle.refusals.specs.Refusal.{refusal, ofRoom, ofLists, ofSamplingLists, ofSweeps, ofCorrelations, ofEnumeration, ofSampling}
 use Rattle.refusals.specs.Request.{Request, correlationRequest, enumerationRequest, samplingRequest, mostCounted, mostStored}
 use Rattle.refusals.specs.AcceptedTotals.{misfits}
 use Rattle.pair_correlations.specs.Sound.{unsound}
@@ -28,6 +28,13 @@ use Rattle.entry_correlations.specs.declared.Manner.{Manner}
 use Rattle.totals_call.specs.Given.{Given}
 use Rattle.totals_call.specs.Calls.{Totalled, Stored, Enumerated, EnumeratedEach, Sampled, misfitStored, unsoundAll, unsoundDrawn}
 use Rattle.demands.specs.Configurations.{free, accepted-number}
+
+-- ---- at the desk each list of checks is the one without 22
+
+pub desk-checks : (r : Request) → (refusal ofCorrelations (atDesk r) ≡ refusal (ofRoom ++ (ofLists ++ ofSweeps)) (atDesk r))
+    × (refusal ofEnumeration (atDesk r) ≡ refusal (ofRoom ++ (Key.freeEdges ∷ (ofLists ++ ofSweeps))) (atDesk r))
+    × (refusal ofSampling (atDesk r) ≡ refusal (ofRoom ++ (ofSamplingLists ++ ofSweeps)) (atDesk r))
+desk-checks r = (refl, refl, refl)
 
 -- ---- answers by a refusal's number
 

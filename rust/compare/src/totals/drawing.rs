@@ -92,12 +92,12 @@ fn sampling(draw: &mut Draw) -> Drawn {
     Drawn { seed: draw.word(), from, to, samples }
 }
 
-/// More configurations than could be swept, at the ends of what is allowed; mostly with no pair or no beta, so that there is nothing to sweep.
+/// More configurations than could be swept, at the ends of what is allowed, or as many as the tester may have and more; mostly with no pair or no beta, so that there is nothing to sweep.
 pub fn vast(draw: &mut Draw) -> Call {
     let entry = draw.of(&[Entry::Enumerated, Entry::Stored, Entry::Sampled]);
     let options = draw.options();
     let free = match entry {
-        _ if draw.once_in(3) => draw.within(15, 18),
+        _ if draw.once_in(3) => draw.within(16, 17),
         Entry::Stored => draw.within(23, 26),
         _ => draw.within(33, 36),
     };
