@@ -84,8 +84,8 @@ enum copperhook_limit {
  * The `options` of a call are a sum of these; other bits are not read, so no number is a bad one.
  * COPPERHOOK_BLOCK: a sweep is rescaled by every fourth step's largest entry; without it, per element, by every step's.
  * COPPERHOOK_TESTER: the call is the bench tester's, which has smaller limits, COPPERHOOK_TESTER_WINDOW and, where all configurations are
- * gone through, COPPERHOOK_TESTER_FREE. Over one of them the call is refused by 22. A call that is not answers and leaves what it does
- * without this option, bit for bit.
+ * gone through, COPPERHOOK_TESTER_FREE. Over one of them the call is refused by 22. A call that 22 does not refuse returns and leaves the
+ * same as without this option, bit for bit.
  */
 enum copperhook_option { COPPERHOOK_PER_ELEMENT = 0, COPPERHOOK_BLOCK = 1, COPPERHOOK_TESTER = 4 };
 
@@ -144,7 +144,8 @@ size_t copperhook_couplings(size_t n, const size_t *a, size_t a_len, const size_
  * `factors` has two doubles for each beta and kept edge: with k kept edges, those of beta i and edge e are at 2 * (i * k + e) for plus and
  * next to it for minus, exp of the coupling and of its negative. Both result lists have exactly betas_len * us_len doubles, that of beta i
  * and pair p at i * us_len + p. `work` is as copperhook_correlations takes it, with the room that copperhook_room answers.
- * Refusals: 1 to 10 (4 and 21 of the betas too; 9 from 35 free edges on), 12, 13, 14; 22 by COPPERHOOK_TESTER, of the window and of free edges.
+ * Refusals: 1 to 10 (4 and 21 of the betas too; 9 from 35 free edges on), 12, 13, 14; 22 by COPPERHOOK_TESTER, of the window and of free
+ * edges.
  */
 size_t copperhook_exhaustive(size_t n, size_t floor, const size_t *a, size_t a_len, const size_t *b, size_t b_len, const double *m,
                              size_t m_len, const size_t *us, size_t us_len, const size_t *vs, size_t vs_len, const double *betas,
