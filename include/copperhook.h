@@ -39,7 +39,10 @@
 extern "C" {
 #endif
 
-/* Why a call is refused, in checking order; but 21 stands between 4 and 5, and calls for strips check 15 to 17 before 12. */
+/*
+ * Why a call is refused, in checking order; but 21 stands between 4 and 5, 22 right behind 6 for the window and right behind 9 for free
+ * edges, and calls for strips check 15 to 17 before 12.
+ */
 enum copperhook_refusal {
     COPPERHOOK_ACCEPTED = 0,
     COPPERHOOK_VERTEX_COUNT = 1,    /* the vertex count is 0 or above 1,024 */
@@ -60,7 +63,8 @@ enum copperhook_refusal {
     COPPERHOOK_ODD_CYLINDER = 16,   /* a honeycomb cylinder has odd width */
     COPPERHOOK_DILUTION = 17,       /* keep is not finite, or a magnitude bound is not finite or its size is above 1,024 */
     COPPERHOOK_SUMS = 18,           /* the count is 0 or above 2^53, or 0 <= fourth powers <= squares <= count fails */
-    COPPERHOOK_BETAS = 21           /* the betas do not rise strictly; asked between 4 and 5 */
+    COPPERHOOK_BETAS = 21,          /* the betas do not rise strictly; asked between 4 and 5 */
+    COPPERHOOK_TESTER_LIMIT = 22    /* in the tester's calls: the window is above 12, or all signs of over 16 free edges are gone through */
 };
 
 /* The most of each that a job may have, and how much a standard pair set takes at most. */
@@ -70,12 +74,20 @@ enum copperhook_limit {
     COPPERHOOK_MOST_PAIRS = 256,
     COPPERHOOK_MOST_BETAS = 64,
     COPPERHOOK_MOST_WINDOW = 24,
+    COPPERHOOK_TESTER_WINDOW = 12,
+    COPPERHOOK_TESTER_FREE = 16,
     COPPERHOOK_STANDARD_PAIRS = 18,
     COPPERHOOK_LABEL_BYTES = 306
 };
 
-/* How often a sweep is rescaled: by every step's largest entry, or by every fourth's. Any number but 0 is block. */
-enum copperhook_manner { COPPERHOOK_PER_ELEMENT = 0, COPPERHOOK_BLOCK = 1 };
+/*
+ * The `options` of a call are a sum of these; other bits are not read, so no number is a bad one.
+ * COPPERHOOK_BLOCK: a sweep is rescaled by every fourth step's largest entry; without it, per element, by every step's.
+ * COPPERHOOK_TESTER: the call is the bench tester's, which has smaller limits, COPPERHOOK_TESTER_WINDOW and, where all configurations are
+ * gone through, COPPERHOOK_TESTER_FREE. Over one of them the call is refused by 22. A call that 22 does not refuse returns and leaves the
+ * same as without this option, bit for bit.
+ */
+enum copperhook_option { COPPERHOOK_PER_ELEMENT = 0, COPPERHOOK_BLOCK = 1, COPPERHOOK_TESTER = 4 };
 
 /* The lattice of a strip; a site of COPPERHOOK_EIGHT has both diagonals, so eight neighbours. Any number but 0, 1 and 3 is honeycomb. */
 enum copperhook_kind { COPPERHOOK_SQUARE = 0, COPPERHOOK_TRIANGULAR = 1, COPPERHOOK_HONEYCOMB = 2, COPPERHOOK_EIGHT = 3 };
@@ -83,7 +95,7 @@ enum copperhook_kind { COPPERHOOK_SQUARE = 0, COPPERHOOK_TRIANGULAR = 1, COPPERH
 /* ---- Correlations of one configuration. */
 
 /*
- * The number of doubles of work memory that copperhook_correlations needs, in *room.
+ * The number of doubles of work memory that copperhook_correlations needs, in *room, whoever calls: no limit of the tester's is asked.
  * Pair i is us[i] and vs[i], in either order; pairs may repeat.
  * Refusals: 1 to 8.
  */
@@ -94,11 +106,11 @@ size_t copperhook_room(size_t n, size_t floor, const size_t *a, size_t a_len, co
  * The pair correlations <s_u s_v>, one for each pair, in `results`.
  * `factors` has one double for each kept edge, in their order: exp(beta times magnitude times sign). `results` is as long as the pairs;
  * `work` at least as long as the room, of which an accepted call leaves every double +0.0, and what lies behind it untouched.
- * Refusals: 1 to 8, 10, 12, 13, 14.
+ * Refusals: 1 to 8, 10, 12, 13, 14; 22 by COPPERHOOK_TESTER.
  */
 size_t copperhook_correlations(size_t n, size_t floor, const size_t *a, size_t a_len, const size_t *b, size_t b_len, const double *m,
                                size_t m_len, const size_t *us, size_t us_len, const size_t *vs, size_t vs_len, const double *factors,
-                               size_t factors_len, size_t manner, double *results, size_t results_len, double *work,
+                               size_t factors_len, size_t options, double *results, size_t results_len, double *work,
                                size_t work_len);
 
 /* Two vertices whose correlation is asked for, in either order. */
@@ -108,11 +120,11 @@ struct copperhook_pair {
 
 /*
  * The same with one list of pairs where copperhook_correlations has two lists of ends: pair i is pairs[i].u and pairs[i].v.
- * Refusals: 1 to 8, 10, 12, 13, 14.
+ * Refusals: 1 to 8, 10, 12, 13, 14; 22 by COPPERHOOK_TESTER.
  */
 size_t copperhook_correlations_of(size_t n, size_t floor, const size_t *a, size_t a_len, const size_t *b, size_t b_len, const double *m,
                                   size_t m_len, const struct copperhook_pair *pairs, size_t pairs_len, const double *factors,
-                                  size_t factors_len, size_t manner, double *results, size_t results_len, double *work,
+                                  size_t factors_len, size_t options, double *results, size_t results_len, double *work,
                                   size_t work_len);
 
 /*
@@ -132,21 +144,22 @@ size_t copperhook_couplings(size_t n, const size_t *a, size_t a_len, const size_
  * `factors` has two doubles for each beta and kept edge: with k kept edges, those of beta i and edge e are at 2 * (i * k + e) for plus and
  * next to it for minus, exp of the coupling and of its negative. Both result lists have exactly betas_len * us_len doubles, that of beta i
  * and pair p at i * us_len + p. `work` is as copperhook_correlations takes it, with the room that copperhook_room answers.
- * Refusals: 1 to 10 (4 and 21 of the betas too; 9 from 35 free edges on), 12, 13, 14.
+ * Refusals: 1 to 10 (4 and 21 of the betas too; 9 from 35 free edges on), 12, 13, 14; 22 by COPPERHOOK_TESTER, of the window and of free
+ * edges.
  */
 size_t copperhook_exhaustive(size_t n, size_t floor, const size_t *a, size_t a_len, const size_t *b, size_t b_len, const double *m,
                              size_t m_len, const size_t *us, size_t us_len, const size_t *vs, size_t vs_len, const double *betas,
-                             size_t betas_len, const double *factors, size_t factors_len, size_t manner, double *squares,
+                             size_t betas_len, const double *factors, size_t factors_len, size_t options, double *squares,
                              size_t squares_len, double *fourths, size_t fourths_len, double *work, size_t work_len, size_t *count);
 
 /*
  * The correlations of all configurations themselves: that of beta i, pair p and configuration x, of c, at (i * us_len + p) * c + x of
  * `stored`, which has exactly betas_len * us_len * c doubles. All else is as above.
- * Refusals: 1 to 10 (9 from 25 free edges on), 12, 13, 14.
+ * Refusals: 1 to 10 (9 from 25 free edges on), 12, 13, 14, 22.
  */
 size_t copperhook_exhaustive_c(size_t n, size_t floor, const size_t *a, size_t a_len, const size_t *b, size_t b_len, const double *m,
                                size_t m_len, const size_t *us, size_t us_len, const size_t *vs, size_t vs_len, const double *betas,
-                               size_t betas_len, const double *factors, size_t factors_len, size_t manner, double *stored,
+                               size_t betas_len, const double *factors, size_t factors_len, size_t options, double *stored,
                                size_t stored_len, double *work, size_t work_len, size_t *count);
 
 /*
@@ -154,11 +167,11 @@ size_t copperhook_exhaustive_c(size_t n, size_t floor, const size_t *a, size_t a
  * `from`. Chunk c draws the signs of its samples from the stream c of the seed (copperhook_rng_stream): a new word every 64 kept edges and
  * for each sample, lowest bit first, 0 for plus. *count is chunks times samples. The free edges are not counted.
  * Each chunk is summed from zero and the sums of the chunks are added in order: calls of one chunk each, added in order, give the same bits.
- * Refusals: 1 to 8 (4 and 21 of the betas too), 10, 11, 12, 13, 14.
+ * Refusals: 1 to 8 (4 and 21 of the betas too), 10, 11, 12, 13, 14; 22 by COPPERHOOK_TESTER, of the window alone.
  */
 size_t copperhook_sample(size_t n, size_t floor, const size_t *a, size_t a_len, const size_t *b, size_t b_len, const double *m,
                          size_t m_len, const size_t *us, size_t us_len, const size_t *vs, size_t vs_len, const double *betas,
-                         size_t betas_len, const double *factors, size_t factors_len, size_t manner, uint64_t seed, uint64_t from,
+                         size_t betas_len, const double *factors, size_t factors_len, size_t options, uint64_t seed, uint64_t from,
                          uint64_t to, size_t samples, double *squares, size_t squares_len, double *fourths, size_t fourths_len,
                          double *work, size_t work_len, size_t *count);
 

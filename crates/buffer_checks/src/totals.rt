@@ -7,7 +7,10 @@ ghost use Rattle.refusals.specs.AcceptedTotals.{misfits, enumerationLists, samp
 ghost use Rattle.plan_layout.specs.Places.{Pairs};
 use crate::factors::bad_factors;
 use crate::lists::check_buffers;
+use limits::Caller;
 use limits::SAMPLES;
+use limits::TESTER_FREE;
+use limits::over_limit;
 
 // 11. End above start, and chunks times samples per chunk exceed 2^32. The product may not fit into a word, so a quotient is compared.
 pub fn too_many_chunks(start: usize, end: usize, samples: usize) -> bool
@@ -32,9 +35,10 @@ fn misfit(wanted: usize, squares: usize, fourths: usize) -> bool
     fourths != wanted
 }
 
-// Checks 9, 10, 12 and 13 of a call that goes through the configurations of so many free edges, where so many are the most.
+// Checks 9, 22, 10, 12 and 13 of a caller's call that goes through the configurations of so many free edges, where so many are the most.
 // Returns the refusal's number, 0 for accepted.
 pub fn check_enumeration(
+    caller: Caller,
     n: usize,
     w: usize,
     edges: usize,
@@ -50,11 +54,14 @@ pub fn check_enumeration(
     work: usize,
 ) -> usize
     requires { ⌜ Pairs (now us) (now vs) n × (n ≤ mostVertices) × (w ≤ mostWindow) × (edges ≤ mostEdges) × (betas ≤ mostBetas) ⌝ }
-    ensures { λ r. ⌜ r ≡ enumerationLists n w edges (now (us .entry)) (now (vs .entry)) betas (now (factors .entry)) free most
+    ensures { λ r. ⌜ r ≡ enumerationLists caller n w edges (now (us .entry)) (now (vs .entry)) betas (now (factors .entry)) free most
         (misfits wanted squares fourths) work ⌝ }
 {
     if most < free {
         return 9;
+    }
+    if over_limit(caller, TESTER_FREE, free) {
+        return 22;
     }
     if bad_factors(factors, 2 * (betas * edges)) {
         return 10;

@@ -2,9 +2,9 @@
 ghost use Prim.Native.Nat.{_≤_};
 ghost use Rattle.entry_correlations.specs.Correlations.{Correlated};
 ghost use Rattle.c_pair_records.specs.Columns.{firstEnds, secondEnds, mostCopied};
-ghost use Rattle.c_values.specs.Manners.{mannerNumbered};
+ghost use Rattle.c_values.specs.Options.{optionsNumbered};
 use c_pair_records::Ends;
-use c_values::manner_numbered;
+use c_values::options_numbered;
 
 // The correlations of the pairs whose ends are held.
 pub fn correlations_between(
@@ -15,17 +15,20 @@ pub fn correlations_between(
     b: &[usize],
     m: &[f64],
     factors: &[f64],
-    manner: usize,
+    options: usize,
     results: &mut [f64],
     work: &mut [f64],
 ) -> usize
     requires { ⌜ e .count ≤ mostCopied ⌝ }
     ensures { λ r. ⌜ Correlated n floor (now (a .entry)) (now (b .entry)) (now (m .entry)) (firstEnds e) (secondEnds e)
-        (now (factors .entry)) (mannerNumbered manner) r (now (results .entry)) (now (results .exit)) (now (work .entry)) (now (work .exit)) ⌝ }
+        (now (factors .entry)) (optionsNumbered options .manner) (optionsNumbered options .caller) r (now (results .entry)) (now (results .exit)) (now (work .entry)) (now (work .exit)) ⌝ }
 {
     let count = e.count;
     let us = e.us;
     let vs = e.vs;
+    let asked = options_numbered(options);
+    let manner = asked.manner;
+    let caller = asked.caller;
     entry_correlations::correlations(
         n,
         floor,
@@ -35,7 +38,8 @@ pub fn correlations_between(
         &us[..count],
         &vs[..count],
         factors,
-        manner_numbered(manner),
+        manner,
+        caller,
         results,
         work,
     )

@@ -1,6 +1,6 @@
 -- The definitions that the contracts cite,
 pub mod Kinds
-pub mod Manners
+pub mod Options
 pub mod Numbers
 pub mod Graphs
 pub mod Distances

@@ -1,11 +1,11 @@
-// What the numbers of a call over C name: a kind, a strip and a manner.
+// What the numbers of a call over C name: a kind, a strip and options.
 mod bounds;
 mod distances;
 mod estimates;
 mod graphs;
 mod kinds;
-mod manners;
 mod numbers;
+mod options;
 mod vertices;
 
 pub use bounds::tell_bound;
@@ -15,6 +15,7 @@ pub use graphs::tell_graph;
 pub use kinds::kind_numbered;
 pub use kinds::number_of;
 pub use kinds::strip_numbered;
-pub use manners::manner_numbered;
 pub use numbers::tell_number;
+pub use options::Options;
+pub use options::options_numbered;
 pub use vertices::tell_vertex;

@@ -13,11 +13,11 @@ use Rattle.graph_edges.specs.Graphs.{Set}
 use Rattle.graph.specs.Reached.{Distanced}
 use Rattle.graph_edges.specs.declared.Made.{Made}
 use Rattle.graph.specs.declared.graph.Reached.{Reached}
-use Rattle.entry_correlations.specs.declared.Manner.{Manner}
 use Rattle.strip.specs.declared.strip.Strip.{Strip}
 use Rattle.strip_bonds.specs.Edges.{edges, earlyEnds, lateEnds}
 use Rattle.strip_pairs.specs.PairSet.{Pair, firsts, seconds, labelBytes}
 use Rattle.totals_call.specs.Calls.{Totalled, Stored, Enumerated, EnumeratedEach, Sampled}
+use Rattle.c_values.specs.declared.options.Options.{Options}
 use Rattle.c_values.specs.Numbers.{Tells}
 use Rattle.c_values.specs.Laws.Numbers.{told-number, told-held, told-again, told-refused}
 use Rattle.c_values.specs.Graphs as Graphs
@@ -28,9 +28,9 @@ use Rattle.copperhook.specs.Strips.{StripEdges}
 use Rattle.copperhook.specs.PairSets.{Paired}
 use Rattle.copperhook.specs.Distances.{Told}
 
--- what holds of a manner and an answer holds of what these equal
-carried : (F : Manner → Answer → Type 0) {manner manner′ : Manner} {a a′ : Answer} → manner ≡ manner′ → a ≡ a′ → F manner a → F manner′ a′
-carried F {manner} {manner′} {a} {a′} e p g = subst (λ (x : Answer). F manner′ x) p (subst (λ (x : Manner). F x a) e g)
+-- what holds of options and an answer holds of what these equal
+carried : (F : Options → Answer → Type 0) {o o′ : Options} {a a′ : Answer} → o ≡ o′ → a ≡ a′ → F o a → F o′ a′
+carried F {o} {o′} {a} {a′} e p g = subst (λ (x : Answer). F o′ x) p (subst (λ (x : Options). F x a) e g)
 
 -- ---- totals: the answer again, from its number and the count
 
@@ -43,27 +43,26 @@ module _ {answer : Answer} {r count count′ : ℕ} (t : Tells answer r count co
       → Stored refused number correlations end answer stored stored′ work work′ → (answer ≡ answered r count′) × ((r ≡ 0 → ⊥) → count′ ≡ count)
   stored-again {refused} {number} g = (told-again refused number (g .answer) t, told-refused refused number (g .answer) t)
 
-module _ {n floor : ℕ} {a b : List ℕ} {m : List Float} {us vs : List ℕ} {betas factors : List Float} {manner manner′ : Manner} {answer : Answer} {r count count′ : ℕ}
-    (e : manner ≡ manner′) where
+module _ {n floor : ℕ} {a b : List ℕ} {m : List Float} {us vs : List ℕ} {betas factors : List Float} {o o′ : Options} {answer : Answer} {r count count′ : ℕ} (e : o ≡ o′) where
   pub enumerated-told : {squares squares′ fourths fourths′ work work′ : List Float}
-      → Enumerated n floor a b m us vs betas factors manner answer squares squares′ fourths fourths′ work work′ → Tells answer r count count′
-      → Enumerated n floor a b m us vs betas factors manner′ (answered r count′) squares squares′ fourths fourths′ work work′ × ((r ≡ 0 → ⊥) → count′ ≡ count)
+      → Enumerated n floor a b m us vs betas factors (o .manner) (o .caller) answer squares squares′ fourths fourths′ work work′ → Tells answer r count count′
+      → Enumerated n floor a b m us vs betas factors (o′ .manner) (o′ .caller) (answered r count′) squares squares′ fourths fourths′ work work′ × ((r ≡ 0 → ⊥) → count′ ≡ count)
   enumerated-told {squares} {squares′} {fourths} {fourths′} {work} {work′} g t =
       let again = totalled-again t (g .call) in
-      (carried (λ x y. Enumerated n floor a b m us vs betas factors x y squares squares′ fourths fourths′ work work′) e (again .0) g, again .1)
+      (carried (λ (x : Options) (y : Answer). Enumerated n floor a b m us vs betas factors (x .manner) (x .caller) y squares squares′ fourths fourths′ work work′) e (again .0) g, again .1)
 
-  pub stored-told : {stored stored′ work work′ : List Float} → EnumeratedEach n floor a b m us vs betas factors manner answer stored stored′ work work′ → Tells answer r count count′
-      → EnumeratedEach n floor a b m us vs betas factors manner′ (answered r count′) stored stored′ work work′ × ((r ≡ 0 → ⊥) → count′ ≡ count)
+  pub stored-told : {stored stored′ work work′ : List Float} → EnumeratedEach n floor a b m us vs betas factors (o .manner) (o .caller) answer stored stored′ work work′ → Tells answer r count count′
+      → EnumeratedEach n floor a b m us vs betas factors (o′ .manner) (o′ .caller) (answered r count′) stored stored′ work work′ × ((r ≡ 0 → ⊥) → count′ ≡ count)
   stored-told {stored} {stored′} {work} {work′} g t =
       let again = stored-again t (g .call) in
-      (carried (λ x y. EnumeratedEach n floor a b m us vs betas factors x y stored stored′ work work′) e (again .0) g, again .1)
+      (carried (λ (x : Options) (y : Answer). EnumeratedEach n floor a b m us vs betas factors (x .manner) (x .caller) y stored stored′ work work′) e (again .0) g, again .1)
 
   pub sampled-told : {seed from to samples : ℕ} {squares squares′ fourths fourths′ work work′ : List Float}
-      → Sampled n floor a b m us vs betas factors manner seed from to samples answer squares squares′ fourths fourths′ work work′ → Tells answer r count count′
-      → Sampled n floor a b m us vs betas factors manner′ seed from to samples (answered r count′) squares squares′ fourths fourths′ work work′ × ((r ≡ 0 → ⊥) → count′ ≡ count)
+      → Sampled n floor a b m us vs betas factors (o .manner) (o .caller) seed from to samples answer squares squares′ fourths fourths′ work work′ → Tells answer r count count′
+      → Sampled n floor a b m us vs betas factors (o′ .manner) (o′ .caller) seed from to samples (answered r count′) squares squares′ fourths fourths′ work work′ × ((r ≡ 0 → ⊥) → count′ ≡ count)
   sampled-told {seed} {from} {to} {samples} {squares} {squares′} {fourths} {fourths′} {work} {work′} g t =
       let again = totalled-again t (g .call) in
-      (carried (λ x y. Sampled n floor a b m us vs betas factors x seed from to samples y squares squares′ fourths fourths′ work work′) e (again .0) g, again .1)
+      (carried (λ (x : Options) (y : Answer). Sampled n floor a b m us vs betas factors (x .manner) (x .caller) seed from to samples y squares squares′ fourths fourths′ work work′) e (again .0) g, again .1)
 
 -- ---- the edges of a strip, and its pairs
 

@@ -1,8 +1,8 @@
-// The pair correlations of one configuration, with the manner as a number.
+// The pair correlations of one configuration, with the options as a number.
 ghost use mathlib.Core.Path.{_≡_};
 ghost use Rattle.entry_correlations.specs.Correlations.{Correlated};
-ghost use Rattle.c_values.specs.Manners.{mannerNumbered};
-use c_values::manner_numbered;
+ghost use Rattle.c_values.specs.Options.{optionsNumbered};
+use c_values::options_numbered;
 
 // As `glass::correlations`.
 #[no_mangle]
@@ -15,13 +15,16 @@ pub extern "C" fn copperhook_correlations(
     us: &[usize],
     vs: &[usize],
     factors: &[f64],
-    manner: usize,
+    options: usize,
     results: &mut [f64],
     work: &mut [f64],
 ) -> usize
     ensures { λ r. ⌜ Correlated n floor (now (a .entry)) (now (b .entry)) (now (m .entry)) (now (us .entry)) (now (vs .entry))
-        (now (factors .entry)) (mannerNumbered manner) r (now (results .entry)) (now (results .exit)) (now (work .entry)) (now (work .exit)) ⌝ }
+        (now (factors .entry)) (optionsNumbered options .manner) (optionsNumbered options .caller) r (now (results .entry)) (now (results .exit)) (now (work .entry)) (now (work .exit)) ⌝ }
 {
+    let asked = options_numbered(options);
+    let manner = asked.manner;
+    let caller = asked.caller;
     entry_correlations::correlations(
         n,
         floor,
@@ -31,7 +34,8 @@ pub extern "C" fn copperhook_correlations(
         us,
         vs,
         factors,
-        manner_numbered(manner),
+        manner,
+        caller,
         results,
         work,
     )

@@ -2,7 +2,7 @@
 ghost use mathlib.Core.Path.{_≡_};
 ghost use Rattle.entry_correlations.specs.Correlations.{Correlated};
 ghost use Rattle.c_pair_records.specs.Columns.{firsts, seconds};
-ghost use Rattle.c_values.specs.Manners.{mannerNumbered};
+ghost use Rattle.c_values.specs.Options.{optionsNumbered};
 use c_correlations::correlations_between;
 use c_pair_records::Pair;
 use c_pair_records::gather;
@@ -17,12 +17,12 @@ pub extern "C" fn copperhook_correlations_of(
     m: &[f64],
     pairs: &[Pair],
     factors: &[f64],
-    manner: usize,
+    options: usize,
     results: &mut [f64],
     work: &mut [f64],
 ) -> usize
     ensures { λ r. ⌜ Correlated n floor (now (a .entry)) (now (b .entry)) (now (m .entry)) (firsts (now (pairs .entry))) (seconds (now (pairs .entry)))
-        (now (factors .entry)) (mannerNumbered manner) r (now (results .entry)) (now (results .exit)) (now (work .entry)) (now (work .exit)) ⌝ }
+        (now (factors .entry)) (optionsNumbered options .manner) (optionsNumbered options .caller) r (now (results .entry)) (now (results .exit)) (now (work .entry)) (now (work .exit)) ⌝ }
 {
     correlations_between(
         gather(pairs),
@@ -32,7 +32,7 @@ pub extern "C" fn copperhook_correlations_of(
         b,
         m,
         factors,
-        manner,
+        options,
         results,
         work,
     )

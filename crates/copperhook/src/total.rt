@@ -2,8 +2,8 @@
 ghost use mathlib.Core.Path.{_≡_};
 ghost use Rattle.refusals.specs.Answers.{answered};
 ghost use Rattle.totals_call.specs.Calls.{Enumerated, EnumeratedEach, Sampled};
-ghost use Rattle.c_values.specs.Manners.{mannerNumbered};
-use c_values::manner_numbered;
+ghost use Rattle.c_values.specs.Options.{optionsNumbered};
+use c_values::options_numbered;
 use c_values::tell_number;
 
 // As `exhaustive::exhaustive`, how many configurations there are in `count`; where the call is refused, that keeps what it held.
@@ -18,17 +18,20 @@ pub extern "C" fn copperhook_exhaustive(
     vs: &[usize],
     betas: &[f64],
     factors: &[f64],
-    manner: usize,
+    options: usize,
     squares: &mut [f64],
     fourths: &mut [f64],
     work: &mut [f64],
     count: &mut usize,
 ) -> usize
     ensures { λ r. ⌜ Enumerated n floor (now (a .entry)) (now (b .entry)) (now (m .entry)) (now (us .entry)) (now (vs .entry))
-        (now (betas .entry)) (now (factors .entry)) (mannerNumbered manner)
+        (now (betas .entry)) (now (factors .entry)) (optionsNumbered options .manner) (optionsNumbered options .caller)
         (answered r (now (count .exit))) (now (squares .entry)) (now (squares .exit)) (now (fourths .entry)) (now (fourths .exit)) (now (work .entry)) (now (work .exit)) ⌝ }
     ensures { λ r. ⌜ ((r ≡ 0 → ⊥) → now (count .exit) ≡ now (count .entry)) ⌝ }
 {
+    let asked = options_numbered(options);
+    let manner = asked.manner;
+    let caller = asked.caller;
     let answer = entry_exhaustive::exhaustive(
         n,
         floor,
@@ -39,7 +42,8 @@ pub extern "C" fn copperhook_exhaustive(
         vs,
         betas,
         factors,
-        manner_numbered(manner),
+        manner,
+        caller,
         squares,
         fourths,
         work,
@@ -59,16 +63,19 @@ pub extern "C" fn copperhook_exhaustive_c(
     vs: &[usize],
     betas: &[f64],
     factors: &[f64],
-    manner: usize,
+    options: usize,
     stored: &mut [f64],
     work: &mut [f64],
     count: &mut usize,
 ) -> usize
     ensures { λ r. ⌜ EnumeratedEach n floor (now (a .entry)) (now (b .entry)) (now (m .entry)) (now (us .entry)) (now (vs .entry))
-        (now (betas .entry)) (now (factors .entry)) (mannerNumbered manner)
+        (now (betas .entry)) (now (factors .entry)) (optionsNumbered options .manner) (optionsNumbered options .caller)
         (answered r (now (count .exit))) (now (stored .entry)) (now (stored .exit)) (now (work .entry)) (now (work .exit)) ⌝ }
     ensures { λ r. ⌜ ((r ≡ 0 → ⊥) → now (count .exit) ≡ now (count .entry)) ⌝ }
 {
+    let asked = options_numbered(options);
+    let manner = asked.manner;
+    let caller = asked.caller;
     let answer = entry_exhaustive_c::exhaustive_c(
         n,
         floor,
@@ -79,7 +86,8 @@ pub extern "C" fn copperhook_exhaustive_c(
         vs,
         betas,
         factors,
-        manner_numbered(manner),
+        manner,
+        caller,
         stored,
         work,
     );
@@ -98,7 +106,7 @@ pub extern "C" fn copperhook_sample(
     vs: &[usize],
     betas: &[f64],
     factors: &[f64],
-    manner: usize,
+    options: usize,
     seed: u64,
     from: u64,
     to: u64,
@@ -109,10 +117,13 @@ pub extern "C" fn copperhook_sample(
     count: &mut usize,
 ) -> usize
     ensures { λ r. ⌜ Sampled n floor (now (a .entry)) (now (b .entry)) (now (m .entry)) (now (us .entry)) (now (vs .entry))
-        (now (betas .entry)) (now (factors .entry)) (mannerNumbered manner) seed from to samples
+        (now (betas .entry)) (now (factors .entry)) (optionsNumbered options .manner) (optionsNumbered options .caller) seed from to samples
         (answered r (now (count .exit))) (now (squares .entry)) (now (squares .exit)) (now (fourths .entry)) (now (fourths .exit)) (now (work .entry)) (now (work .exit)) ⌝ }
     ensures { λ r. ⌜ ((r ≡ 0 → ⊥) → now (count .exit) ≡ now (count .entry)) ⌝ }
 {
+    let asked = options_numbered(options);
+    let manner = asked.manner;
+    let caller = asked.caller;
     let answer = entry_sample::sample(
         n,
         floor,
@@ -123,7 +134,8 @@ pub extern "C" fn copperhook_sample(
         vs,
         betas,
         factors,
-        manner_numbered(manner),
+        manner,
+        caller,
         seed,
         from,
         to,

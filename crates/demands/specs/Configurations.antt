@@ -8,6 +8,7 @@ use native.Mathlib.Nat.{mod-lt, div-lt-iff-lt-mul}
 use native.Mathlib.Omega.{arith}
 use lib.Ieee.{Float}
 use lib.ListN.{length}
+use Rattle.limits.specs.declared.Caller.{Caller}
 use Rattle.list_laws.specs.Search.{some}
 use Rattle.list_laws.specs.Laws.Search.{none-at}
 use Rattle.forest.specs.FreeEdges.{freeCount, bitOf}
@@ -105,14 +106,14 @@ module _ (n floor : ℕ) (a b : List ℕ) (m : List Float) (us vs : List ℕ) (b
   abbrev bad : Bool
   bad = unsoundEnumeration n (windowFrom floor a b m) (early a b m) (late a b m) factors (mannerOf manner) us vs (length betas)
 
-  module _ (most : ℕ)
-      (accepted : refusal ofEnumeration (enumerationRequest n floor a b m us vs betas factors (free a b m) most misfit work bad) ≡ 0) where
+  module _ (caller : Caller) (most : ℕ)
+      (accepted : refusal ofEnumeration (enumerationRequest caller n floor a b m us vs betas factors (free a b m) most misfit work bad) ≡ 0) where
     pub enumeration-facts : AcceptedTotals n floor a b m us vs betas factors misfit work × (free a b m ≤ most)
-    enumeration-facts = accepted-enumeration n floor a b m us vs betas factors (free a b m) most misfit work bad 0 accepted (inl refl)
+    enumeration-facts = accepted-enumeration caller n floor a b m us vs betas factors (free a b m) most misfit work bad 0 accepted (inl refl)
 
     none-bad : bad ≡ false
     none-bad =
-        passed-at ofEnumeration (enumerationRequest n floor a b m us vs betas factors (free a b m) most misfit work bad) accepted Key.partitionSums refl
+        passed-at ofEnumeration (enumerationRequest caller n floor a b m us vs betas factors (free a b m) most misfit work bad) accepted Key.partitionSums refl
 
     pub few-free : free a b m ≤ most
     few-free = enumeration-facts .1

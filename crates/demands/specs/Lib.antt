@@ -11,5 +11,6 @@ pub mod Calls
 pub mod Alone
 pub mod Strips
 pub mod Couplings
+pub mod Tester
 -- and the laws of these definitions, which no reader needs to believe.
 pub mod Laws

@@ -1,13 +1,14 @@
 -- A call's answer and lists, from what its checks answered and what the job said.
 use mathlib.Core.Path.{_≡_, refl, sym, ap, _∙_, subst}
 use mathlib.Core.Bool.{Bool, true, false, cond, not, _||_}
-use mathlib.Core.List.{List}
+use mathlib.Core.List.{List, []}
 use Prim.Native.Nat.{ℕ, zero, suc, _≤_, _<_}
 use native.Mathlib.Omega.{arith}
 use lib.Dec.{eqb}
 use lib.Ieee.{Float, nan}
 use lib.ListN.{length, getD, take, length-map}
 use borrow.Author.Tests.{ne-eqb}
+use Rattle.limits.specs.declared.Caller.{Caller}
 use Rattle.list_laws.specs.Front.{over}
 use Rattle.transfer_matrix.specs.Job as Job
 use Rattle.transfer_matrix.specs.Job.{Job, block, perElement}
@@ -16,8 +17,8 @@ use Rattle.transfer_matrix.specs.Room.{room}
 use Rattle.transfer_matrix.specs.Rounded.{ieee}
 use Rattle.transfer_matrix.specs.Sweep as S
 use Rattle.refusals.specs.Edges.{kept, windowFrom, keptEarly, keptLate}
-use Rattle.refusals.specs.Request.{roomRequest, correlationRequest}
-use Rattle.refusals.specs.Refusal.{checks, refusal, ofRoom, ofLists, ofCorrelations}
+use Rattle.refusals.specs.Request.{callRequest, correlationRequest}
+use Rattle.refusals.specs.Refusal.{checks, refusal, ofJob, ofLists, ofCorrelations}
 use Rattle.refusals.specs.Laws.Later.{orElse, is-among}
 use Rattle.refusals.specs.AcceptedJob.{listsRefusal}
 use Rattle.refusals.specs.Laws.AcceptedJob.{correlations-in-parts, accepted-lists}
@@ -31,24 +32,24 @@ use Rattle.entry_correlations.specs.Correlations.{mannerOf, jobGiven, se
 use Rattle.entry_correlations.specs.Laws.Settling.{settled-not, cleared-not, not-14}
 use Rattle.entry_correlations.specs.declared.Manner.{Manner}
 
-module _ (n floor : ℕ) (a b : List ℕ) (m : List Float) (us vs : List ℕ) (factors : List Float) (manner : Manner) (results work : List Float) where
+module _ (n floor : ℕ) (a b : List ℕ) (m : List Float) (us vs : List ℕ) (factors : List Float) (manner : Manner) (caller : Caller) (results work : List Float) where
   abbrev job : Job Float
   job = jobGiven n floor a b m factors manner
 
   abbrev early-refusal : ℕ
-  early-refusal = refusal ofRoom (roomRequest n floor a b m us vs)
+  early-refusal = refusal ofJob (callRequest caller n floor a b m us vs [])
 
   abbrev lists-refusal : ℕ
   lists-refusal = listsRefusal n (windowFrom floor a b m) (length (kept a b m)) us vs factors (length results) (length work)
 
-  whole : refusal ofCorrelations (correlationRequest n floor a b m us vs factors (length results) (length work) (unsound job us vs))
+  whole : refusal ofCorrelations (correlationRequest caller n floor a b m us vs factors (length results) (length work) (unsound job us vs))
       ≡ orElse early-refusal (orElse lists-refusal (cond (unsound job us vs) 14 0))
-  whole = correlations-in-parts n floor a b m us vs factors (length results) (length work) (unsound job us vs)
+  whole = correlations-in-parts caller n floor a b m us vs factors (length results) (length work) (unsound job us vs)
 
   -- refused by one of 1 to 8
-  pub refused-early : (r : ℕ) → r ≡ early-refusal → (r ≡ 0 → ⊥) → Correlated n floor a b m us vs factors manner r results results work work
+  pub refused-early : (r : ℕ) → r ≡ early-refusal → (r ≡ 0 → ⊥) → Correlated n floor a b m us vs factors manner caller r results results work work
   refused-early r e z =
-      let q = not-14 ofRoom early-refusal refl (is-among ofRoom (roomRequest n floor a b m us vs) checks) in
+      let q = not-14 ofJob early-refusal refl (is-among ofJob (callRequest caller n floor a b m us vs []) checks) in
       record {
         answer = go early-refusal e ∙ sym whole;
         answers = settled-not r _ results z (λ p. q (sym e ∙ p));
@@ -61,10 +62,10 @@ module _ (n floor : ℕ) (a b : List ℕ) (m : List Float) (us vs : List ℕ) (f
 
   -- by 10, 12 or 13
   pub refused-lists : (r : ℕ) → 0 ≡ early-refusal → r ≡ lists-refusal → (r ≡ 0 → ⊥)
-      → Correlated n floor a b m us vs factors manner r results results work work
+      → Correlated n floor a b m us vs factors manner caller r results results work work
   refused-lists r o e z =
       let q = not-14 ofLists lists-refusal refl
-      (is-among ofLists (correlationRequest n floor a b m us vs factors (length results) (length work) false) checks) in
+      (is-among ofLists (correlationRequest caller n floor a b m us vs factors (length results) (length work) false) checks) in
       record {
         answer = go lists-refusal e ∙ ap (λ (k : ℕ). orElse k (orElse lists-refusal (cond (unsound job us vs) 14 0))) o ∙ sym whole;
         answers = settled-not r _ results z (λ p. q (sym e ∙ p));
@@ -78,7 +79,7 @@ module _ (n floor : ℕ) (a b : List ℕ) (m : List Float) (us vs : List ℕ) (f
   -- by none of these: the job was finished
   module _ (o : 0 ≡ early-refusal) (e : 0 ≡ lists-refusal) (results′ work′ : List Float) (fits : length results ≡ length us) where
     late : (t : Bool) → unsound job us vs ≡ t → cond t 14 0 ≡ refusal ofCorrelations
-        (correlationRequest n floor a b m us vs factors (length results) (length work) (unsound job us vs))
+        (correlationRequest caller n floor a b m us vs factors (length results) (length work) (unsound job us vs))
     late t p =
         sym (ap (λ (x : Bool). cond x 14 0) p) ∙ ap (λ (k : ℕ). orElse k (cond (unsound job us vs) 14 0)) e
         ∙ ap (λ (k : ℕ). orElse k (orElse lists-refusal (cond (unsound job us vs) 14 0))) o ∙ sym whole
@@ -90,12 +91,12 @@ module _ (n floor : ℕ) (a b : List ℕ) (m : List Float) (us vs : List ℕ) (f
     turned false false p = p
 
     pub accepted : JobFinished job n (length (kept a b m)) us vs true results′ work work′
-        → Correlated n floor a b m us vs factors manner 0 results results′ work work′
+        → Correlated n floor a b m us vs factors manner caller 0 results results′ work work′
     unfolding settled cleared
     accepted g = record { answer = late false (turned true _ (g .told)); answers = g .answers; memory = g .memory }
 
     pub refused-14 : JobFinished job n (length (kept a b m)) us vs false results′ work work′
-        → Correlated n floor a b m us vs factors manner 14 results results′ work work′
+        → Correlated n floor a b m us vs factors manner caller 14 results results′ work work′
     unfolding settled cleared
     refused-14 g =
         record { answer = late true (turned false _ (g .told)); answers = g .answers ∙ ap zeros (sym fits); memory = g .memory }

@@ -6,6 +6,7 @@ use Prim.Native.Nat.{ℕ}
 use lib.Dec.{eqb}
 use lib.Ieee.{Float, nan}
 use lib.ListN.{length}
+use Rattle.limits.specs.declared.Caller.{Caller}
 use Rattle.list_laws.specs.Front.{over}
 use Rattle.transfer_matrix.specs.Job as Job
 use Rattle.transfer_matrix.specs.Job.{Job, block, perElement}
@@ -39,10 +40,10 @@ settled refused answers old = cond (eqb refused 0) answers (cond (eqb refused 14
 unfoldable pub cleared : (refused end : ℕ) → List Float → List Float
 cleared refused end old = cond (eqb refused 0 || eqb refused 14) (over (zeros end) old) old
 
--- The answer r of a call, and the results and the work memory after it.
+-- The answer r of a caller's call, and the results and the work memory after it.
 pub record Correlated (n floor : ℕ) (a b : List ℕ) (m : List Float) (us vs : List ℕ) (factors : List Float) (manner : Manner)
-    (r : ℕ) (results results′ work work′ : List Float) : Type 0 where
+    (caller : Caller) (r : ℕ) (results results′ work work′ : List Float) : Type 0 where
   pub answer : r ≡ refusal ofCorrelations
-      (correlationRequest n floor a b m us vs factors (length results) (length work) (unsound (jobGiven n floor a b m factors manner) us vs))
+      (correlationRequest caller n floor a b m us vs factors (length results) (length work) (unsound (jobGiven n floor a b m factors manner) us vs))
   pub answers : results′ ≡ settled r (S.answers ieee (jobGiven n floor a b m factors manner) us vs) results
   pub memory : work′ ≡ cleared r (room n (windowFrom floor a b m) (length (kept a b m)) us vs) work

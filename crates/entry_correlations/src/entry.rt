@@ -5,6 +5,7 @@ use crate::rescaling::is_elementwise;
 use buffer_checks::check_lists;
 use job_checks::check_job;
 use job_run::answer_job;
+use limits::Caller;
 use limits::EDGES;
 
 // Writes the correlation of each pair to `results`. The edges come in three lists of ends and magnitudes, the pairs in two lists of ends;
@@ -19,16 +20,29 @@ pub fn correlations(
     vs: &[usize],
     factors: &[f64],
     manner: Manner,
+    caller: Caller,
     results: &mut [f64],
     work: &mut [f64],
 ) -> usize
     ensures { λ r. ⌜ Correlated n floor (now (a .entry)) (now (b .entry)) (now (m .entry)) (now (us .entry)) (now (vs .entry))
-        (now (factors .entry)) manner r (now (results .entry)) (now (results .exit)) (now (work .entry)) (now (work .exit)) ⌝ }
+        (now (factors .entry)) manner caller r (now (results .entry)) (now (results .exit)) (now (work .entry)) (now (work .exit)) ⌝ }
 {
     let mut early = [0usize; EDGES];
     let mut late = [0usize; EDGES];
     let mut mag = [0.0f64; EDGES];
-    let job = check_job(n, floor, a, b, m, us, vs, &mut early, &mut late, &mut mag);
+    let job = check_job(
+        caller,
+        n,
+        floor,
+        a,
+        b,
+        m,
+        us,
+        vs,
+        &mut early,
+        &mut late,
+        &mut mag,
+    );
     let refused = job.refusal;
     if refused != 0 {
         return refused;

@@ -6,6 +6,7 @@ use entry_correlations::is_elementwise;
 use forest::number_free_edges;
 use job_checks::check_with_betas;
 use limits::COUNTED;
+use limits::Caller;
 use limits::EDGES;
 use refusals::Answer;
 use step_tables::pow2;
@@ -25,18 +26,20 @@ pub fn exhaustive(
     betas: &[f64],
     factors: &[f64],
     manner: Manner,
+    caller: Caller,
     squares: &mut [f64],
     fourths: &mut [f64],
     work: &mut [f64],
 ) -> Answer
     ensures { λ r. ⌜ Enumerated n floor (now (a .entry)) (now (b .entry)) (now (m .entry)) (now (us .entry)) (now (vs .entry))
-        (now (betas .entry)) (now (factors .entry)) manner r (now (squares .entry)) (now (squares .exit))
+        (now (betas .entry)) (now (factors .entry)) manner caller r (now (squares .entry)) (now (squares .exit))
         (now (fourths .entry)) (now (fourths .exit)) (now (work .entry)) (now (work .exit)) ⌝ }
 {
     let mut early = [0usize; EDGES];
     let mut late = [0usize; EDGES];
     let mut mag = [0.0f64; EDGES];
     let job = check_with_betas(
+        caller,
         n,
         floor,
         a,
@@ -58,6 +61,7 @@ pub fn exhaustive(
     let mut bits = [0usize; EDGES];
     let free = number_free_edges(n, &early[..edges], &late[..edges], &mut bits[..edges]);
     let unfit = check_enumeration(
+        caller,
         n,
         w,
         edges,

@@ -9,6 +9,7 @@ use entry_correlations::Manner;
 use entry_correlations::is_elementwise;
 use forest::number_free_edges;
 use job_checks::check_with_betas;
+use limits::Caller;
 use limits::EDGES;
 use limits::STORED;
 use refusals::Answer;
@@ -38,16 +39,18 @@ pub fn exhaustive_c(
     betas: &[f64],
     factors: &[f64],
     manner: Manner,
+    caller: Caller,
     stored: &mut [f64],
     work: &mut [f64],
 ) -> Answer
     ensures { λ r. ⌜ EnumeratedEach n floor (now (a .entry)) (now (b .entry)) (now (m .entry)) (now (us .entry)) (now (vs .entry))
-        (now (betas .entry)) (now (factors .entry)) manner r (now (stored .entry)) (now (stored .exit)) (now (work .entry)) (now (work .exit)) ⌝ }
+        (now (betas .entry)) (now (factors .entry)) manner caller r (now (stored .entry)) (now (stored .exit)) (now (work .entry)) (now (work .exit)) ⌝ }
 {
     let mut early = [0usize; EDGES];
     let mut late = [0usize; EDGES];
     let mut mag = [0.0f64; EDGES];
     let job = check_with_betas(
+        caller,
         n,
         floor,
         a,
@@ -69,6 +72,7 @@ pub fn exhaustive_c(
     let mut bits = [0usize; EDGES];
     let free = number_free_edges(n, &early[..edges], &late[..edges], &mut bits[..edges]);
     let unfit = check_enumeration(
+        caller,
         n,
         w,
         edges,

@@ -4,6 +4,7 @@ use buffer_checks::check_sampling;
 use entry_correlations::Manner;
 use entry_correlations::is_elementwise;
 use job_checks::check_with_betas;
+use limits::Caller;
 use limits::EDGES;
 use refusals::Answer;
 use totals_chunks::Chunks;
@@ -24,6 +25,7 @@ pub fn sample(
     betas: &[f64],
     factors: &[f64],
     manner: Manner,
+    caller: Caller,
     seed: u64,
     from: u64,
     to: u64,
@@ -33,13 +35,14 @@ pub fn sample(
     work: &mut [f64],
 ) -> Answer
     ensures { λ r. ⌜ Sampled n floor (now (a .entry)) (now (b .entry)) (now (m .entry)) (now (us .entry)) (now (vs .entry))
-        (now (betas .entry)) (now (factors .entry)) manner seed from to samples r (now (squares .entry)) (now (squares .exit))
+        (now (betas .entry)) (now (factors .entry)) manner caller seed from to samples r (now (squares .entry)) (now (squares .exit))
         (now (fourths .entry)) (now (fourths .exit)) (now (work .entry)) (now (work .exit)) ⌝ }
 {
     let mut early = [0usize; EDGES];
     let mut late = [0usize; EDGES];
     let mut mag = [0.0f64; EDGES];
     let job = check_with_betas(
+        caller,
         n,
         floor,
         a,

@@ -5,6 +5,7 @@ use Prim.Native.Nat.{ℕ, zero, suc, _+_, _*_, _-_, _/_, _^_, min}
 use lib.IntN.{pos}
 use lib.Ieee.{Float, nan, binary64, div, ofInt, ofBits, le}
 use lib.ListN.{length, getD}
+use Rattle.limits.specs.declared.Caller.the-variants.{Desk}
 use Rattle.list_laws.specs.Search.{some}
 use Rattle.list_laws.specs.Most.{most}
 use Rattle.transfer_matrix.specs.Configuration.{numbered}
@@ -52,7 +53,7 @@ abbrev pub ofErrorBound : List Key
 ofErrorBound = ofGraph ++ (Key.window ∷ Key.nearEdges ∷ Key.factors ∷ [])
 
 abbrev pub errorBoundRequest : (n floor : ℕ) → (a b : List ℕ) → (m betas factors : List Float) → (count : ℕ) → Request
-errorBoundRequest n floor a b m betas factors count = sweepRequest n floor a b m [] [] betas single factors count false 0 false
+errorBoundRequest n floor a b m betas factors count = sweepRequest Desk n floor a b m [] [] betas single factors count false 0 false
 
 -- How many factors there should be: one for each kept edge or, signed, two for each beta and kept edge.
 abbrev pub factorCount : (signed : Bool) → (betas edges : ℕ) → ℕ

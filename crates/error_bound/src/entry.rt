@@ -16,6 +16,7 @@ use crate::bound::near_one;
 use crate::near::most_near;
 use buffer_checks::bad_factors;
 use job_checks::check_with_betas;
+use limits::Caller;
 use limits::EDGES;
 
 // Check 10, and the bound of a graph that 1 to 7 pass.
@@ -68,6 +69,7 @@ fn bound_job(
     let mut late = [0usize; EDGES];
     let mut mag = [0.0f64; EDGES];
     let job = check_with_betas(
+        Caller::Desk,
         n,
         floor,
         a,

@@ -8,7 +8,10 @@ ghost use Rattle.job_checks.specs.Checked.{CheckedKept, CheckedJob};
 use graph_checks::bad_edges;
 use kept_edges::build::check_graph;
 use kept_edges::window_of;
+use limits::Caller;
+use limits::TESTER_WINDOW;
 use limits::WINDOW;
+use limits::over_limit;
 use plan_steps::too_many_near;
 
 // The refusal's number, 0 for accepted; how many edges are kept, and the window.
@@ -28,8 +31,9 @@ fn refused(number: usize) -> Job
     }
 }
 
-// Checks 6 to 8, which read the kept edges and the pairs; 8 asks of a pair what 3 asks of an edge.
+// Checks 6, 22, 7 and 8, which read the kept edges and the pairs; 8 asks of a pair what 3 asks of an edge.
 fn check_kept(
+    caller: Caller,
     n: usize,
     floor: usize,
     early: &[usize],
@@ -38,12 +42,15 @@ fn check_kept(
     vs: &[usize],
 ) -> Job
     requires { ⌜ KeptEdges n (now early) (now late) × (length (now vs) ≡ length (now us)) ⌝ }
-    ensures { λ r. ⌜ CheckedKept n floor (now (early .entry)) (now (late .entry)) (now (us .entry)) (now (vs .entry))
+    ensures { λ r. ⌜ CheckedKept caller n floor (now (early .entry)) (now (late .entry)) (now (us .entry)) (now (vs .entry))
         (r .refusal) (r .edges) (r .window) ⌝ }
 {
     let window = window_of(floor, early, late);
     if WINDOW < window {
         return refused(6);
+    }
+    if over_limit(caller, TESTER_WINDOW, window) {
+        return refused(22);
     }
     if too_many_near(n, window, early, late) {
         return refused(7);
@@ -58,8 +65,9 @@ fn check_kept(
     }
 }
 
-// Checks 1 to 8 of a job with betas. Where none fits, the kept edges stand at the fronts of the three lists.
+// Checks 1 to 8 of a caller's job with betas, and 22 of its window. Where none fits, the kept edges stand at the fronts of the three lists.
 pub fn check_with_betas(
+    caller: Caller,
     n: usize,
     floor: usize,
     a: &[usize],
@@ -73,7 +81,7 @@ pub fn check_with_betas(
     mag: &mut [f64],
 ) -> Job
     requires { ⌜ Holds mostEdges (now early) (now late) (now mag) ⌝ }
-    ensures { λ r. ⌜ CheckedJob n floor (now (a .entry)) (now (b .entry)) (now (m .entry)) (now (us .entry)) (now (vs .entry))
+    ensures { λ r. ⌜ CheckedJob caller n floor (now (a .entry)) (now (b .entry)) (now (m .entry)) (now (us .entry)) (now (vs .entry))
         (now (betas .entry)) (r .refusal) (r .edges) (r .window)
         (now (early .entry)) (now (early .exit)) (now (late .entry)) (now (late .exit)) (now (mag .entry)) (now (mag .exit)) ⌝ }
 {
@@ -83,11 +91,12 @@ pub fn check_with_betas(
         return refused(refusal);
     }
     let edges = graph.edges;
-    check_kept(n, floor, &early[..edges], &late[..edges], us, vs)
+    check_kept(caller, n, floor, &early[..edges], &late[..edges], us, vs)
 }
 
-// Checks 1 to 8 of a job that has no betas.
+// The same of a job that has no betas.
 pub fn check_job(
+    caller: Caller,
     n: usize,
     floor: usize,
     a: &[usize],
@@ -100,9 +109,9 @@ pub fn check_job(
     mag: &mut [f64],
 ) -> Job
     requires { ⌜ Holds mostEdges (now early) (now late) (now mag) ⌝ }
-    ensures { λ r. ⌜ CheckedJob n floor (now (a .entry)) (now (b .entry)) (now (m .entry)) (now (us .entry)) (now (vs .entry)) []
+    ensures { λ r. ⌜ CheckedJob caller n floor (now (a .entry)) (now (b .entry)) (now (m .entry)) (now (us .entry)) (now (vs .entry)) []
         (r .refusal) (r .edges) (r .window)
         (now (early .entry)) (now (early .exit)) (now (late .entry)) (now (late .exit)) (now (mag .entry)) (now (mag .exit)) ⌝ }
 {
-    check_with_betas(n, floor, a, b, m, us, vs, &m[..0], early, late, mag)
+    check_with_betas(caller, n, floor, a, b, m, us, vs, &m[..0], early, late, mag)
 }

@@ -7,10 +7,11 @@ ghost use Rattle.refusals.specs.Request.{roomRequest};
 ghost use Rattle.refusals.specs.Refusal.{refusal, ofRoom};
 ghost use Rattle.refusals.specs.Answers.{answered};
 use crate::job::check_job;
+use limits::Caller;
 use limits::EDGES;
 use refusals::Answer;
 
-// The doubles of work memory that a job's pairs need.
+// The doubles of work memory that a job's pairs need, whoever calls: no limit of the tester's is asked.
 pub fn room(
     n: usize,
     floor: usize,
@@ -28,7 +29,19 @@ pub fn room(
     let mut early = [0usize; EDGES];
     let mut late = [0usize; EDGES];
     let mut mag = [0.0f64; EDGES];
-    let job = check_job(n, floor, a, b, m, us, vs, &mut early, &mut late, &mut mag);
+    let job = check_job(
+        Caller::Desk,
+        n,
+        floor,
+        a,
+        b,
+        m,
+        us,
+        vs,
+        &mut early,
+        &mut late,
+        &mut mag,
+    );
     let refusal = job.refusal;
     if refusal != 0 {
         return Answer::Refused(refusal);

@@ -1,6 +1,7 @@
 -- The limits of a job, as definitions and contracts name them.
 use Prim.Native.Nat.{ℕ, _+_, _*_}
 use Rattle.limits.specs.declared.Limits.{Limits}
+use Rattle.limits.specs.declared.TesterLimits.{TesterLimits}
 
 -- The most vertices of a graph.
 abbrev pub mostVertices : ℕ
@@ -30,6 +31,14 @@ mostCounted = 34
 abbrev pub mostStored : ℕ
 mostStored = 24
 
+-- The widest window of a call of the tester's.
+abbrev pub testerWindow : ℕ
+testerWindow = 12
+
+-- The most free edges of a call of the tester's that goes through all configurations.
+abbrev pub testerFree : ℕ
+testerFree = 16
+
 -- The most samples of all chunks: 2^32.
 abbrev pub mostSamples : ℕ
 mostSamples = 4294967296
@@ -44,6 +53,7 @@ stated = record {
   window = mostWindow;
   counted = mostCounted;
   stored = mostStored;
+  testers = record { window = testerWindow; free = testerFree };
   samples = mostSamples;
   plan = 12 * mostVertices;
   sums = mostBetas * mostPairs;

@@ -1,5 +1,6 @@
-// The limits of a job, each said once: constants for code, and the definitions that contracts name.
+// The limits of a job, each said once: constants for code, and the definitions that contracts name; and the limits of a caller.
 ghost use mathlib.Core.Path.{_≡_};
+ghost use Rattle.limits.specs.Callers.{overLimit};
 ghost use Rattle.limits.specs.Limits.{stated};
 
 // The most vertices and raw edges of a graph.
@@ -20,6 +21,11 @@ pub const COUNTED: usize = 34;
 
 pub const STORED: usize = 24;
 
+// The tester's own limits: the widest window, and the most free edges.
+pub const TESTER_WINDOW: usize = 12;
+
+pub const TESTER_FREE: usize = 16;
+
 // The most samples of all chunks: 2^32.
 pub const SAMPLES: usize = 4294967296;
 
@@ -35,6 +41,12 @@ pub const COUPLINGS: usize = BETAS * EDGES;
 // As many pairs as a call copies: one more than a job may have.
 pub const COPIED: usize = PAIRS + 1;
 
+// Those of the tester.
+pub struct TesterLimits {
+    pub window: usize,
+    pub free: usize,
+}
+
 // All limits.
 pub struct Limits {
     pub vertices: usize,
@@ -44,6 +56,7 @@ pub struct Limits {
     pub window: usize,
     pub counted: usize,
     pub stored: usize,
+    pub testers: TesterLimits,
     pub samples: usize,
     pub plan: usize,
     pub sums: usize,
@@ -63,10 +76,30 @@ pub fn all() -> Limits
         window: WINDOW,
         counted: COUNTED,
         stored: STORED,
+        testers: TesterLimits {
+            window: TESTER_WINDOW,
+            free: TESTER_FREE,
+        },
         samples: SAMPLES,
         plan: PLAN,
         sums: SUMS,
         couplings: COUPLINGS,
         copied: COPIED,
+    }
+}
+
+// Who calls: the sheet desk, which has the limits of a job, or the tester on the bench, which has limits of its own besides.
+pub enum Caller {
+    Desk,
+    Tester,
+}
+
+// Is a value above a limit that the tester alone has?
+pub fn over_limit(caller: Caller, most: usize, value: usize) -> bool
+    ensures { λ r. ⌜ r ≡ overLimit caller most value ⌝ }
+{
+    match caller {
+        Caller::Desk => false,
+        Caller::Tester => most < value,
     }
 }

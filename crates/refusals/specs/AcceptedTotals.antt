@@ -6,6 +6,9 @@ use Prim.Native.Nat.{ℕ, _≤_, _<_}
 use lib.Dec.{eqb, ltb}
 use lib.Ieee.{Float, nan}
 use lib.ListN.{length, getD}
+use Rattle.limits.specs.declared.Caller.{Caller}
+use Rattle.limits.specs.Callers.{overLimit}
+use Rattle.limits.specs.Limits.{testerFree}
 use Rattle.transfer_matrix.specs.Room as Room
 use Rattle.refusals.specs.Edges.{kept, windowFrom}
 use Rattle.refusals.specs.Request.{signedFactors}
@@ -15,10 +18,11 @@ use Rattle.refusals.specs.AcceptedJob.{AcceptedJob, buffersRefusal}
 
 -- ---- in parts
 
--- of the checks 9, 10, 12 and 13 the first that fits a call with so many betas
-abbrev pub enumerationLists : (n w edges : ℕ) → (us vs : List ℕ) → (betas : ℕ) → (factors : List Float) → (free most : ℕ) → Bool → (work : ℕ) → ℕ
-enumerationLists n w edges us vs betas factors free most misfit work =
-    cond (ltb most free) 9 (cond (badFactorList factors (signedFactors betas edges)) 10 (buffersRefusal n w edges us vs misfit work))
+-- of the checks 9, 22, 10, 12 and 13 the first that fits a caller's call with so many betas
+abbrev pub enumerationLists : Caller → (n w edges : ℕ) → (us vs : List ℕ) → (betas : ℕ) → (factors : List Float) → (free most : ℕ) → Bool → (work : ℕ) → ℕ
+enumerationLists caller n w edges us vs betas factors free most misfit work =
+    cond (ltb most free) 9 (cond (overLimit caller testerFree free) 22
+    (cond (badFactorList factors (signedFactors betas edges)) 10 (buffersRefusal n w edges us vs misfit work)))
 
 -- of the checks 10 to 13 the first
 abbrev pub samplingLists : (n w edges : ℕ) → (us vs : List ℕ) → (betas : ℕ) → (factors : List Float) → (start end samples : ℕ) → Bool → (work : ℕ) → ℕ

@@ -13,10 +13,12 @@ pub data Key : Type 0 where
   betaOrder : Key
   parallelEdges : Key
   window : Key
+  testerWindow : Key
   nearEdges : Key
   pairEnds : Key
   walkEnds : Key
   freeEdges : Key
+  testerFree : Key
   factors : Key
   samples : Key
   buffers : Key
@@ -47,6 +49,8 @@ rank stripSides = 15
 rank oddCylinder = 16
 rank dilution = 17
 rank betaOrder = 18
+rank testerWindow = 19
+rank testerFree = 20
 
 -- Returns whether two keys are the same.
 abbrev pub same : Key → Key → Bool

@@ -7,5 +7,6 @@ pub mod Answers
 pub mod First
 pub mod Accepted
 pub mod Later
+pub mod Tester
 pub mod AcceptedJob
 pub mod AcceptedTotals

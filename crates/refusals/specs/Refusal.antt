@@ -2,10 +2,10 @@
 use mathlib.Core.Bool.{Bool, cond, _&&_}
 use mathlib.Core.List.{List, [], _∷_, _++_}
 use Prim.Native.Nat.{ℕ}
-use Rattle.limits.specs.Limits.{mostWindow}
+use Rattle.limits.specs.Limits.{mostWindow, testerWindow, testerFree}
 use Rattle.refusals.specs.Key.{Key, among}
 use Rattle.refusals.specs.Request.{Request, badVertices, badLists, badEdges, badSizes, unorderedBetas, parallelEdges}
-use Rattle.refusals.specs.Request.{wideWindow, manyNear, badPairs, outsidePairs, manyFree, badFactors, manySamples, shortWork}
+use Rattle.refusals.specs.Request.{wideWindow, testersOnly, manyNear, badPairs, outsidePairs, manyFree, badFactors, manySamples, shortWork}
 
 -- A check of the requests of one kind: its name, the number that it answers, and its test.
 pub record Check (A : Type 0) : Type 0 where
@@ -25,10 +25,12 @@ checks =
     ∷ check Key.betaOrder 21 unorderedBetas
     ∷ check Key.parallelEdges 5 parallelEdges
     ∷ check Key.window 6 (wideWindow mostWindow)
+    ∷ check Key.testerWindow 22 (testersOnly (wideWindow testerWindow))
     ∷ check Key.nearEdges 7 manyNear
     ∷ check Key.pairEnds 8 badPairs
     ∷ check Key.walkEnds 8 outsidePairs
     ∷ check Key.freeEdges 9 (λ r. manyFree (r .configurations .most) r)
+    ∷ check Key.testerFree 22 (testersOnly (manyFree testerFree))
     ∷ check Key.factors 10 badFactors
     ∷ check Key.samples 11 manySamples
     ∷ check Key.buffers 12 (λ r. r .misfit)
@@ -70,17 +72,21 @@ ofDistance = ofGraph ++ (Key.walkEnds ∷ [])
 abbrev pub ofKept : List Key
 ofKept = Key.window ∷ Key.nearEdges ∷ Key.pairEnds ∷ []
 
--- Those of `room`, and the first of every call that sweeps.
+-- Those of `room`.
 abbrev pub ofRoom : List Key
 ofRoom = ofGraph ++ ofKept
+
+-- The first of every call that sweeps, which may be the tester's.
+abbrev pub ofJob : List Key
+ofJob = ofRoom ++ (Key.testerWindow ∷ [])
 
 -- Behind them: what a call is lent for its sweeps.
 abbrev pub ofLists : List Key
 ofLists = Key.factors ∷ Key.buffers ∷ Key.workMemory ∷ []
 
--- The same of an enumeration, which has a limit of free edges, and no chunks to ask of.
+-- The same of an enumeration, which has limits of free edges, and no chunks to ask of.
 abbrev pub ofEnumerationLists : List Key
-ofEnumerationLists = Key.freeEdges ∷ ofLists
+ofEnumerationLists = Key.freeEdges ∷ Key.testerFree ∷ ofLists
 
 -- The same of a sampling, which has chunks, and no limit of free edges.
 abbrev pub ofSamplingLists : List Key
@@ -92,12 +98,12 @@ ofSweeps = Key.partitionSums ∷ []
 
 -- Those of `correlations`.
 abbrev pub ofCorrelations : List Key
-ofCorrelations = ofRoom ++ (ofLists ++ ofSweeps)
+ofCorrelations = ofJob ++ (ofLists ++ ofSweeps)
 
 -- Those of `exhaustive` and `exhaustive_c`.
 abbrev pub ofEnumeration : List Key
-ofEnumeration = ofRoom ++ (ofEnumerationLists ++ ofSweeps)
+ofEnumeration = ofJob ++ (ofEnumerationLists ++ ofSweeps)
 
 -- Those of `sample`.
 abbrev pub ofSampling : List Key
-ofSampling = ofRoom ++ (ofSamplingLists ++ ofSweeps)
+ofSampling = ofJob ++ (ofSamplingLists ++ ofSweeps)

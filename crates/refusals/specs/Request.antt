@@ -5,6 +5,9 @@ use Prim.Native.Nat.{ℕ, _+_, _-_, _*_}
 use lib.Dec.{eqb, ltb, leb}
 use lib.Ieee.{Float, nan, inf, binary64, le, lt, neg, ofBits}
 use lib.ListN.{length, getD}
+use Rattle.limits.specs.declared.Caller.{Caller}
+use Rattle.limits.specs.declared.Caller.the-variants.{Desk}
+use Rattle.limits.specs.Callers.{isTester}
 use Rattle.limits.specs.Limits.{mostVertices, mostEdges, mostPairs, mostBetas, mostSamples}
 pub use Rattle.limits.specs.Limits.{mostCounted, mostStored}
 use Rattle.list_laws.specs.Search.{some}
@@ -15,7 +18,7 @@ use Rattle.refusals.specs.Edges.{Kept, kept, earlyEnds, lateEnds, window
 
 -- Which signs of the free edges a call goes through: all of them, or chunks of drawn ones.
 pub record Configurations : Type 0 where
-  -- how many free edges there are, and how many there may be
+  -- how many free edges there are, and how many there may be where all of their signs are gone through
   pub free : ℕ
   pub most : ℕ
   -- the chunks from one number up to another, and how many samples each has
@@ -30,11 +33,13 @@ enumerated free most = record { free = free; most = most; start = 0; end = 0; sa
 abbrev pub single : Configurations
 single = enumerated 0 0
 
-abbrev pub sampled : (start end samples : ℕ) → Configurations
-sampled start end samples = record { free = 0; most = 0; start = start; end = end; samples = samples }
+abbrev pub sampled : (free start end samples : ℕ) → Configurations
+sampled free start end samples = record { free = free; most = 0; start = start; end = end; samples = samples }
 
 -- A part that a call does not have is empty.
 pub record Request : Type 0 where
+  -- whose call it is; the desk's where no check asks
+  pub caller : Caller
   pub vertices : ℕ
   -- the raw edges: their ends and magnitudes
   pub ones : List ℕ
@@ -57,11 +62,12 @@ pub record Request : Type 0 where
   -- whether some pair's Z is not finite and above zero
   pub unsound : Bool
 
--- The request of a call that sweeps: besides a job, which configurations it sweeps, so many factors, result buffers, and work memory.
+-- The request of a call that sweeps: whose it is and, besides a job, which configurations it sweeps, so many factors, result buffers, and work memory.
 -- Every other request is this one with parts that are empty.
-abbrev pub sweepRequest : (n floor : ℕ) → (a b : List ℕ) → List Float → (us vs : List ℕ) → List Float → Configurations
+abbrev pub sweepRequest : Caller → (n floor : ℕ) → (a b : List ℕ) → List Float → (us vs : List ℕ) → List Float → Configurations
     → List Float → (count : ℕ) → (misfit : Bool) → (work : ℕ) → Bool → Request
-sweepRequest n floor a b m us vs betas configurations factors count misfit work unsound = record {
+sweepRequest caller n floor a b m us vs betas configurations factors count misfit work unsound = record {
+  caller = caller;
   vertices = n;
   ones = a;
   others = b;
@@ -80,7 +86,7 @@ sweepRequest n floor a b m us vs betas configurations factors count misfit work 
 
 -- The request of a call that sweeps nothing: a job, and result buffers.
 abbrev pub plainRequest : (n floor : ℕ) → (a b : List ℕ) → List Float → (us vs : List ℕ) → List Float → (misfit : Bool) → Request
-plainRequest n floor a b m us vs betas misfit = sweepRequest n floor a b m us vs betas single [] 0 misfit 0 false
+plainRequest n floor a b m us vs betas misfit = sweepRequest Desk n floor a b m us vs betas single [] 0 misfit 0 false
 
 -- The request of `couplings`: a graph and betas.
 abbrev pub couplingRequest : ℕ → List ℕ → List ℕ → (m betas : List Float) → Bool → Request
@@ -98,30 +104,34 @@ distanceRequest n a b m u v = plainRequest n 0 a b m (u ∷ []) (v ∷ []) [] fa
 abbrev pub jobRequest : (n floor : ℕ) → (a b : List ℕ) → List Float → (us vs : List ℕ) → List Float → Request
 jobRequest n floor a b m us vs betas = plainRequest n floor a b m us vs betas false
 
+-- The same, and whose call it is.
+abbrev pub callRequest : Caller → (n floor : ℕ) → (a b : List ℕ) → List Float → (us vs : List ℕ) → List Float → Request
+callRequest caller n floor a b m us vs betas = sweepRequest caller n floor a b m us vs betas single [] 0 false 0 false
+
 -- The request of `room`: a job without betas.
 abbrev pub roomRequest : ℕ → ℕ → List ℕ → List ℕ → List Float → List ℕ → List ℕ → Request
 roomRequest n floor a b m us vs = jobRequest n floor a b m us vs []
 
 -- The request of `correlations`: one factor for each kept edge, one result for each pair.
-abbrev pub correlationRequest : (n floor : ℕ) → List ℕ → List ℕ → List Float → List ℕ → List ℕ → List Float → (results work : ℕ) → Bool → Request
-correlationRequest n floor a b m us vs factors results work unsound =
-    sweepRequest n floor a b m us vs [] single factors (length (kept a b m)) (not (eqb results (length us))) work unsound
+abbrev pub correlationRequest : Caller → (n floor : ℕ) → List ℕ → List ℕ → List Float → List ℕ → List ℕ → List Float → (results work : ℕ) → Bool → Request
+correlationRequest caller n floor a b m us vs factors results work unsound =
+    sweepRequest caller n floor a b m us vs [] single factors (length (kept a b m)) (not (eqb results (length us))) work unsound
 
 -- the factors of a call for totals: for each beta and kept edge two, one a sign
 abbrev pub signedFactors : (betas edges : ℕ) → ℕ
 signedFactors betas edges = 2 * (betas * edges)
 
 -- The request of a call that goes through every configuration, of so many free edges where so many are the most.
-abbrev pub enumerationRequest : (n floor : ℕ) → (a b : List ℕ) → List Float → (us vs : List ℕ) → (betas factors : List Float)
+abbrev pub enumerationRequest : Caller → (n floor : ℕ) → (a b : List ℕ) → List Float → (us vs : List ℕ) → (betas factors : List Float)
     → (free most : ℕ) → (misfit : Bool) → (work : ℕ) → Bool → Request
-enumerationRequest n floor a b m us vs betas factors free most misfit work unsound =
-    sweepRequest n floor a b m us vs betas (enumerated free most) factors (signedFactors (length betas) (length (kept a b m))) misfit work unsound
+enumerationRequest caller n floor a b m us vs betas factors free most misfit work unsound =
+    sweepRequest caller n floor a b m us vs betas (enumerated free most) factors (signedFactors (length betas) (length (kept a b m))) misfit work unsound
 
--- The request of `sample`: chunks of drawn configurations.
-abbrev pub samplingRequest : (n floor : ℕ) → (a b : List ℕ) → List Float → (us vs : List ℕ) → (betas factors : List Float)
-    → (start end samples : ℕ) → (misfit : Bool) → (work : ℕ) → Bool → Request
-samplingRequest n floor a b m us vs betas factors start end samples misfit work unsound =
-    sweepRequest n floor a b m us vs betas (sampled start end samples) factors (signedFactors (length betas) (length (kept a b m))) misfit work
+-- The request of `sample`: chunks of drawn configurations, of as many free edges as there are.
+abbrev pub samplingRequest : Caller → (n floor : ℕ) → (a b : List ℕ) → List Float → (us vs : List ℕ) → (betas factors : List Float)
+    → (free start end samples : ℕ) → (misfit : Bool) → (work : ℕ) → Bool → Request
+samplingRequest caller n floor a b m us vs betas factors free start end samples misfit work unsound =
+    sweepRequest caller n floor a b m us vs betas (sampled free start end samples) factors (signedFactors (length betas) (length (kept a b m))) misfit work
     unsound
 
 -- 1. The vertex count is 0 or above 1,024.
@@ -189,6 +199,10 @@ windowIn r = windowFrom (r .floor) (r .ones) (r .others) (r .magnitudes)
 
 abbrev pub wideWindow : (most : ℕ) → Request → Bool
 wideWindow most r = ltb most (windowIn r)
+
+-- 22. The call is the tester's, and its window or its free edges exceed the tester's limit.
+abbrev pub testersOnly : (Request → Bool) → Request → Bool
+testersOnly test r = isTester (r .caller) && test r
 
 -- 7. A vertex has over four back edges shorter than the window.
 abbrev pub manyNear : Request → Bool

@@ -1,5 +1,6 @@
 // One job: its lists are loaded, the call is made, and what it answers and leaves in the lent lists is compared.
 use entry_correlations::Manner;
+use limits::Caller;
 use refusals::Answer;
 use replay_format::Counted;
 use replay_format::NUMBERS;
@@ -88,7 +89,20 @@ fn call(
     let manner = manner_of(word(list, at(start, PER_ELEMENT)));
     fill(list, at(start, BEFORE), results);
     fill(list, at(start, BEFORE), memory);
-    entry_correlations::correlations(n, floor, a, b, m, us, vs, factors, manner, results, memory)
+    entry_correlations::correlations(
+        n,
+        floor,
+        a,
+        b,
+        m,
+        us,
+        vs,
+        factors,
+        manner,
+        Caller::Desk,
+        results,
+        memory,
+    )
 }
 
 // Whether the number, the results, which are stored at `place`, and the work memory are what they should be.

@@ -1,5 +1,6 @@
 // One call, by its record's first words: it is made, and what it answers and leaves in the lent lists is compared.
 use entry_correlations::Manner;
+use limits::Caller;
 use refusals::Answer;
 use replay_format::are_cleared;
 use replay_format::are_stored;
@@ -93,6 +94,7 @@ fn answer(
             betas,
             factors,
             manner,
+            Caller::Desk,
             first,
             second,
             memory,
@@ -110,6 +112,7 @@ fn answer(
             betas,
             factors,
             manner,
+            Caller::Desk,
             first,
             memory,
         );
@@ -125,6 +128,7 @@ fn answer(
         betas,
         factors,
         manner,
+        Caller::Desk,
         seed,
         from,
         to,

@@ -6,6 +6,7 @@ use Prim.Native.Nat.{ℕ}
 use lib.Dec.{eqb}
 use lib.Ieee.{Float}
 use lib.ListN.{length}
+use Rattle.limits.specs.declared.Caller.{Caller}
 use Rattle.transfer_matrix.specs.Rounded.{ieee}
 use Rattle.transfer_matrix.specs.Totals.{square, fourth, enumeratedCount, sampledCount}
 use Rattle.refusals.specs.Request.{enumerationRequest, samplingRequest, mostCounted, mostStored}
@@ -57,13 +58,13 @@ module _ (g : Given) where
   abbrev pub refusedAll : (most : ℕ) → (misfit : Bool) → (work : ℕ) → ℕ
   refusedAll most misfit work =
       refusal ofEnumeration
-      (enumerationRequest (g .n) (g .floor) (g .a) (g .b) (g .m) (g .us) (g .vs) (g .betas) (g .factors) (free g) most misfit work unsoundAll)
+      (enumerationRequest (g .caller) (g .n) (g .floor) (g .a) (g .b) (g .m) (g .us) (g .vs) (g .betas) (g .factors) (free g) most misfit work unsoundAll)
 
   -- or of the chunks from one number up to another.
   abbrev pub refusedDrawn : (seed from to samples : ℕ) → (misfit : Bool) → (work : ℕ) → ℕ
   refusedDrawn seed from to samples misfit work =
       refusal ofSampling
-      (samplingRequest (g .n) (g .floor) (g .a) (g .b) (g .m) (g .us) (g .vs) (g .betas) (g .factors) from to samples misfit work
+      (samplingRequest (g .caller) (g .n) (g .floor) (g .a) (g .b) (g .m) (g .us) (g .vs) (g .betas) (g .factors) (free g) from to samples misfit work
       (unsoundDrawn seed from to samples))
 
   -- The list of stored correlations is not of its exact length.
@@ -72,9 +73,9 @@ module _ (g : Given) where
 
 -- ---- of the entries
 
-module _ (n floor : ℕ) (a b : List ℕ) (m : List Float) (us vs : List ℕ) (betas factors : List Float) (manner : Manner) where
+module _ (n floor : ℕ) (a b : List ℕ) (m : List Float) (us vs : List ℕ) (betas factors : List Float) (manner : Manner) (caller : Caller) where
   abbrev given : Given
-  given = record { n = n; floor = floor; a = a; b = b; m = m; us = us; vs = vs; betas = betas; factors = factors; manner = manner }
+  given = record { n = n; floor = floor; a = a; b = b; m = m; us = us; vs = vs; betas = betas; factors = factors; manner = manner; caller = caller }
 
   -- The refusal of `exhaustive`, whose lists of totals have so many numbers,
   abbrev pub refusedEnumeration : (squares fourths work : ℕ) → ℕ

@@ -3,6 +3,7 @@ use mathlib.Core.List.{List}
 use Prim.Native.Nat.{ℕ, _*_}
 use lib.Ieee.{Float}
 use lib.ListN.{length}
+use Rattle.limits.specs.declared.Caller.{Caller}
 use Rattle.transfer_matrix.specs.Room.{room}
 use Rattle.refusals.specs.Edges.{kept, windowFrom, keptEarly, keptLate}
 use Rattle.forest.specs.FreeEdges.{freeCount}
@@ -21,6 +22,7 @@ pub record Given : Type 0 where
   pub betas : List Float
   pub factors : List Float
   pub manner : Manner
+  pub caller : Caller
 
 module _ (g : Given) where
   -- The kept edges' ends, the free edges among them, the window and the room.

@@ -34,7 +34,7 @@ pub fn try_wide(draw: &mut Draw) -> Result<usize, String> {
     let pairs = pairs(draw, edges.n, window, count);
     let (couplings, factors) = factors(draw, &edges, 0);
     let results = pairs.us.len();
-    let job = Job { edges, pairs, couplings, factors, each: draw.once_in(2), results, spare: 1, gentle: true, wide: true };
+    let job = Job { edges, pairs, couplings, factors, options: draw.below(2), results, spare: 1, gentle: true, wide: true };
     compare_room(&job).and_then(|()| compare(draw, &job)).map_err(|why| format!("{}: {why}", job.told()))
 }
 

@@ -41,6 +41,13 @@ impl Draw {
         }
     }
 
+    /// The options of a call, any number: mostly block or per element alone, or the tester's, or with bits that are not read.
+    pub fn options(&mut self) -> usize {
+        let bits = self.below(2) + if self.once_in(3) { 4 } else { 0 };
+        let unread = (self.word() as usize) & !5;
+        bits + if self.once_in(4) { unread } else { 0 }
+    }
+
     /// A NaN of any payload, quiet or signalling, of either sign.
     pub fn nan(&mut self) -> f64 {
         let word = self.word();

@@ -2,16 +2,8 @@
 
 use crate::call::call_of_graph;
 use crate::graph::Graph;
+use crate::options::Options;
 use crate::refusal::Refusal;
-
-/// How often a sweep is rescaled. The bits of an answer depend on it.
-#[derive(Clone, Copy, Debug, PartialEq, Eq)]
-pub enum Manner {
-    /// By every step's largest entry.
-    PerElement = 0,
-    /// By every fourth step's largest entry.
-    Block = 1,
-}
 
 /// Two vertices whose correlation is asked for, in either order.
 #[repr(C)]
@@ -57,10 +49,11 @@ impl Job<'_> {
     }
 
     /// Writes the correlation of each pair to `results`, from one factor for each kept edge, the exponential of its signed coupling. `work`
-    /// has at least the room's doubles; the room is +0.0 afterwards, and what lies behind it is not touched.
-    pub fn correlations(&self, factors: &[f64], manner: Manner, results: &mut [f64], work: &mut [f64]) -> Result<(), Refusal> {
+    /// has at least the room's doubles; the room is +0.0 afterwards, and what lies behind it is not touched. `options` may be a
+    /// [`Manner`](crate::Manner) alone.
+    pub fn correlations(&self, factors: &[f64], options: impl Into<Options>, results: &mut [f64], work: &mut [f64]) -> Result<(), Refusal> {
         Refusal::told(call_of_graph!(copperhook_correlations(&self.graph, floor;
-            read self.us, self.vs, factors; with manner as usize; write results, work)))
+            read self.us, self.vs, factors; with options.into().number(); write results, work)))
     }
 
     /// Writes, for each beta and pair, the sums over all configurations of the correlation's square and of its fourth power, and returns how
@@ -70,14 +63,14 @@ impl Job<'_> {
         &self,
         betas: &[f64],
         factors: &[f64],
-        manner: Manner,
+        options: impl Into<Options>,
         squares: &mut [f64],
         fourths: &mut [f64],
         work: &mut [f64],
     ) -> Result<usize, Refusal> {
         let mut count = 0;
         let number = call_of_graph!(copperhook_exhaustive(&self.graph, floor;
-            read self.us, self.vs, betas, factors; with manner as usize; write squares, fourths, work; tell count));
+            read self.us, self.vs, betas, factors; with options.into().number(); write squares, fourths, work; tell count));
         Refusal::told(number).map(|()| count)
     }
 
@@ -87,13 +80,13 @@ impl Job<'_> {
         &self,
         betas: &[f64],
         factors: &[f64],
-        manner: Manner,
+        options: impl Into<Options>,
         stored: &mut [f64],
         work: &mut [f64],
     ) -> Result<usize, Refusal> {
         let mut count = 0;
         let number = call_of_graph!(copperhook_exhaustive_c(&self.graph, floor;
-            read self.us, self.vs, betas, factors; with manner as usize; write stored, work; tell count));
+            read self.us, self.vs, betas, factors; with options.into().number(); write stored, work; tell count));
         Refusal::told(number).map(|()| count)
     }
 
@@ -103,7 +96,7 @@ impl Job<'_> {
         &self,
         betas: &[f64],
         factors: &[f64],
-        manner: Manner,
+        options: impl Into<Options>,
         by: &Sampling,
         squares: &mut [f64],
         fourths: &mut [f64],
@@ -111,7 +104,7 @@ impl Job<'_> {
     ) -> Result<usize, Refusal> {
         let mut count = 0;
         let number = call_of_graph!(copperhook_sample(&self.graph, floor;
-            read self.us, self.vs, betas, factors; with manner as usize, by.seed, by.from, by.to, by.samples;
+            read self.us, self.vs, betas, factors; with options.into().number(), by.seed, by.from, by.to, by.samples;
             write squares, fourths, work; tell count));
         Refusal::told(number).map(|()| count)
     }
@@ -123,12 +116,12 @@ impl Graph<'_> {
         &self,
         pairs: &[Pair],
         factors: &[f64],
-        manner: Manner,
+        options: impl Into<Options>,
         results: &mut [f64],
         work: &mut [f64],
     ) -> Result<(), Refusal> {
         Refusal::told(
-            call_of_graph!(copperhook_correlations_of(self, floor; read pairs, factors; with manner as usize; write results, work)),
+            call_of_graph!(copperhook_correlations_of(self, floor; read pairs, factors; with options.into().number(); write results, work)),
         )
     }
 }

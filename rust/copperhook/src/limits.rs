@@ -10,6 +10,10 @@ pub const PAIRS: usize = 256;
 pub const BETAS: usize = 64;
 /// The widest window that is swept.
 pub const WINDOW: usize = 24;
+/// The widest window of a call of the bench tester's.
+pub const TESTER_WINDOW: usize = 12;
+/// The most free edges of a call of the bench tester's that goes through all configurations.
+pub const TESTER_FREE: usize = 16;
 /// The most pairs of a standard pair set.
 pub const STANDARD_PAIRS: usize = 18;
 /// The most bytes that the labels of a standard pair set take, each with the zero byte behind it.

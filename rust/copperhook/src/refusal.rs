@@ -4,8 +4,8 @@ use crate::numbered::numbered;
 use std::fmt;
 
 numbered! {
-    /// Why a call is refused. The numbers follow the order of the checks, but that strips check 15 to 17 before 12, and 21 stands between 4
-    /// and 5: of several reasons that fit, the first is returned.
+    /// Why a call is refused. The numbers follow the order of the checks, but that strips check 15 to 17 before 12, 21 stands between 4
+    /// and 5, and 22 right behind 6 for the window and right behind 9 for free edges: of several reasons that fit, the first is returned.
     pub enum Refusal;
 
     /// Returns what is wrong, as a sentence without its full stop.
@@ -31,6 +31,7 @@ numbered! {
     Dilution = 17, "keep isn't finite, or a magnitude bound isn't finite or its size is above 1,024";
     Sums = 18, "the count is 0 or above 2^53, or 0 <= fourth powers <= squares <= count fails";
     Betas = 21, "the betas don't rise strictly";
+    TesterLimit = 22, "the window is above 12, or free edges exceed 16, the limits of the tester's calls";
 }
 
 impl Refusal {

@@ -1,7 +1,7 @@
 //! The C header: it compiles as C11 and as C++17 without a warning, it declares what the bindings declare, and a C program that uses it
 //! prints what the bindings return.
 
-use copperhook::{limits, Job, Kind, Manner, Refusal, Strip};
+use copperhook::{limits, Caller, Job, Kind, Manner, Refusal, Strip};
 use std::collections::BTreeMap;
 use std::path::{Path, PathBuf};
 use std::process::{Command, Output};
@@ -121,7 +121,9 @@ fn header_and_bindings_number_the_same() {
     let refusals = Refusal::ALL.iter().map(|r| format!("{} = {}", constant(r), r.number()));
     assert_eq!(enumerated("refusal"), ["COPPERHOOK_ACCEPTED = 0".to_string()].into_iter().chain(refusals).collect::<Vec<_>>());
     assert_eq!(enumerated("kind"), Kind::ALL.iter().map(|k| format!("{} = {}", constant(k), k.number())).collect::<Vec<_>>());
-    assert_eq!(enumerated("manner"), [Manner::PerElement, Manner::Block].map(|m| format!("{} = {}", constant(m), m as usize)));
+    let manners = [Manner::PerElement, Manner::Block].map(|m| format!("{} = {}", constant(m), m as usize));
+    let tester = format!("{} = {}", constant(Caller::Tester), Caller::Tester as usize);
+    assert_eq!(enumerated("option"), manners.into_iter().chain([tester]).collect::<Vec<_>>());
 }
 
 #[test]
@@ -132,6 +134,8 @@ fn header_and_bindings_have_the_same_limits() {
         ("MOST_PAIRS", limits::PAIRS),
         ("MOST_BETAS", limits::BETAS),
         ("MOST_WINDOW", limits::WINDOW),
+        ("TESTER_WINDOW", limits::TESTER_WINDOW),
+        ("TESTER_FREE", limits::TESTER_FREE),
         ("STANDARD_PAIRS", limits::STANDARD_PAIRS),
         ("LABEL_BYTES", limits::LABEL_BYTES),
     ];

@@ -2,7 +2,8 @@
 
 use copperhook::ForestEdge::{Bit, Tree};
 use copperhook::{
-    estimate, estimates, mean_error_bound, Dilution, EdgeList, Estimate, Graph, Job, Kind, Manner, Pair, Refusal, Rng, Sampling, Strip,
+    estimate, estimates, mean_error_bound, Caller, Dilution, EdgeList, Estimate, Graph, Job, Kind, Manner, Options, Pair, Refusal, Rng,
+    Sampling, Strip,
 };
 
 const MANNERS: [Manner; 2] = [Manner::PerElement, Manner::Block];
@@ -113,6 +114,99 @@ fn free_edges_are_limited() {
             _ => job.exhaustive_c(&[0.5], &factors, Manner::Block, &mut [], &mut work),
         };
         assert_eq!(answer, expected);
+    }
+}
+
+/// Both callers' answers, of one call after the other; what they leave is the same where neither is refused.
+fn of_both<T: PartialEq + std::fmt::Debug>(mut call: impl FnMut(Options) -> (T, Vec<f64>)) -> [T; 2] {
+    let [desk, tester] = [Caller::Desk, Caller::Tester].map(|caller| call(Options::from(Manner::Block).called_by(caller)));
+    assert!(desk.0 != tester.0 || desk.1 == tester.1);
+    [desk.0, tester.0]
+}
+
+#[test]
+fn the_tester_has_a_smaller_window() {
+    for (floor, tester) in [(12, Ok(())), (13, Err(Refusal::TesterLimit)), (24, Err(Refusal::TesterLimit)), (25, Err(Refusal::Window))] {
+        let graph = Graph::new(2, &[0], &[1], &[1.0]).with_floor(floor);
+        let job = Job { graph, us: &[0], vs: &[1] };
+        let room = job.room();
+        let desk = if floor > 24 { Err(Refusal::Window) } else { Ok(()) };
+        assert_eq!(room.map(|_| ()), desk);
+        let few = if floor < 20 { room.unwrap() } else { 0 };
+        let desk = if floor == 24 { Err(Refusal::WorkMemory) } else { desk };
+        let answers = of_both(|options| {
+            let (mut results, mut work) = ([9.0], vec![9.0; few]);
+            (job.correlations(&[2.0], options, &mut results, &mut work), results.into_iter().chain(work).collect())
+        });
+        assert_eq!(answers, [desk, tester]);
+        let answers = of_both(|options| {
+            let (mut results, mut work) = ([9.0], vec![9.0; few]);
+            let answer = graph.correlations_of(&[Pair { u: 1, v: 0 }], &[2.0], options, &mut results, &mut work);
+            (answer, results.into_iter().chain(work).collect())
+        });
+        assert_eq!(answers, [desk, tester]);
+    }
+}
+
+#[test]
+fn the_tester_has_fewer_free_edges() {
+    let by = Sampling { seed: 3, from: 0, to: 2, samples: 5 };
+    for (free, tester) in [(16, Ok(1 << 16)), (17, Err(Refusal::TesterLimit)), (35, Err(Refusal::FreeEdges))] {
+        let (n, edges) = ladder(free);
+        let job = Job { graph: edges.graph(n), us: &[], vs: &[] };
+        let factors = job.graph.factors(&[0.5]).unwrap().all;
+        let room = job.room().unwrap();
+        let desk = if free > 34 { Err(Refusal::FreeEdges) } else { Ok(1 << free) };
+        let totals = of_both(|options| {
+            let mut work = vec![9.0; room];
+            (job.exhaustive(&[0.5], &factors, options, &mut [], &mut [], &mut work), work)
+        });
+        let stored = of_both(|options| {
+            let mut work = vec![9.0; room];
+            (job.exhaustive_c(&[0.5], &factors, options, &mut [], &mut work), work)
+        });
+        assert_eq!((totals, stored), ([desk, tester], [desk, tester]));
+        let drawn = of_both(|options| {
+            let mut work = vec![9.0; room];
+            (job.sample(&[0.5], &factors, options, &by, &mut [], &mut [], &mut work), work)
+        });
+        assert_eq!(drawn, [Ok(10), Ok(10)]);
+    }
+}
+
+#[test]
+fn options_are_a_sum() {
+    let graph = Graph::new(2, &[0], &[1], &[1.0]).with_floor(13);
+    let job = Job { graph, us: &[0], vs: &[1] };
+    let mut work = vec![0.0; job.room().unwrap()];
+    // 2 and 8 are not read
+    for (options, number) in [(0, 0), (1, 0), (2, 0), (3, 0), (4, 22), (5, 22), (8, 0), (12, 22), (usize::MAX - 4, 0), (usize::MAX, 22)] {
+        let mut results = [9.0];
+        let (us, vs, work) = (job.us, job.vs, &mut work);
+        let answer = unsafe {
+            copperhook::sys::copperhook_correlations(
+                2,
+                13,
+                [0].as_ptr(),
+                1,
+                [1].as_ptr(),
+                1,
+                [1.0].as_ptr(),
+                1,
+                us.as_ptr(),
+                1,
+                vs.as_ptr(),
+                1,
+                [2.0].as_ptr(),
+                1,
+                options,
+                results.as_mut_ptr(),
+                1,
+                work.as_mut_ptr(),
+                work.len(),
+            )
+        };
+        assert_eq!((answer, results[0]), (number, if number == 0 { 0.6 } else { 9.0 }));
     }
 }
 

@@ -4,12 +4,13 @@ use crate::explained;
 use crate::options::Options;
 use crate::trouble::Trouble;
 use crate::values::spelled;
-use copperhook::{limits, Dilution, EdgeList, Factors, Graph, Job, Kind, LabelledPair, Manner, Refusal, Strip};
+use copperhook::{limits, Caller, Dilution, EdgeList, Factors, Graph, Job, Kind, LabelledPair, Manner, Refusal, Strip};
 
 pub struct Board {
     pub strip: Strip,
     pub betas: Vec<f64>,
-    pub manner: Manner,
+    /// The manner, and who calls.
+    pub options: copperhook::Options,
     pub pairs: Vec<LabelledPair>,
     /// The least number of kept edges on a walk that joins a pair, `None` where there is none.
     pub distances: Vec<Option<usize>>,
@@ -69,6 +70,9 @@ impl Board {
         if window > limits::WINDOW {
             return Err(explained::refused(explained::window(&strip, window), Refusal::Window));
         }
+        if options.tester && window > limits::TESTER_WINDOW {
+            return Err(explained::refused(explained::tester_window(&strip, window), Refusal::TesterLimit));
+        }
         let pairs = match &options.pairs {
             None => strip.labelled_pairs().map_err(named)?,
             Some(pairs) => pairs.iter().map(|&(u, v)| LabelledPair { label: format!("{u}-{v}"), u, v }).collect(),
@@ -81,7 +85,14 @@ impl Board {
         let distances = pairs.iter().map(|p| graph.distance(p.u, p.v)).collect::<Result<_, _>>().map_err(named)?;
         let (betas, kept) = (options.betas.clone(), factors.kept);
         let manner = if options.per_element { Manner::PerElement } else { Manner::Block };
-        Ok(Board { strip, betas, manner, pairs, distances, n, kept, free, window, room, factors, diluted: diluted(options), edges, us, vs })
+        let caller = if options.tester { Caller::Tester } else { Caller::Desk };
+        let (of_calls, diluted) = (copperhook::Options { manner, caller }, diluted(options));
+        Ok(Board { strip, betas, options: of_calls, pairs, distances, n, kept, free, window, room, factors, diluted, edges, us, vs })
+    }
+
+    /// Whether the calls are the bench tester's.
+    pub fn is_tester(&self) -> bool {
+        self.options.caller == Caller::Tester
     }
 
     pub fn graph(&self) -> Graph<'_> {

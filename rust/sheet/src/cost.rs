@@ -54,7 +54,7 @@ pub fn seconds_of_a_call(board: &Board) -> (f64, f64) {
         let (mut squares, mut fourths) = (vec![0.0; board.pairs.len()], vec![0.0; board.pairs.len()]);
         let (by, mut work) = (Sampling { seed: 1, from: 0, to: 1, samples }, vec![0.0; board.room]);
         let start = Instant::now();
-        board.job().sample(&[0.5], &factors, board.manner, &by, &mut squares, &mut fourths, &mut work)?;
+        board.job().sample(&[0.5], &factors, board.options, &by, &mut squares, &mut fourths, &mut work)?;
         Ok(start.elapsed().as_secs_f64() / samples as f64)
     };
     if board.entries() < 1e7 {

@@ -26,14 +26,25 @@ pub fn of_strip(options: &Options, refusal: Refusal) -> Trouble {
 }
 
 /// Where it is known how the window comes from the width, that is told.
-pub fn window(strip: &Strip, window: usize) -> String {
+fn window_needed(strip: &Strip, window: usize) -> String {
     let from = match window.checked_sub(strip.width) {
         _ if strip.kind == Kind::Eight && window + 1 == 2 * strip.width => " (2 width - 1)".to_string(),
         Some(0) => " (the width)".to_string(),
         Some(more) if more <= 2 => format!(" (width + {more})"),
         _ => String::new(),
     };
-    format!("this strip needs a window of {window}{from}; at most {}", limits::WINDOW)
+    format!("this strip needs a window of {window}{from}")
+}
+
+/// Above the widest window.
+pub fn window(strip: &Strip, window: usize) -> String {
+    format!("{}; at most {}", window_needed(strip, window), limits::WINDOW)
+}
+
+/// Above the tester's.
+pub fn tester_window(strip: &Strip, window: usize) -> String {
+    let most = limits::TESTER_WINDOW;
+    format!("{}; with --tester at most {most}, leave it out or take a narrower strip", window_needed(strip, window))
 }
 
 fn dilution(options: &Options) -> String {

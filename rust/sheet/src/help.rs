@@ -27,6 +27,8 @@ what is asked of it
                              or free, with its bit of a configuration's number; as text or csv. With --bits the bits
                              of the magnitude too
     --manner M               block (the default) or element: how often a sweep is rescaled; the last bits depend on it
+    --tester                 by the limits of the tester on the bench: a window up to 12 and, with --enumerate, up to 16
+                             free edges. No number depends on it, nor the record
 of which configurations: one of these; without any, all, where at most 20 edges are free
     --signs S                one: the sign of each kept edge in order, as +-++, or plus for all
     --seed N                 one: the signs drawn with this seed

@@ -57,6 +57,8 @@ pub struct Options {
     /// The strip's edges are asked for, and no pairs.
     pub edges: bool,
     pub per_element: bool,
+    /// The calls are the bench tester's.
+    pub tester: bool,
     pub format: Format,
     pub bits: bool,
     pub linear: bool,
@@ -90,6 +92,7 @@ struct Written {
     chunks: Option<(u64, u64)>,
     threads: Option<usize>,
     per_element: Option<bool>,
+    tester: bool,
     format: Option<Format>,
     bits: bool,
     linear: bool,
@@ -171,6 +174,7 @@ impl Written {
             "--linear" => &mut self.linear,
             "--enumerate" => &mut self.enumerate,
             "--edges" => &mut self.edges,
+            "--tester" => &mut self.tester,
             _ => return Ok(false),
         };
         *slot = true;
@@ -245,6 +249,7 @@ impl Written {
             ("--enumerate", self.enumerate),
             ("--seed", self.seed.is_some()),
             ("--manner", self.per_element.is_some()),
+            ("--tester", self.tester),
         ];
         if let Some((name, _)) = given.iter().find(|g| g.1) {
             return Err(Trouble::asked(format!("--edges and {name} cannot be combined: the edges do not depend on it")));
@@ -277,6 +282,7 @@ impl Written {
             pairs: self.pairs,
             edges: self.edges,
             per_element: self.per_element.unwrap_or(false),
+            tester: self.tester,
             format: self.format.unwrap_or(Format::Text),
             bits: self.bits,
             linear: self.linear,

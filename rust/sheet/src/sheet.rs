@@ -51,7 +51,7 @@ impl Sheet {
             length: board.strip.length,
             title: board.title(),
             source: source.title(),
-            manner: if board.manner == copperhook::Manner::Block { "block" } else { "element" },
+            manner: if board.options.manner == copperhook::Manner::Block { "block" } else { "element" },
             betas: board.betas.iter().map(|&b| spelled(b)).collect(),
             columns: source.columns(),
             bounds,

@@ -7,6 +7,7 @@ use crate::options::{Options, Wanted};
 use crate::record::Entry;
 use crate::totals::{Enumerated, Sampled, MOST_FREE};
 use crate::trouble::Trouble;
+use copperhook::limits;
 
 /// The values of each pair, beta after beta.
 pub type Values = Vec<Vec<Vec<f64>>>;
@@ -47,7 +48,7 @@ pub trait Source {
     fn tried(&self, board: &Board, work: &mut [f64]) -> Result<(), Trouble> {
         let (plus, mut results) = (vec![false; board.kept], vec![0.0; board.pairs.len()]);
         for i in board.strongest_first() {
-            let call = board.job().correlations(&board.factors.of_signs(i, &plus), board.manner, &mut results, work);
+            let call = board.job().correlations(&board.factors.of_signs(i, &plus), board.options, &mut results, work);
             call.map_err(|refusal| board.refused_at(i, refusal))?;
         }
         Ok(())
@@ -82,6 +83,7 @@ fn undecided(board: &Board) -> Trouble {
     };
     let all = match board.free {
         free if free > MOST_FREE => format!("takes at most {MOST_FREE} free edges"),
+        _ if board.is_tester() => format!("takes at most {} free edges with --tester", limits::TESTER_FREE),
         free => format!("takes all 2^{free} configurations, {}", for_calls(f64::powi(2.0, free as i32))),
     };
     Trouble::asked(format!(

@@ -6,7 +6,7 @@ use crate::options::Drawing;
 use crate::record::{Entry, Field};
 use crate::source::{Bounds, Done, Source, Values};
 use crate::trouble::Trouble;
-use copperhook::{estimates, mean_error_bound, Refusal, Sampling};
+use copperhook::{estimates, limits, mean_error_bound, Refusal, Sampling};
 use std::collections::BTreeMap;
 use std::sync::atomic::{AtomicU64, Ordering};
 use std::sync::Mutex;
@@ -76,6 +76,11 @@ impl Enumerated {
             let told = format!("{} free edges; --enumerate takes at most {MOST_FREE}, use --sample", board.free);
             return Err(refused(told, Refusal::FreeEdges));
         }
+        if board.is_tester() && board.free > limits::TESTER_FREE {
+            let most = limits::TESTER_FREE;
+            let told = format!("{} free edges; with --tester --enumerate takes at most {most}, leave it out or use --sample", board.free);
+            return Err(refused(told, Refusal::TesterLimit));
+        }
         Ok(Enumerated { free: board.free, count: 1 << board.free })
     }
 }
@@ -129,7 +134,7 @@ impl Source for Enumerated {
             let refused = |refusal| board.refused_at(i, refusal);
             let mut sums = Sums::zero(pairs);
             let (squares, fourths) = (&mut sums.squares, &mut sums.fourths);
-            let count = board.job().exhaustive(&[*beta], board.factors_at(i), board.manner, squares, fourths, work).map_err(refused)?;
+            let count = board.job().exhaustive(&[*beta], board.factors_at(i), board.options, squares, fourths, work).map_err(refused)?;
             values.extend(sums.estimates(count, pairs).map_err(refused)?);
             done(i as u64 + 1, board.betas.len() as u64, "betas");
         }
@@ -188,7 +193,7 @@ impl Joined {
 fn chunk_sums(board: &Board, by: &Sampling, work: &mut [f64]) -> Result<Sums, Trouble> {
     let mut call = |betas: &[f64], factors: &[f64]| {
         let mut sums = Sums::zero(betas.len() * board.pairs.len());
-        let drawn = board.job().sample(betas, factors, board.manner, by, &mut sums.squares, &mut sums.fourths, work);
+        let drawn = board.job().sample(betas, factors, board.options, by, &mut sums.squares, &mut sums.fourths, work);
         drawn.map(|_| sums)
     };
     let all = call(&board.betas, &board.factors.all);

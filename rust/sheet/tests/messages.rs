@@ -44,6 +44,31 @@ fn strips_that_cannot_be() {
 }
 
 #[test]
+fn limits_of_the_tester() {
+    let wide = "this strip needs a window of 13 (the width); with --tester at most 12, leave it out or take a narrower strip (refusal 22)";
+    refused("--kind sq --width 13 --length 2 --beta 1 --signs plus --tester", wide);
+    let one_more = wide.replace("(the width)", "(width + 1)");
+    refused("--kind tri --width 12 --length 3 --cylinder --beta 1 --sample 2 --tester", &one_more);
+    refused("--kind sq --width 25 --length 3 --beta 1 --tester", "this strip needs a window of 25 (the width); at most 24 (refusal 6)");
+    let free = "17 free edges; with --tester --enumerate takes at most 16, leave it out or use --sample (refusal 22)";
+    refused("--kind sq --width 2 --length 18 --beta 1 --enumerate --tester", free);
+    refused("--kind sq --width 2 --length 18 --beta 1 --tester", free);
+    let most = "35 free edges; --enumerate takes at most 34, use --sample (refusal 9)";
+    refused("--kind sq --width 2 --length 36 --beta 1 --enumerate --tester", most);
+    refused("--kind sq --width 2 --length 3 --edges --tester", "--edges and --tester cannot be combined: the edges do not depend on it");
+}
+
+#[test]
+fn the_tester_gets_the_desks_sheet() {
+    for of in ["--enumerate", "--sample 9 --seed 2", "--signs plus"] {
+        let line = format!("{SMALL} --beta 0.3,0.5 {of} --format json --bits");
+        let (tester, desk) = (sheet(&format!("{line} --tester")), sheet(&line));
+        assert!(tester.status.success() && tester.stdout == desk.stdout, "{line}");
+    }
+    assert_eq!(told("--kind sq --width 2 --length 18 --beta 0.3 --sample 3 --tester").1, Some(0));
+}
+
+#[test]
 fn pairs_that_cannot_be() {
     refused(&format!("{SMALL} --beta 1 --pairs 0-1,0-12"), "pair 0-12: vertices are 0 to 11 (refusal 8)");
     refused(&format!("{SMALL} --beta 1 --pairs 3-3"), "pair 3-3: its ends must differ (refusal 8)");

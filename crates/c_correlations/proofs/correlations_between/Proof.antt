@@ -1,5 +1,5 @@
 -- The ends that are held are the fronts of their lists.
-use mathlib.Core.Path.{_≡_, sym}
+use mathlib.Core.Path.{_≡_, sym, ap}
 use mathlib.Core.List.{List}
 use Prim.Native.Nat.{ℕ, _≤_}
 use native.Mathlib.Omega.{arith}
@@ -7,6 +7,7 @@ use lib.ListN.{length, take}
 use lib.Seq.{length-take-le}
 use borrow.Author.Needs.{needs}
 use Rattle.c_pair_records.specs.Columns.{mostCopied}
+use Rattle.c_values.specs.declared.options.Options.{Options}
 use Rattle.c_correlations.proofs.correlations_between.Statement.{statement}
 use Rattle.c_correlations.proofs.correlations_between.Tie as tie
 
@@ -29,11 +30,13 @@ slice-aggregate-correlations-2 : tie.Need-slice-aggregate-correlations-2
 slice-aggregate-correlations-2 c = search (needs, front-length)
 
 returns : tie.Need-returns
-returns c = rw (← (c .before .before .before .before .before .before .before .manner-numbered .ensures)) (c .before .before .before .before .correlations .ensures)
+returns c =
+    let asked = c .before .before .before .before .before .before .before .before .before .options-numbered .ensures in
+    rw (← (ap (λ (o : Options). o .manner) asked), ← (ap (λ (o : Options). o .caller) asked)) (c .before .before .before .before .correlations .ensures)
 
 pub correlations-between-spec : {M : Type 1} → statement M
 correlations-between-spec =
     tie.close
     (tie.spec
-    array-share-prefix-us slice-aggregate-correlations array-share-prefix-vs slice-aggregate-correlations-2 (λ c κs. search needs)
+    (λ c κs. search needs) array-share-prefix-us slice-aggregate-correlations array-share-prefix-vs slice-aggregate-correlations-2
     (λ c κs. search needs) (λ c. search needs) (λ c. search needs) returns)

@@ -1,7 +1,7 @@
 -- Laws of what specs/AcceptedJob defines.
 use mathlib.Core.Path.{_≡_, refl, sym, ap, _∙_}
 use mathlib.Core.Bool.{Bool, true, false, cond, not, _&&_}
-use mathlib.Core.List.{List, [], _++_}
+use mathlib.Core.List.{List, [], _∷_, _++_}
 use mathlib.Core.Logic.{_⊎_, inl, inr}
 use Prim.Native.Nat.{ℕ, zero, suc, _*_, _≤_, _<_}
 use native.Mathlib.Nat.{zero-mul}
@@ -12,14 +12,15 @@ use lib.Ieee.{Float, nan, inf, fin, up, down, lt, ofBits}
 use lib.Ieee.Positive.{positive}
 use lib.ListN.{length, getD}
 use borrow.Author.Tests.{eqb-true, eqb-false, ltb-true, ltb-false, leb-false, not-false}
+use Rattle.limits.specs.declared.Caller.{Caller}
 use Rattle.limits.specs.Limits.{mostWindow}
 use Rattle.list_laws.specs.Laws.Search.{or-false, none-at}
 use Rattle.transfer_matrix.specs.Job.{windowOf}
 use Rattle.transfer_matrix.specs.Room as Room
 use Rattle.refusals.specs.Edges.{kept, windowFrom, keptEarly, keptLate}
 use Rattle.refusals.specs.Key.{Key}
-use Rattle.refusals.specs.Request.{Request, jobRequest, roomRequest, correlationRequest, outside, badEnds, badFactorList, passes}
-use Rattle.refusals.specs.Refusal.{checks, refusal, ofGraph, ofKept, ofRoom, ofLists, ofSweeps, ofCorrelations}
+use Rattle.refusals.specs.Request.{Request, jobRequest, callRequest, correlationRequest, outside, badEnds, badFactorList, passes}
+use Rattle.refusals.specs.Refusal.{checks, refusal, ofGraph, ofKept, ofJob, ofLists, ofSweeps, ofCorrelations}
 use Rattle.refusals.specs.Laws.First.{unless, passed-at}
 use Rattle.refusals.specs.Laws.Later.{and-true, orElse, both-passed, inOrder, refusal-in-parts, answerable, is-among}
 use Rattle.refusals.specs.Accepted.{AcceptedBetas}
@@ -28,21 +29,22 @@ use Rattle.refusals.specs.AcceptedJob.{buffersRefusal, listsRefusal, Acc
 
 -- ---- in parts
 
-module _ (n floor : ℕ) (a b : List ℕ) (m : List Float) (us vs : List ℕ) where
+module _ (caller : Caller) (n floor : ℕ) (a b : List ℕ) (m : List Float) (us vs : List ℕ) where
   -- a job is asked the graph's checks, then those of the kept edges and the pairs
-  pub job-in-parts : (betas : List Float) → refusal ofRoom (jobRequest n floor a b m us vs betas)
-      ≡ orElse (refusal ofGraph (jobRequest n floor a b m us vs betas)) (refusal ofKept (roomRequest n floor a b m us vs))
-  job-in-parts betas = refusal-in-parts ofGraph ofKept (jobRequest n floor a b m us vs betas) refl
+  pub job-in-parts : (betas : List Float) → refusal ofJob (callRequest caller n floor a b m us vs betas)
+      ≡ orElse (refusal ofGraph (jobRequest n floor a b m us vs betas))
+      (refusal (ofKept ++ (Key.testerWindow ∷ [])) (callRequest caller n floor a b m us vs []))
+  job-in-parts betas = refusal-in-parts ofGraph (ofKept ++ (Key.testerWindow ∷ [])) (callRequest caller n floor a b m us vs betas) refl
 
-  -- `correlations` asks the checks of `room`, then of the lists that it is lent, then of every Z
+  -- `correlations` asks the checks of a job, then of the lists that it is lent, then of every Z
   pub correlations-in-parts : (factors : List Float) (results work : ℕ) (unsound : Bool)
-      → refusal ofCorrelations (correlationRequest n floor a b m us vs factors results work unsound)
-      ≡ orElse (refusal ofRoom (roomRequest n floor a b m us vs))
+      → refusal ofCorrelations (correlationRequest caller n floor a b m us vs factors results work unsound)
+      ≡ orElse (refusal ofJob (callRequest caller n floor a b m us vs []))
       (orElse (listsRefusal n (windowFrom floor a b m) (length (kept a b m)) us vs factors results work) (cond unsound 14 0))
   correlations-in-parts factors results work unsound =
-      let r = correlationRequest n floor a b m us vs factors results work unsound in
-      refusal-in-parts ofRoom (ofLists ++ ofSweeps) r refl
-      ∙ ap (orElse (refusal ofRoom (roomRequest n floor a b m us vs))) (refusal-in-parts ofLists ofSweeps r refl)
+      let r = correlationRequest caller n floor a b m us vs factors results work unsound in
+      refusal-in-parts ofJob (ofLists ++ ofSweeps) r refl
+      ∙ ap (orElse (refusal ofJob (callRequest caller n floor a b m us vs []))) (refusal-in-parts ofLists ofSweeps r refl)
 
 -- ---- a job that the checks 1 to 8 pass
 
@@ -50,31 +52,27 @@ pub window-wide : (floor : ℕ) (early late : List ℕ) → 1 ≤ windowOf floor
 unfolding windowOf
 window-wide floor early late = omega arith
 
-module _ (n floor : ℕ) (a b : List ℕ) (m : List Float) (us vs : List ℕ) (betas : List Float) where
-  pub accepted-with : refusal ofRoom (jobRequest n floor a b m us vs betas) ≡ 0 → AcceptedJob n floor a b m us vs × AcceptedBetas betas
+module _ (caller : Caller) (n floor : ℕ) (a b : List ℕ) (m : List Float) (us vs : List ℕ) (betas : List Float) where
+  pub accepted-with : refusal ofJob (callRequest caller n floor a b m us vs betas) ≡ 0 → AcceptedJob n floor a b m us vs × AcceptedBetas betas
   accepted-with h =
-      let q = jobRequest n floor a b m us vs betas in
-      let graph = accepted-graph n floor a b m us vs betas (both-passed _ _ (sym (job-in-parts n floor a b m us vs betas) ∙ h) .0) in
+      let q = callRequest caller n floor a b m us vs betas in
+      let graph = accepted-graph n floor a b m us vs betas (both-passed _ _ (sym (job-in-parts caller n floor a b m us vs betas) ∙ h) .0) in
       let apart : (i : ℕ) → i < length us → (eqb (getD us i 0) (getD vs i 0) ≡ false) × (outside n (getD us i 0) (getD vs i 0) ≡ false) = λ i l.
-      or-false _ _ (none-at (badEnds n us vs) (length us) i l (passed-at ofRoom q h Key.pairEnds refl)) in
+      or-false _ _ (none-at (badEnds n us vs) (length us) i l (passed-at ofJob q h Key.pairEnds refl)) in
       let inside : (i : ℕ) → i < length us → (leb n (getD us i 0) ≡ false) × (leb n (getD vs i 0) ≡ false) = λ i l. or-false _ _ (apart i l .1) in (
         record {
           graph = graph .0;
           matched = graph .1 .matched;
           few-pairs = graph .1 .few-pairs;
           wide = window-wide floor (keptEarly a b m) (keptLate a b m);
-          narrow = ltb-false mostWindow (windowFrom floor a b m) (passed-at ofRoom q h Key.window refl);
-          near = passed-at ofRoom q h Key.nearEdges refl;
+          narrow = ltb-false mostWindow (windowFrom floor a b m) (passed-at ofJob q h Key.window refl);
+          near = passed-at ofJob q h Key.nearEdges refl;
           first-inside = λ i l. leb-false n (getD us i 0) (inside i l .0);
           second-inside = λ i l. leb-false n (getD vs i 0) (inside i l .1);
           ends-apart = λ i l. eqb-false _ _ (apart i l .0);
         },
         graph .1 .betas-pass,
       )
-
-pub accepted-job : (n floor : ℕ) (a b : List ℕ) (m : List Float) (us vs : List ℕ) → refusal ofRoom (roomRequest n floor a b m us vs) ≡ 0
-    → AcceptedJob n floor a b m us vs
-accepted-job n floor a b m us vs h = accepted-with n floor a b m us vs [] h .0
 
 -- ---- and lists that 10, 12 and 13 pass
 
@@ -134,11 +132,11 @@ before-14 front q r o a e h = go (refusal front q) (is-among front q checks) (sy
         let v : true ≡ false = sym (t (λ p. omega arith)) ∙ ap (answerable checks front) (e ∙ z) ∙ a in
         absurd (let z : _≡_ {A = ℕ} 0 1 = cc in omega arith)
 
-pub accepted-correlations : (n floor : ℕ) (a b : List ℕ) (m : List Float) (us vs : List ℕ) (factors : List Float) (results work : ℕ)
-    (unsound : Bool) (r : ℕ) → refusal ofCorrelations (correlationRequest n floor a b m us vs factors results work unsound) ≡ r → (r ≡ 0) ⊎ (r ≡ 14)
+pub accepted-correlations : (caller : Caller) (n floor : ℕ) (a b : List ℕ) (m : List Float) (us vs : List ℕ) (factors : List Float) (results work : ℕ)
+    (unsound : Bool) (r : ℕ) → refusal ofCorrelations (correlationRequest caller n floor a b m us vs factors results work unsound) ≡ r → (r ≡ 0) ⊎ (r ≡ 14)
     → AcceptedCorrelations n floor a b m us vs factors results work
-accepted-correlations n floor a b m us vs factors results work unsound r e h =
-    let q = correlationRequest n floor a b m us vs factors results work unsound in
-    let z = before-14 (ofRoom ++ ofLists) q r refl refl e h in
-    let parts = both-passed _ _ (sym (refusal-in-parts ofRoom ofLists q refl) ∙ z) in
-    record { job = accepted-job n floor a b m us vs (parts .0); lists = accepted-lists n _ _ us vs factors results work (parts .1) }
+accepted-correlations caller n floor a b m us vs factors results work unsound r e h =
+    let q = correlationRequest caller n floor a b m us vs factors results work unsound in
+    let z = before-14 (ofJob ++ ofLists) q r refl refl e h in
+    let parts = both-passed _ _ (sym (refusal-in-parts ofJob ofLists q refl) ∙ z) in
+    record { job = accepted-with caller n floor a b m us vs [] (parts .0) .0; lists = accepted-lists n _ _ us vs factors results work (parts .1) }

@@ -11,12 +11,14 @@ use lib.Dec.{eqb, ltb}
 use lib.Ieee.{Float}
 use lib.ListN.{length}
 use borrow.Author.Tests.{lt-ltb, le-ltb, ltb-false}
-use Rattle.limits.specs.Limits.{mostSamples}
+use Rattle.limits.specs.declared.Caller.{Caller}
+use Rattle.limits.specs.Callers.{overLimit}
+use Rattle.limits.specs.Limits.{mostSamples, testerFree}
 use Rattle.refusals.specs.Edges.{kept, windowFrom}
-use Rattle.refusals.specs.Request.{couplingRequest, jobRequest, enumerationRequest, samplingRequest, signedFactors}
+use Rattle.refusals.specs.Request.{couplingRequest, jobRequest, callRequest, enumerationRequest, samplingRequest, signedFactors}
 use Rattle.refusals.specs.Request.{badFactorList, tooManyChunks}
 use Rattle.refusals.specs.Key.{Key}
-use Rattle.refusals.specs.Refusal.{refusal, ofGraph, ofRoom, ofCouplings, ofEnumeration, ofEnumerationLists, ofSampling, ofSamplingLists, ofSweeps}
+use Rattle.refusals.specs.Refusal.{refusal, ofGraph, ofJob, ofCouplings, ofEnumeration, ofEnumerationLists, ofSampling, ofSamplingLists, ofSweeps}
 use Rattle.refusals.specs.Laws.First.{unless}
 use Rattle.refusals.specs.Laws.Later.{orElse, both-passed, refusal-in-parts, Then}
 use Rattle.refusals.specs.Accepted.{Accepted, AcceptedBetas}
@@ -39,27 +41,27 @@ pub couplings-in-parts : (n : ℕ) (a b : List ℕ) (m betas : List Float) (misf
     → Then (refusal ofCouplings (couplingRequest n a b m betas misfit)) (refusal ofGraph (jobRequest n 0 a b m [] [] betas)) misfit 12
 couplings-in-parts n a b m betas misfit = record { is = refusal-in-parts ofGraph (Key.buffers ∷ []) (couplingRequest n a b m betas misfit) refl }
 
-module _ (n floor : ℕ) (a b : List ℕ) (m : List Float) (us vs : List ℕ) (betas factors : List Float) where
+module _ (caller : Caller) (n floor : ℕ) (a b : List ℕ) (m : List Float) (us vs : List ℕ) (betas factors : List Float) where
   -- totals ask a job's checks, then of the configurations and the lists that they are lent, then of every Z
   pub enumeration-in-parts : (free most : ℕ) (misfit : Bool) (work : ℕ) (unsound : Bool)
-      → refusal ofEnumeration (enumerationRequest n floor a b m us vs betas factors free most misfit work unsound)
-      ≡ orElse (refusal ofRoom (jobRequest n floor a b m us vs betas))
-      (orElse (enumerationLists n (windowFrom floor a b m) (length (kept a b m)) us vs (length betas) factors free most misfit work)
+      → refusal ofEnumeration (enumerationRequest caller n floor a b m us vs betas factors free most misfit work unsound)
+      ≡ orElse (refusal ofJob (callRequest caller n floor a b m us vs betas))
+      (orElse (enumerationLists caller n (windowFrom floor a b m) (length (kept a b m)) us vs (length betas) factors free most misfit work)
       (cond unsound 14 0))
   enumeration-in-parts free most misfit work unsound =
-      let r = enumerationRequest n floor a b m us vs betas factors free most misfit work unsound in
-      refusal-in-parts ofRoom (ofEnumerationLists ++ ofSweeps) r refl
-      ∙ ap (orElse (refusal ofRoom (jobRequest n floor a b m us vs betas))) (refusal-in-parts ofEnumerationLists ofSweeps r refl)
+      let r = enumerationRequest caller n floor a b m us vs betas factors free most misfit work unsound in
+      refusal-in-parts ofJob (ofEnumerationLists ++ ofSweeps) r refl
+      ∙ ap (orElse (refusal ofJob (callRequest caller n floor a b m us vs betas))) (refusal-in-parts ofEnumerationLists ofSweeps r refl)
 
-  pub sampling-in-parts : (start end samples : ℕ) (misfit : Bool) (work : ℕ) (unsound : Bool)
-      → refusal ofSampling (samplingRequest n floor a b m us vs betas factors start end samples misfit work unsound)
-      ≡ orElse (refusal ofRoom (jobRequest n floor a b m us vs betas))
+  pub sampling-in-parts : (free start end samples : ℕ) (misfit : Bool) (work : ℕ) (unsound : Bool)
+      → refusal ofSampling (samplingRequest caller n floor a b m us vs betas factors free start end samples misfit work unsound)
+      ≡ orElse (refusal ofJob (callRequest caller n floor a b m us vs betas))
       (orElse (samplingLists n (windowFrom floor a b m) (length (kept a b m)) us vs (length betas) factors start end samples misfit work)
       (cond unsound 14 0))
-  sampling-in-parts start end samples misfit work unsound =
-      let r = samplingRequest n floor a b m us vs betas factors start end samples misfit work unsound in
-      refusal-in-parts ofRoom (ofSamplingLists ++ ofSweeps) r refl
-      ∙ ap (orElse (refusal ofRoom (jobRequest n floor a b m us vs betas))) (refusal-in-parts ofSamplingLists ofSweeps r refl)
+  sampling-in-parts free start end samples misfit work unsound =
+      let r = samplingRequest caller n floor a b m us vs betas factors free start end samples misfit work unsound in
+      refusal-in-parts ofJob (ofSamplingLists ++ ofSweeps) r refl
+      ∙ ap (orElse (refusal ofJob (callRequest caller n floor a b m us vs betas))) (refusal-in-parts ofSamplingLists ofSweeps r refl)
 
 -- ---- chunks times samples, without their product
 
@@ -105,13 +107,13 @@ accepted-couplings n a b m betas misfit h =
     let graph = accepted-graph n 0 a b m [] [] betas (parts .0) in
     (graph .0, graph .1 .betas-pass, unless misfit {k = 12} (omega arith) (parts .1) .0)
 
-module _ (n floor : ℕ) (a b : List ℕ) (m : List Float) (us vs : List ℕ) (betas factors : List Float) where
-  accepted-totals : (misfit : Bool) (work : ℕ) → refusal ofRoom (jobRequest n floor a b m us vs betas) ≡ 0
+module _ (caller : Caller) (n floor : ℕ) (a b : List ℕ) (m : List Float) (us vs : List ℕ) (betas factors : List Float) where
+  accepted-totals : (misfit : Bool) (work : ℕ) → refusal ofJob (callRequest caller n floor a b m us vs betas) ≡ 0
       → badFactorList factors (signedFactors (length betas) (length (kept a b m))) ≡ false
       → buffersRefusal n (windowFrom floor a b m) (length (kept a b m)) us vs misfit work ≡ 0
       → AcceptedTotals n floor a b m us vs betas factors misfit work
   accepted-totals misfit work j f h =
-      let job = accepted-with n floor a b m us vs betas j in
+      let job = accepted-with caller n floor a b m us vs betas j in
       let all = accepted-factors factors _ f in
       let buffers = accepted-buffers n (windowFrom floor a b m) (length (kept a b m)) us vs misfit work h in
       record {
@@ -125,28 +127,29 @@ module _ (n floor : ℕ) (a b : List ℕ) (m : List Float) (us vs : List ℕ) (b
 
   -- A call that is accepted, or refused by 14 alone, has passed all before it: and the free edges are few enough,
   pub accepted-enumeration : (free most : ℕ) (misfit : Bool) (work : ℕ) (unsound : Bool) (r : ℕ)
-      → refusal ofEnumeration (enumerationRequest n floor a b m us vs betas factors free most misfit work unsound) ≡ r → (r ≡ 0) ⊎ (r ≡ 14)
+      → refusal ofEnumeration (enumerationRequest caller n floor a b m us vs betas factors free most misfit work unsound) ≡ r → (r ≡ 0) ⊎ (r ≡ 14)
       → AcceptedTotals n floor a b m us vs betas factors misfit work × (free ≤ most)
   accepted-enumeration free most misfit work unsound r e h =
-      let q = enumerationRequest n floor a b m us vs betas factors free most misfit work unsound in
-      let z = before-14 (ofRoom ++ ofEnumerationLists) q r refl refl e h in
-      let lists = enumerationLists n (windowFrom floor a b m) (length (kept a b m)) us vs (length betas) factors free most misfit work in
-      let parts = both-passed (refusal ofRoom (jobRequest n floor a b m us vs betas)) lists
-      (sym (refusal-in-parts ofRoom ofEnumerationLists q refl) ∙ z) in
+      let q = enumerationRequest caller n floor a b m us vs betas factors free most misfit work unsound in
+      let z = before-14 (ofJob ++ ofEnumerationLists) q r refl refl e h in
+      let lists = enumerationLists caller n (windowFrom floor a b m) (length (kept a b m)) us vs (length betas) factors free most misfit work in
+      let parts = both-passed (refusal ofJob (callRequest caller n floor a b m us vs betas)) lists
+      (sym (refusal-in-parts ofJob ofEnumerationLists q refl) ∙ z) in
       let t9 = unless (ltb most free) (omega arith) (parts .1) in
-      let t10 = unless (badFactorList factors (signedFactors (length betas) (length (kept a b m)))) (omega arith) (t9 .1) in
+      let t22 = unless (overLimit caller testerFree free) (omega arith) (t9 .1) in
+      let t10 = unless (badFactorList factors (signedFactors (length betas) (length (kept a b m)))) (omega arith) (t22 .1) in
       (accepted-totals misfit work (parts .0) (t10 .0) (t10 .1), ltb-false most free (t9 .0))
 
   -- or the samples.
-  pub accepted-sampling : (start end samples : ℕ) (misfit : Bool) (work : ℕ) (unsound : Bool) (r : ℕ)
-      → refusal ofSampling (samplingRequest n floor a b m us vs betas factors start end samples misfit work unsound) ≡ r → (r ≡ 0) ⊎ (r ≡ 14)
+  pub accepted-sampling : (free start end samples : ℕ) (misfit : Bool) (work : ℕ) (unsound : Bool) (r : ℕ)
+      → refusal ofSampling (samplingRequest caller n floor a b m us vs betas factors free start end samples misfit work unsound) ≡ r → (r ≡ 0) ⊎ (r ≡ 14)
       → AcceptedTotals n floor a b m us vs betas factors misfit work × ((end - start) * samples ≤ mostSamples)
-  accepted-sampling start end samples misfit work unsound r e h =
-      let q = samplingRequest n floor a b m us vs betas factors start end samples misfit work unsound in
-      let z = before-14 (ofRoom ++ ofSamplingLists) q r refl refl e h in
+  accepted-sampling free start end samples misfit work unsound r e h =
+      let q = samplingRequest caller n floor a b m us vs betas factors free start end samples misfit work unsound in
+      let z = before-14 (ofJob ++ ofSamplingLists) q r refl refl e h in
       let lists = samplingLists n (windowFrom floor a b m) (length (kept a b m)) us vs (length betas) factors start end samples misfit work in
-      let parts = both-passed (refusal ofRoom (jobRequest n floor a b m us vs betas)) lists
-      (sym (refusal-in-parts ofRoom ofSamplingLists q refl) ∙ z) in
+      let parts = both-passed (refusal ofJob (callRequest caller n floor a b m us vs betas)) lists
+      (sym (refusal-in-parts ofJob ofSamplingLists q refl) ∙ z) in
       let t10 = unless (badFactorList factors (signedFactors (length betas) (length (kept a b m)))) (omega arith) (parts .1) in
       let t11 = unless (tooManyChunks start end samples) (omega arith) (t10 .1) in
       (accepted-totals misfit work (parts .0) (t10 .0) (t11 .1), few-samples start end samples (t11 .0))

@@ -6,6 +6,8 @@ use Prim.Native.Nat.{ℕ, zero, suc}
 use lib.IntN.{pos}
 use lib.Ieee.{Float, nan, inf, fin, eq, le, lt, neg, ofBits}
 use lib.ListN.{replicate}
+use Rattle.limits.specs.declared.Caller.{Caller}
+use Rattle.limits.specs.declared.Caller.the-variants.{Desk, Tester}
 use Rattle.list_laws.specs.Search.{some}
 use Rattle.transfer_matrix.specs.Job.{windowOf, tooManyNear}
 use Rattle.transfer_matrix.specs.Configuration.{edgesWith}
@@ -82,7 +84,7 @@ four-near = refl
 -- two vertices, the edge 0-1, the pair u-v: a room of 13
 abbrev single : ℕ → ℕ → List Float → (results work : ℕ) → Bool → ℕ
 single u v factors results work unsound =
-    refusal ofCorrelations (correlationRequest 2 0 (0 ∷ []) (1 ∷ []) (one ∷ []) (u ∷ []) (v ∷ []) factors results work unsound)
+    refusal ofCorrelations (correlationRequest Desk 2 0 (0 ∷ []) (1 ∷ []) (one ∷ []) (u ∷ []) (v ∷ []) factors results work unsound)
 
 -- a pair with equal ends, and a factor that is no number
 pub first-8 : single 0 0 (nan ∷ []) 1 13 false ≡ 8
@@ -157,10 +159,13 @@ equal-betas = (refl, refl, refl, refl, refl)
 
 -- ---- totals: two vertices, the edge 0-1, the pair 0-1, one beta: two factors, and a room of 13
 
-abbrev counted : (free most : ℕ) → List Float → (misfit : Bool) → (work : ℕ) → ℕ
-counted free most factors misfit work =
+abbrev countedBy : Caller → (free most : ℕ) → List Float → (misfit : Bool) → (work : ℕ) → ℕ
+countedBy caller free most factors misfit work =
     refusal ofEnumeration
-    (enumerationRequest 2 0 (0 ∷ []) (1 ∷ []) (one ∷ []) (0 ∷ []) (1 ∷ []) (one ∷ []) factors free most misfit work false)
+    (enumerationRequest caller 2 0 (0 ∷ []) (1 ∷ []) (one ∷ []) (0 ∷ []) (1 ∷ []) (one ∷ []) factors free most misfit work false)
+
+abbrev counted : (free most : ℕ) → List Float → (misfit : Bool) → (work : ℕ) → ℕ
+counted = countedBy Desk
 
 -- 35 free edges, and factors too few; 34 pass for totals, 24 for stored correlations
 pub first-9 : (counted 35 mostCounted [] true 0 ≡ 9) × (counted 25 mostStored [] true 0 ≡ 9)
@@ -179,7 +184,7 @@ factor-signs = refl
 abbrev drawn : (start end samples : ℕ) → List Float → (misfit : Bool) → (work : ℕ) → ℕ
 drawn start end samples factors misfit work =
     refusal ofSampling
-    (samplingRequest 2 0 (0 ∷ []) (1 ∷ []) (one ∷ []) (0 ∷ []) (1 ∷ []) (one ∷ []) factors start end samples misfit work false)
+    (samplingRequest Desk 2 0 (0 ∷ []) (1 ∷ []) (one ∷ []) (0 ∷ []) (1 ∷ []) (one ∷ []) factors 0 start end samples misfit work false)
 
 -- a bad factor, and too many samples; these, and a buffer that does not fit; such a buffer, and short work memory
 pub first-11 : (drawn 0 65537 65536 (one ∷ nan ∷ []) true 0 ≡ 10) × (drawn 0 65537 65536 (one ∷ one ∷ []) true 0 ≡ 11)
@@ -203,3 +208,35 @@ pub no-chunk : (drawn 8 8 4294967297 (one ∷ one ∷ []) false 13 ≡ 0) × (dr
     × (drawn 0 18446744073709551615 0 (one ∷ one ∷ []) false 13 ≡ 0)
 unfolding some keptOf eq le lt neg ofBits windowOf tooManyNear edgesWith room
 no-chunk = (refl, refl, refl)
+
+-- ---- the tester
+
+-- a window of 25 is refused by 6, whoever calls; one of 13 by 22 in the tester's calls, before near edges and pairs are asked of; 12 passes
+abbrev widened : Caller → (floor : ℕ) → (us vs : List ℕ) → List Float → ℕ
+widened caller floor us vs factors =
+    refusal ofCorrelations
+    (correlationRequest caller 6 floor (0 ∷ 1 ∷ 2 ∷ 3 ∷ 4 ∷ []) (5 ∷ 5 ∷ 5 ∷ 5 ∷ 5 ∷ []) (one ∷ one ∷ one ∷ one ∷ one ∷ []) us vs factors 0 0 false)
+
+pub tester-window : (widened Tester 25 (0 ∷ []) (6 ∷ []) [] ≡ 6) × (widened Tester 13 (0 ∷ []) (6 ∷ []) [] ≡ 22) × (widened Tester 12 (0 ∷ []) (6 ∷ []) [] ≡ 7)
+    × (widened Desk 13 (0 ∷ []) (6 ∷ []) [] ≡ 7)
+unfolding some keptOf eq le neg ofBits windowOf tooManyNear edgesWith
+tester-window = (refl, refl, refl, refl)
+
+-- `room` has no tester
+pub room-untested : refusal ofRoom (roomRequest 2 13 [] [] [] (0 ∷ []) (1 ∷ [])) ≡ 0
+unfolding some keptOf windowOf tooManyNear edgesWith
+room-untested = refl
+
+-- 35 free edges are refused by 9, whoever calls, 25 where each correlation is stored; 17 by 22 in the tester's calls, before the factors are asked of;
+-- 16 pass
+pub tester-free : (countedBy Tester 35 mostCounted [] true 0 ≡ 9) × (countedBy Tester 25 mostStored [] true 0 ≡ 9)
+    × (countedBy Tester 17 mostCounted [] true 0 ≡ 22) × (countedBy Tester 17 mostStored [] true 0 ≡ 22) × (countedBy Tester 16 mostCounted [] true 0 ≡ 10)
+    × (countedBy Desk 17 mostCounted [] true 0 ≡ 10)
+unfolding some keptOf eq le neg ofBits windowOf tooManyNear edgesWith
+tester-free = (refl, refl, refl, refl, refl, refl)
+
+-- a sampling has no limit of free edges, whoever calls
+pub tester-sampling : refusal ofSampling
+    (samplingRequest Tester 2 0 (0 ∷ []) (1 ∷ []) (one ∷ []) (0 ∷ []) (1 ∷ []) (one ∷ []) (one ∷ one ∷ []) 17 0 1 1 false 13 false) ≡ 0
+unfolding some keptOf eq le lt neg ofBits windowOf tooManyNear edgesWith room
+tester-sampling = refl

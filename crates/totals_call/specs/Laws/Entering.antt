@@ -11,6 +11,9 @@ use lib.Ieee.{Float}
 use lib.ListN.{length, take, length-append}
 use lib.Seq.{take-append-seam}
 use borrow.Author.Tests.{lt-ltb, ltb-false, eqb-true, not-false}
+use Rattle.limits.specs.declared.Caller.{Caller}
+use Rattle.limits.specs.Callers.{overLimit}
+use Rattle.limits.specs.Limits.{testerFree}
 use Rattle.list_laws.specs.Laws.Search.{or-false}
 use Rattle.forest.specs.FreeEdges.{freeCount, bitsOf}
 use Rattle.forest.specs.Paths as Paths
@@ -96,17 +99,18 @@ module _ {n floor : ℕ} {a b : List ℕ} {m : List Float} {us vs : List ℕ} {k
   pub joined : Paths.Edges n (take k early′) (take k late′)
   joined = rw (front-early (g .written), front-late (g .written)) (joins (g .edges))
 
-  pub all-lists : (betas : ℕ) (factors : List Float) (free free′ most : ℕ) (misfit : Bool) (work r : ℕ) → free ≡ free′
-      → r ≡ enumerationLists n w k us vs betas factors free most misfit work
-      → r ≡ enumerationLists n (windowFrom floor a b m) (length (kept a b m)) us vs betas factors free′ most misfit work
-  all-lists betas factors free free′ most misfit work r e h = rw (g .window, g .written .edges, e) at h
+  pub all-lists : (caller : Caller) (betas : ℕ) (factors : List Float) (free free′ most : ℕ) (misfit : Bool) (work r : ℕ) → free ≡ free′
+      → r ≡ enumerationLists caller n w k us vs betas factors free most misfit work
+      → r ≡ enumerationLists caller n (windowFrom floor a b m) (length (kept a b m)) us vs betas factors free′ most misfit work
+  all-lists caller betas factors free free′ most misfit work r e h = rw (g .window, g .written .edges, e) at h
 
-  pub all-passed : (betas : ℕ) (factors : List Float) (free most : ℕ) (misfit : Bool) (work r : ℕ) → betas ≤ 64
-      → r ≡ enumerationLists n w k us vs betas factors free most misfit work → r ≡ 0
+  pub all-passed : (caller : Caller) (betas : ℕ) (factors : List Float) (free most : ℕ) (misfit : Bool) (work r : ℕ) → betas ≤ 64
+      → r ≡ enumerationLists caller n w k us vs betas factors free most misfit work → r ≡ 0
       → Passed n w (take k early′) (take k late′) us vs (length factors) betas work × (misfit ≡ false) × (free ≤ most)
-  all-passed betas factors free most misfit work r few h z =
+  all-passed caller betas factors free most misfit work r few h z =
       let t9 = unless (ltb most free) {k = 9} (omega arith) (sym h ∙ z) in
-      let t10 = unless (badFactorList factors (signedFactors betas k)) {k = 10} (omega arith) (t9 .1) in
+      let t22 = unless (overLimit caller testerFree free) {k = 22} (omega arith) (t9 .1) in
+      let t10 = unless (badFactorList factors (signedFactors betas k)) {k = 10} (omega arith) (t22 .1) in
       let p = passed-lists factors betas misfit work few (t10 .0) (t10 .1) in
       (p .0, p .1, ltb-false most free (t9 .0))
 
@@ -116,17 +120,17 @@ module _ {n floor : ℕ} {a b : List ℕ} {m : List Float} {us vs : List ℕ} {k
 
   -- ---- of an enumeration that stores each correlation
 
-  pub stored-lists : (betas : ℕ) (factors : List Float) (free free′ wanted wanted′ stored work r : ℕ) → free ≡ free′ → (free ≤ 24 → wanted ≡ wanted′)
-      → r ≡ enumerationLists n w k us vs betas factors free 24 (misfits wanted stored stored) work
-      → r ≡ enumerationLists n (windowFrom floor a b m) (length (kept a b m)) us vs betas factors free′ 24 (not (eqb stored wanted′)) work
-  stored-lists betas factors free free′ wanted wanted′ stored work r e h q =
-      all-lists betas factors free free′ 24 (not (eqb stored wanted′)) work r e (q ∙ go (decLt 24 free))
+  pub stored-lists : (caller : Caller) (betas : ℕ) (factors : List Float) (free free′ wanted wanted′ stored work r : ℕ) → free ≡ free′ → (free ≤ 24 → wanted ≡ wanted′)
+      → r ≡ enumerationLists caller n w k us vs betas factors free 24 (misfits wanted stored stored) work
+      → r ≡ enumerationLists caller n (windowFrom floor a b m) (length (kept a b m)) us vs betas factors free′ 24 (not (eqb stored wanted′)) work
+  stored-lists caller betas factors free free′ wanted wanted′ stored work r e h q =
+      all-lists caller betas factors free free′ 24 (not (eqb stored wanted′)) work r e (q ∙ go (decLt 24 free))
     where
-      go : Dec (24 < free) → enumerationLists n w k us vs betas factors free 24 (misfits wanted stored stored) work
-          ≡ enumerationLists n w k us vs betas factors free 24 (not (eqb stored wanted′)) work
+      go : Dec (24 < free) → enumerationLists caller n w k us vs betas factors free 24 (misfits wanted stored stored) work
+          ≡ enumerationLists caller n w k us vs betas factors free 24 (not (eqb stored wanted′)) work
       go (yes l) = rw (lt-ltb 24 free l)
       go (no l) =
-          ap (λ (t : Bool). enumerationLists n w k us vs betas factors free 24 t work)
+          ap (λ (t : Bool). enumerationLists caller n w k us vs betas factors free 24 t work)
           (misfits-alone wanted stored ∙ ap (λ (j : ℕ). not (eqb stored j)) (h (omega arith)))
 
   -- ---- of a sampling

@@ -4,8 +4,8 @@ use mathlib.Core.Bool.{Bool, false, cond}
 use Prim.Native.Nat.{ℕ}
 use lib.ListN.{length}
 use Rattle.refusals.specs.Edges.{kept}
-use Rattle.refusals.specs.Request.{jobRequest, enumerationRequest, samplingRequest}
-use Rattle.refusals.specs.Refusal.{checks, refusal, ofRoom, ofEnumerationLists, ofSamplingLists}
+use Rattle.refusals.specs.Request.{callRequest, enumerationRequest, samplingRequest}
+use Rattle.refusals.specs.Refusal.{checks, refusal, ofJob, ofEnumerationLists, ofSamplingLists}
 use Rattle.refusals.specs.Laws.Later.{orElse, is-among}
 use Rattle.refusals.specs.AcceptedTotals.{enumerationLists, samplingLists}
 use Rattle.refusals.specs.Laws.AcceptedTotals.{enumeration-in-parts, sampling-in-parts}
@@ -25,29 +25,29 @@ pub record Parts (number : ℕ) : Type 0 where
 module _ (g : Given) where
   -- the refusal by the checks of the job
   abbrev pub refusedEarly : ℕ
-  refusedEarly = refusal ofRoom (jobRequest (g .n) (g .floor) (g .a) (g .b) (g .m) (g .us) (g .vs) (g .betas))
+  refusedEarly = refusal ofJob (callRequest (g .caller) (g .n) (g .floor) (g .a) (g .b) (g .m) (g .us) (g .vs) (g .betas))
 
   pub early-not-14 : refusedEarly ≡ 14 → ⊥
-  early-not-14 = not-14 ofRoom refusedEarly refl (is-among ofRoom (jobRequest (g .n) (g .floor) (g .a) (g .b) (g .m) (g .us) (g .vs) (g .betas)) checks)
+  early-not-14 = not-14 ofJob refusedEarly refl (is-among ofJob (callRequest (g .caller) (g .n) (g .floor) (g .a) (g .b) (g .m) (g .us) (g .vs) (g .betas)) checks)
 
   module _ (misfit : Bool) (work : ℕ) where
     -- all configurations, of so many free edges at most
     abbrev pub listsOfAll : (most : ℕ) → ℕ
     listsOfAll most =
-        enumerationLists (g .n) (window g) (length (kept (g .a) (g .b) (g .m))) (g .us) (g .vs) (length (g .betas)) (g .factors) (free g) most misfit work
+        enumerationLists (g .caller) (g .n) (window g) (length (kept (g .a) (g .b) (g .m))) (g .us) (g .vs) (length (g .betas)) (g .factors) (free g) most misfit work
 
     pub all-not-14 : (most : ℕ) → listsOfAll most ≡ 14 → ⊥
     all-not-14 most =
         not-14 ofEnumerationLists (listsOfAll most) refl
         (is-among ofEnumerationLists
-        (enumerationRequest (g .n) (g .floor) (g .a) (g .b) (g .m) (g .us) (g .vs) (g .betas) (g .factors) (free g) most misfit work false) checks)
+        (enumerationRequest (g .caller) (g .n) (g .floor) (g .a) (g .b) (g .m) (g .us) (g .vs) (g .betas) (g .factors) (free g) most misfit work false) checks)
 
     abbrev pub allParts : (most : ℕ) → Parts (refusedAll g most misfit work)
     allParts most = record {
       early = refusedEarly;
       lists = listsOfAll most;
       bad = unsoundAll g;
-      whole = enumeration-in-parts (g .n) (g .floor) (g .a) (g .b) (g .m) (g .us) (g .vs) (g .betas) (g .factors) (free g) most misfit work (unsoundAll g);
+      whole = enumeration-in-parts (g .caller) (g .n) (g .floor) (g .a) (g .b) (g .m) (g .us) (g .vs) (g .betas) (g .factors) (free g) most misfit work (unsoundAll g);
       early-other = early-not-14;
       lists-other = all-not-14 most;
     }
@@ -62,14 +62,14 @@ module _ (g : Given) where
       drawn-not-14 =
           not-14 ofSamplingLists listsOfDrawn refl
           (is-among ofSamplingLists
-          (samplingRequest (g .n) (g .floor) (g .a) (g .b) (g .m) (g .us) (g .vs) (g .betas) (g .factors) from to samples misfit work false) checks)
+          (samplingRequest (g .caller) (g .n) (g .floor) (g .a) (g .b) (g .m) (g .us) (g .vs) (g .betas) (g .factors) (free g) from to samples misfit work false) checks)
 
       abbrev pub drawnParts : Parts (refusedDrawn g seed from to samples misfit work)
       drawnParts = record {
         early = refusedEarly;
         lists = listsOfDrawn;
         bad = unsoundDrawn g seed from to samples;
-        whole = sampling-in-parts (g .n) (g .floor) (g .a) (g .b) (g .m) (g .us) (g .vs) (g .betas) (g .factors) from to samples misfit work
+        whole = sampling-in-parts (g .caller) (g .n) (g .floor) (g .a) (g .b) (g .m) (g .us) (g .vs) (g .betas) (g .factors) (free g) from to samples misfit work
             (unsoundDrawn g seed from to samples);
         early-other = early-not-14;
         lists-other = drawn-not-14;

@@ -28,7 +28,7 @@ pub fn sound(draw: &mut Draw) -> Job {
     let style = if is_large(&edges) { 0 } else { draw.below(10) };
     let (couplings, factors) = factors(draw, &edges, style);
     let (results, gentle) = (pairs.us.len(), style <= GENTLE);
-    Job { edges, pairs, couplings, factors, each: draw.once_in(2), results, spare: draw.below(9) as isize, gentle, wide: false }
+    Job { edges, pairs, couplings, factors, options: draw.options(), results, spare: draw.below(9) as isize, gentle, wide: false }
 }
 
 /// Up to this style couplings are small.
@@ -65,7 +65,7 @@ pub fn spoil(draw: &mut Draw, job: &mut Job) {
     let (pair, edge) = (pairs.checked_sub(1).map(|last| draw.within(0, last)), edges.checked_sub(1).map(|last| draw.within(0, last)));
     match draw.below(16) {
         0..=3 => spoil_graph(draw, &mut job.edges),
-        4 => job.edges.floor = draw.of(&[24, 25, 1 << 40, usize::MAX]),
+        4 => job.edges.floor = draw.of(&[12, 13, 24, 25, 1 << 40, usize::MAX]),
         5 => link(job, |edges| long_edge(draw, edges)),
         6 => link(job, |edges| short_edges(draw, edges)),
         7 => drop(if draw.once_in(2) { job.pairs.us.pop() } else { job.pairs.vs.pop() }),

@@ -4,7 +4,7 @@ use super::jobs::{is_large, Job};
 use oracle::glass::{correlations as original, Plan};
 use oracle::lattice::Graph;
 use oracle::rules::lists::room;
-use oracle::rules::refusals::{factor_refusal, first, is_sound, job_refusal, unless};
+use oracle::rules::refusals::{call_refusal, factor_refusal, first, is_sound, unless};
 use oracle::rules::sweeps::Model;
 
 /// What the results and the work memory hold before a call.
@@ -24,7 +24,7 @@ pub struct Outcome {
 /// By the checks, and where they pass by the sweep rules and the original.
 pub fn outcome(job: &Job, before: &Before) -> Result<Outcome, String> {
     let (e, p) = (&job.edges, &job.pairs);
-    let number = first(job_refusal(e, p, &[]), || {
+    let number = first(call_refusal(e, p, &[], job.tester()), || {
         let factors = factor_refusal(&job.factors, e.kept().len());
         first(factors, || first(unless(job.results == p.us.len(), 12), || unless(before.work.len() >= room(e, p), 13)))
     });
@@ -42,7 +42,7 @@ pub fn outcome(job: &Job, before: &Before) -> Result<Outcome, String> {
 
 /// The original's answers. It reads its manner from the environment.
 fn original_answers(job: &Job, couplings: &[f64]) -> Vec<f64> {
-    std::env::set_var("FDK_SLOW", if job.each { "1" } else { "0" });
+    std::env::set_var("FDK_SLOW", if job.each() { "1" } else { "0" });
     let mut graph = Graph::new(job.edges.n, &job.edges.raw());
     graph.win = graph.win.max(job.edges.floor);
     let plan = Plan::new(&graph, &job.pairs.raw());
@@ -54,7 +54,7 @@ fn original_answers(job: &Job, couplings: &[f64]) -> Vec<f64> {
 /// Returns 14 where some Z is not finite and above zero; else 0 and the answers, which the original's should equal.
 fn modelled(job: &Job, answers: Option<Vec<f64>>) -> Result<(usize, Vec<f64>), String> {
     let edges: Vec<(usize, usize, f64)> = job.edges.kept().iter().zip(&job.factors).map(|(e, &x)| (e.0, e.1, x)).collect();
-    let model = Model { n: job.edges.n, window: job.edges.window(), edges: &edges, each: job.each };
+    let model = Model { n: job.edges.n, window: job.edges.window(), edges: &edges, each: job.each() };
     let modelled = model.answers(&job.pairs.raw());
     if !modelled.iter().all(|&(z, _)| is_sound(z)) {
         return Ok((14, vec![0.0; job.results]));

@@ -1,7 +1,7 @@
 //! Jobs for correlations, and what follows from what they lend.
 
 use oracle::rules::lists::{room, Edges, Pairs};
-use oracle::rules::refusals::job_refusal;
+use oracle::rules::refusals::call_refusal;
 
 /// The most doubles that are lent as work memory, but to wide jobs; a job whose room is larger is lent too few.
 const MOST_LENT: usize = 1 << 23;
@@ -14,7 +14,8 @@ pub struct Job {
     pub pairs: Pairs,
     pub couplings: Option<Vec<f64>>,
     pub factors: Vec<f64>,
-    pub each: bool,
+    /// As the call takes them; [`Job::each`] and [`Job::tester`] are what they say.
+    pub options: usize,
     pub results: usize,
     /// Work memory past the room, or short of it.
     pub spare: isize,
@@ -25,10 +26,20 @@ pub struct Job {
 }
 
 impl Job {
+    /// Whether the manner is per element: the options are not odd.
+    pub fn each(&self) -> bool {
+        self.options & 1 == 0
+    }
+
+    /// Whether the call is the tester's.
+    pub fn tester(&self) -> bool {
+        self.options & 4 != 0
+    }
+
     pub fn told(&self) -> String {
-        let manner = if self.each { "per element" } else { "block" };
+        let options = self.options;
         let (n, floor, edges) = (self.edges.n, self.edges.floor, self.edges.a.len());
-        format!("{n} vertices, floor {floor}, {edges} edges, {} pairs, {manner}", self.pairs.us.len())
+        format!("{n} vertices, floor {floor}, {edges} edges, {} pairs, options {options}", self.pairs.us.len())
     }
 }
 
@@ -39,7 +50,7 @@ pub fn is_large(edges: &Edges) -> bool {
 
 /// How much work memory is lent.
 pub fn work_length(job: &Job) -> usize {
-    if job_refusal(&job.edges, &job.pairs, &[]) != 0 {
+    if call_refusal(&job.edges, &job.pairs, &[], job.tester()) != 0 {
         return job.spare.unsigned_abs();
     }
     let room = room(&job.edges, &job.pairs);

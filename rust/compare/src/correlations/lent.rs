@@ -34,7 +34,7 @@ impl Lent<'_> {
         let (results, work) = ((results.pointer_mut(), results.len()), (work.pointer_mut(), work.len()));
         unsafe {
             sys::copperhook_correlations(
-                e.n, e.floor, a.0, a.1, b.0, b.1, m.0, m.1, us.0, us.1, vs.0, vs.1, f.0, f.1, usize::from(!self.job.each),
+                e.n, e.floor, a.0, a.1, b.0, b.1, m.0, m.1, us.0, us.1, vs.0, vs.1, f.0, f.1, self.job.options,
                 results.0, results.1, work.0, work.1,
             )
         }
@@ -48,7 +48,7 @@ impl Lent<'_> {
         let (results, work) = ((results.pointer_mut(), results.len()), (work.pointer_mut(), work.len()));
         unsafe {
             sys::copperhook_correlations_of(
-                e.n, e.floor, a.0, a.1, b.0, b.1, m.0, m.1, pairs.0, pairs.1, f.0, f.1, usize::from(!self.job.each),
+                e.n, e.floor, a.0, a.1, b.0, b.1, m.0, m.1, pairs.0, pairs.1, f.0, f.1, self.job.options,
                 results.0, results.1, work.0, work.1,
             )
         }

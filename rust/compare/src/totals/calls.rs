@@ -13,7 +13,8 @@ pub struct Call {
     pub factors: Vec<f64>,
     /// Whether the factors are the exponentials of the couplings, as the original takes them.
     pub exponentials: bool,
-    pub each: bool,
+    /// As the call takes them; [`Call::each`] and [`Call::tester`] are what they say.
+    pub options: usize,
     /// Which samples, of a sampled call.
     pub by: Drawn,
     /// What the result lists have past their exact lengths, or lack.
@@ -29,17 +30,30 @@ const MOST_SWEPT: f64 = (1 << 26) as f64;
 pub const MOST_MODELLED: f64 = (1 << 17) as f64;
 
 impl Call {
+    /// Whether the manner is per element: the options are not odd.
+    pub fn each(&self) -> bool {
+        self.options & 1 == 0
+    }
+
+    /// Whether the call is the tester's.
+    pub fn tester(&self) -> bool {
+        self.options & 4 != 0
+    }
+
     pub fn told(&self) -> String {
-        let manner = if self.each { "per element" } else { "block" };
+        let options = self.options;
         let (n, floor, edges) = (self.edges.n, self.edges.floor, self.edges.a.len());
         let (pairs, betas) = (self.pairs.us.len(), self.betas.len());
-        format!("{:?}, {n} vertices, floor {floor}, {edges} edges, {pairs} pairs, {betas} betas, {manner}, {:?}", self.entry, self.by)
+        format!(
+            "{:?}, {n} vertices, floor {floor}, {edges} edges, {pairs} pairs, {betas} betas, options {options}, {:?}",
+            self.entry, self.by
+        )
     }
 
     /// The call as the rules take it.
     pub fn by_rules(&self) -> Totals<'_> {
-        let Call { entry, edges, pairs, betas, factors, each, by, .. } = self;
-        Totals { entry: *entry, edges, pairs, betas, factors, each: *each, by: *by }
+        let Call { entry, edges, pairs, betas, factors, by, .. } = self;
+        Totals { entry: *entry, edges, pairs, betas, factors, each: self.each(), by: *by, tester: self.tester() }
     }
 
     /// How many configurations a call has that is not refused by then.

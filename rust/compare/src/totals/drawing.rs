@@ -37,7 +37,7 @@ pub fn small(draw: &mut Draw) -> Call {
         betas,
         factors: Vec::new(),
         exponentials: true,
-        each: draw.once_in(2),
+        options: draw.options(),
         by,
         misfits: [0; 2],
         spare: draw.below(9) as isize,
@@ -92,10 +92,12 @@ fn sampling(draw: &mut Draw) -> Drawn {
     Drawn { seed: draw.word(), from, to, samples }
 }
 
-/// More configurations than could be swept, at the ends of what is allowed; mostly with no pair or no beta, so that there is nothing to sweep.
+/// More configurations than could be swept, at the ends of what is allowed, or as many as the tester may have and more; mostly with no pair or no beta, so that there is nothing to sweep.
 pub fn vast(draw: &mut Draw) -> Call {
     let entry = draw.of(&[Entry::Enumerated, Entry::Stored, Entry::Sampled]);
+    let options = draw.options();
     let free = match entry {
+        _ if draw.once_in(3) => draw.within(16, 17),
         Entry::Stored => draw.within(23, 26),
         _ => draw.within(33, 36),
     };
@@ -123,8 +125,7 @@ pub fn vast(draw: &mut Draw) -> Call {
         (0, usize::MAX),
     ]);
     let by = Drawn { seed: draw.word(), from: 0, to, samples };
-    let each = draw.once_in(2);
-    Call { entry, edges, pairs, betas, factors: Vec::new(), exponentials: true, each, by, misfits: [0; 2], spare: 0 }
+    Call { entry, edges, pairs, betas, factors: Vec::new(), exponentials: true, options, by, misfits: [0; 2], spare: 0 }
 }
 
 /// One thing of the graph, the pairs, the betas or the samples that document 01 may refuse.
@@ -132,7 +133,7 @@ pub fn spoil_job(draw: &mut Draw, call: &mut Call) {
     let n = call.edges.n;
     match draw.below(16) {
         0..=3 => spoil_graph(draw, &mut call.edges),
-        4 => call.edges.floor = draw.of(&[24, 25, 1 << 40, usize::MAX]),
+        4 => call.edges.floor = draw.of(&[12, 13, 24, 25, 1 << 40, usize::MAX]),
         5 => long_edge(draw, &mut call.edges),
         6 => short_edges(draw, &mut call.edges),
         7 => drop(if draw.once_in(2) { call.pairs.us.pop() } else { call.pairs.vs.pop() }),

@@ -61,7 +61,7 @@ pub fn outcome(call: &Call, before: &Before) -> Result<Outcome, String> {
 
 /// The original's count and lists, with one thread. It reads its manner from the environment.
 fn original(call: &Call) -> (f64, Vec<Vec<f64>>) {
-    std::env::set_var("FDK_SLOW", if call.each { "1" } else { "0" });
+    std::env::set_var("FDK_SLOW", if call.each() { "1" } else { "0" });
     let mut graph = Graph::new(call.edges.n, &call.edges.raw());
     graph.win = graph.win.max(call.edges.floor);
     let plan = Plan::new(&graph, &call.pairs.raw());

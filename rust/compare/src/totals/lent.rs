@@ -23,21 +23,21 @@ impl Lent<'_> {
     pub fn called(&self, results: &mut [Guarded<f64>], work: &mut Guarded<f64>, count: &mut usize) -> usize {
         let [a, b, us, vs] = self.numbers.each_ref().map(|list| (list.pointer(), list.len()));
         let [m, betas, f] = self.doubles.each_ref().map(|list| (list.pointer(), list.len()));
-        let (e, by, manner) = (&self.call.edges, self.call.by, usize::from(!self.call.each));
+        let (e, by, options) = (&self.call.edges, self.call.by, self.call.options);
         let r: Vec<(*mut f64, usize)> = results.iter_mut().map(|list| (list.pointer_mut(), list.len())).collect();
         let work = (work.pointer_mut(), work.len());
         unsafe {
             match self.call.entry {
                 Entry::Enumerated => sys::copperhook_exhaustive(
-                    e.n, e.floor, a.0, a.1, b.0, b.1, m.0, m.1, us.0, us.1, vs.0, vs.1, betas.0, betas.1, f.0, f.1, manner,
+                    e.n, e.floor, a.0, a.1, b.0, b.1, m.0, m.1, us.0, us.1, vs.0, vs.1, betas.0, betas.1, f.0, f.1, options,
                     r[0].0, r[0].1, r[1].0, r[1].1, work.0, work.1, count,
                 ),
                 Entry::Stored => sys::copperhook_exhaustive_c(
-                    e.n, e.floor, a.0, a.1, b.0, b.1, m.0, m.1, us.0, us.1, vs.0, vs.1, betas.0, betas.1, f.0, f.1, manner,
+                    e.n, e.floor, a.0, a.1, b.0, b.1, m.0, m.1, us.0, us.1, vs.0, vs.1, betas.0, betas.1, f.0, f.1, options,
                     r[0].0, r[0].1, work.0, work.1, count,
                 ),
                 Entry::Sampled => sys::copperhook_sample(
-                    e.n, e.floor, a.0, a.1, b.0, b.1, m.0, m.1, us.0, us.1, vs.0, vs.1, betas.0, betas.1, f.0, f.1, manner,
+                    e.n, e.floor, a.0, a.1, b.0, b.1, m.0, m.1, us.0, us.1, vs.0, vs.1, betas.0, betas.1, f.0, f.1, options,
                     by.seed, by.from, by.to, by.samples, r[0].0, r[0].1, r[1].0, r[1].1, work.0, work.1, count,
                 ),
             }

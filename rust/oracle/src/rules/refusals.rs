@@ -54,8 +54,16 @@ pub fn graph_refusal(edges: &Edges, pairs: &Pairs, betas: &[f64]) -> usize {
     }
 }
 
+/// The widest window and the most free edges of a call of the tester's.
+pub const TESTER: (usize, usize) = (12, 16);
+
 /// Checks 1 to 8 of a job.
 pub fn job_refusal(edges: &Edges, pairs: &Pairs, betas: &[f64]) -> usize {
+    call_refusal(edges, pairs, betas, false)
+}
+
+/// Checks 1 to 8 of a job, and right behind 6 the tester's limit of the window where the call is the tester's.
+pub fn call_refusal(edges: &Edges, pairs: &Pairs, betas: &[f64], tester: bool) -> usize {
     first(graph_refusal(edges, pairs, betas), || {
         let window = edges.window();
         let mut near = vec![0; edges.n];
@@ -65,6 +73,8 @@ pub fn job_refusal(edges: &Edges, pairs: &Pairs, betas: &[f64]) -> usize {
         let bad_pair = |&(u, v): &(usize, usize)| u == v || u >= edges.n || v >= edges.n;
         if window > 24 {
             6
+        } else if tester && window > TESTER.0 {
+            22
         } else if near.iter().any(|&count| count > 4) {
             7
         } else if pairs.raw().iter().any(bad_pair) {

@@ -2,7 +2,7 @@
 
 use super::configurations::{Drawn, Entry};
 use super::lists::{Edges, Pairs};
-use super::refusals::{factor_refusal, first, is_sound, job_refusal, sampling_refusal, unless};
+use super::refusals::{call_refusal, factor_refusal, first, is_sound, sampling_refusal, unless, TESTER};
 use super::sweeps::Model;
 
 /// What a call for totals takes, but for its result lists and its work memory. `each` rescales after every step.
@@ -15,17 +15,25 @@ pub struct Totals<'a> {
     pub factors: &'a [f64],
     pub each: bool,
     pub by: Drawn,
+    pub tester: bool,
 }
 
 impl Totals<'_> {
-    /// Checks 1 to 11.
+    /// Checks 1 to 11, and 22 where the call is the tester's.
     pub fn refusal(&self) -> usize {
-        first(job_refusal(self.edges, self.pairs, self.betas), || {
-            let factors = 2 * self.betas.len() * self.edges.kept().len();
-            first(unless(self.edges.free().len() <= self.entry.most_free(), 9), || {
-                first(factor_refusal(self.factors, factors), || if self.entry == Entry::Sampled { sampling_refusal(&self.by) } else { 0 })
-            })
-        })
+        first(call_refusal(self.edges, self.pairs, self.betas, self.tester), || first(self.free_refusal(), || self.lent_refusal()))
+    }
+
+    /// Check 9, and right behind it 22; a sampling has neither.
+    fn free_refusal(&self) -> usize {
+        let (free, limited) = (self.edges.free().len(), self.tester && self.entry != Entry::Sampled);
+        first(unless(free <= self.entry.most_free(), 9), || unless(!limited || free <= TESTER.1, 22))
+    }
+
+    /// Checks 10 and 11.
+    fn lent_refusal(&self) -> usize {
+        let factors = 2 * self.betas.len() * self.edges.kept().len();
+        first(factor_refusal(self.factors, factors), || if self.entry == Entry::Sampled { sampling_refusal(&self.by) } else { 0 })
     }
 
     /// Returns the configurations of a call that passed those checks, chunk by chunk.

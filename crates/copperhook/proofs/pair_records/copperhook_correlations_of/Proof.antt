@@ -51,7 +51,7 @@ use Rattle.c_pair_records.proofs.gather.Symbol as gather-def
 use Rattle.c_pair_records.proofs.gather.Symbol.{name as #c-pair-records·gather}
 use Rattle.c_pair_records.proofs.gather.Met as gather-thm
 use Rattle.entry_correlations.specs.Correlations.{Correlated}
-use Rattle.c_values.specs.Manners.{mannerNumbered}
+use Rattle.c_values.specs.Options.{optionsNumbered}
 use Rattle.c_correlations.proofs.correlations_between as between
 use Rattle.c_correlations.proofs.correlations_between.Symbol as between-def
 use Rattle.c_correlations.proofs.correlations_between.Symbol.{name as #c-correlations·between}
@@ -94,14 +94,14 @@ module _ {M : Type 1} (𝓤 : URA M) (H : Heap 𝓤) (A : Atoms 𝓤) (mem : Mem
 
 module _ {M : Type 1} (𝓤 : URA M) (H : Heap 𝓤) (A : Atoms 𝓤) (W : Given 𝓤 H A) (mem : Memory → SProp 𝓤) (run : Routine → Fun 𝓤)
     (κ₀ κ₁ κ₂ κ₃ κ₄ κ₅ κ₆ : Lft) (q₀ q₁ q₂ q₃ q₄ q₅ q₆ : Share)
-    (n floor manner : ℕ) (a b : RefT (List ℕ)) (m : RefT (List Float)) (pairs : RefT (List Pair)) (factors results work : RefT (List Float)) where
+    (n floor options : ℕ) (a b : RefT (List ℕ)) (m : RefT (List Float)) (pairs : RefT (List Pair)) (factors results work : RefT (List Float)) where
   abbrev bound : walkOf 𝓤 H A f.ended stayed (f.clauses 𝓤 H A mem run) .Ghost
   bound = (
     (
       (κ₀, (κ₁, (κ₂, (κ₃, (κ₄, (κ₅, (κ₆, tt))))))),
       (q₀, (q₁, (q₂, (q₃, (q₄, (q₅, (q₆, tt))))))),
       tt,
-      (n, (floor, (a, (b, (m, (pairs, (factors, (manner, (results, (work, tt)))))))))),
+      (n, (floor, (a, (b, (m, (pairs, (factors, (options, (results, (work, tt)))))))))),
       (
         vint w64 n ∷ [],
         (
@@ -110,7 +110,7 @@ module _ {M : Type 1} (𝓤 : URA M) (H : Heap 𝓤) (A : Atoms 𝓤) (W : Given
             slice-vals a,
             (
               slice-vals b,
-              (slice-vals m, (slice-vals pairs, (slice-vals factors, (vint w64 manner ∷ [], (slice-vals results, (slice-vals work, tt)))))),
+              (slice-vals m, (slice-vals pairs, (slice-vals factors, (vint w64 options ∷ [], (slice-vals results, (slice-vals work, tt)))))),
             ),
           ),
         ),
@@ -160,7 +160,7 @@ module _ {M : Type 1} (𝓤 : URA M) (H : Heap 𝓤) (A : Atoms 𝓤) (W : Given
       (RefT (List Float) × (RefT (List Float) × (ℕ × (RefT (List Float) × (RefT (List Float) × Unit {0}))))))))
 
   abbrev passed : Passed
-  passed = (n, (floor, (a, (b, (m, (factors, (manner, (results, (work, tt)))))))))
+  passed = (n, (floor, (a, (b, (m, (factors, (options, (results, (work, tt)))))))))
 
   abbrev Valued : Type 0
   Valued = List Val × (List Val × (List Val × (List Val × (List Val × (List Val × (List Val × (List Val × (List Val × Unit {0}))))))))
@@ -174,7 +174,7 @@ module _ {M : Type 1} (𝓤 : URA M) (H : Heap 𝓤) (A : Atoms 𝓤) (W : Given
         slice-vals a,
         (
           slice-vals b,
-          (slice-vals m, (slice-vals factors, (vint w64 manner ∷ [], (slice-vals results, (slice-vals work, tt))))),
+          (slice-vals m, (slice-vals factors, (vint w64 options ∷ [], (slice-vals results, (slice-vals work, tt))))),
         ),
       ),
     ),
@@ -211,7 +211,7 @@ module _ {M : Type 1} (𝓤 : URA M) (H : Heap 𝓤) (A : Atoms 𝓤) (W : Given
       frame ! $ move ! (1 ∷ 0 ∷ []) $ frame ! $ done !
 
   abbrev Answered : ℕ → List ℕ → List ℕ → List Float → List Float → Type 0
-  Answered r us vs results′ work′ = Correlated n floor (now a) (now b) (now m) us vs (now factors) (mannerNumbered manner) r (now results) results′
+  Answered r us vs results′ work′ = Correlated n floor (now a) (now b) (now m) us vs (now factors) (optionsNumbered options .manner) (optionsNumbered options .caller) r (now results) results′
       (now work) work′
 
   abbrev Whole : ℕ → List Float → List Float → Type 0
@@ -238,13 +238,13 @@ module _ {M : Type 1} (𝓤 : URA M) (H : Heap 𝓤) (A : Atoms 𝓤) (W : Given
 
   module _ (C : Calls 𝓤 H) (Λ : Loops 𝓤 H) (fm : FmC 𝓤 H (W .laws) C) (known-gather : Triple 𝓤 (C #c-pair-records·gather) (Gather 𝓤 H A mem run))
       (known-between : Triple 𝓤 (C #c-correlations·between) (Between 𝓤 H A mem run))
-      (gn : n < 2 ^ 64) (gf : floor < 2 ^ 64) (gm : manner < 2 ^ 64) (ra : Room usize (length (now a))) (rb : Room usize (length (now b)))
+      (gn : n < 2 ^ 64) (gf : floor < 2 ^ 64) (gm : options < 2 ^ 64) (ra : Room usize (length (now a))) (rb : Room usize (length (now b)))
       (rm : Room f64 (length (now m))) (rp : Room P.the-row (length (now pairs)))
       (rf : Room f64 (length (now factors))) (rr : Room f64 (length (now results))) (rw′ : Room f64 (length (now work))) where
     abbrev args : List Val
     args = vint w64 n ∷ vint w64 floor ∷ sliceVal (a .ptr) (length (now a)) ∷ sliceVal (b .ptr) (length (now b)) ∷ sliceVal (m .ptr) (length (now m))
         ∷ sliceVal (pairs .ptr) (length (now pairs))
-        ∷ sliceVal (factors .ptr) (length (now factors)) ∷ vint w64 manner ∷ sliceVal (results .ptr) (length (now results))
+        ∷ sliceVal (factors .ptr) (length (now factors)) ∷ vint w64 options ∷ sliceVal (results .ptr) (length (now results))
         ∷ sliceVal (work .ptr) (length (now work)) ∷ []
 
     walk : ent 𝓤 (onEntry 𝓤 H A f.signature (bound .0 .0) (bound .0 .1) (bound .0 .3) (bound .0 .4)) (WpFn 𝓤 H C Λ code.function args Post)
@@ -315,7 +315,7 @@ module _ {M : Type 1} (𝓤 : URA M) (H : Heap 𝓤) (A : Atoms 𝓤) (W : Given
         move ! (12 ∷ 13 ∷ []) $ free1 ! $ move ! (10 ∷ 11 ∷ []) $ free1 ! $ move ! (8 ∷ 9 ∷ []) $ free1 ! $ move ! (6 ∷ 7 ∷ []) $ free1 ! $ free0 ! $
         keep ! (0 ∷ 1 ∷ 2 ∷ 4 ∷ 5 ∷ []) $
         by ! (exits r w (zs .1 .1 .1 .1 .1 .1 .1 .1 .0) (zs .1 .1 .1 .1 .1 .1 .1 .1 .1 .0)
-        (answered n floor (now a) (now b) (now m) (now factors) (mannerNumbered manner) r (now results) _ (now work) _
+        (answered n floor (now a) (now b) (now m) (now factors) (optionsNumbered options .manner) (optionsNumbered options .caller) r (now results) _ (now work) _
         (now pairs) e g d) lr lw))))))))))))))))))))))))))))
 
 module _ {M : Type 1} (𝓤 : URA M) (H : Heap 𝓤) (A : Atoms 𝓤) (W : Given 𝓤 H A) (mem : Memory → SProp 𝓤) (run : Routine → Fun 𝓤) (𝓣 : Tables 𝓤 H)

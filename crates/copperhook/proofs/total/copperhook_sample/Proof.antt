@@ -1,11 +1,11 @@
--- The manner that the number names, and what the answer that was told says.
+-- The options that the number names, and what the answer that was told says.
 use Rattle.copperhook.proofs.Told.{sampled-told}
 use borrow.Author.Needs.{needs}
 use Rattle.copperhook.proofs.total.copperhook_sample.Statement.{statement}
 use Rattle.copperhook.proofs.total.copperhook_sample.Tie as tie
 
 returns : tie.Need-returns
-returns c = sampled-told (c .before .before .before .before .before .before .before .before .before .before .before .before .manner-numbered .ensures) (c .before .before .before .before .before .before .before .before .sample .ensures) (c .tell-number .ensures)
+returns c = sampled-told (c .before .before .before .before .before .before .before .before .before .before .before .before .options-numbered .ensures) (c .before .before .before .before .before .before .before .before .sample .ensures) (c .tell-number .ensures)
 
 pub copperhook-sample-spec : {M : Type 1} → statement M
 copperhook-sample-spec =

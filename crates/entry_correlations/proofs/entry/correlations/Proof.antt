@@ -8,7 +8,7 @@ use Rattle.entry_correlations.proofs.entry.correlations.Statement.{stat
 use Rattle.entry_correlations.proofs.entry.correlations.Tie as tie
 
 returns : tie.Need-returns
-returns c = refused-early _ _ _ _ _ _ _ _ _ _ _ _ (c .before .before .before .before .check-job .ensures .refusal) (λ z. omega arith)
+returns c = refused-early _ _ _ _ _ _ _ _ _ _ _ _ _ (c .before .before .before .before .check-job .ensures .refusal) (λ z. omega arith)
 
 check-lists-requires : tie.Need-check-lists-requires
 check-lists-requires c κs =
@@ -21,7 +21,7 @@ returns-2 c =
     let j = c .before .before .before .before .before .before .check-job in
     let a = c .before .before .before .before .before .before .before .before .before .before .before .before .before .before .before .before .before .before .args in
     let g = j .ensures .ready (omega arith) in
-    refused-lists _ _ _ _ _ _ _ _ _ _ _ _ (omega (arith, j .ensures .refusal))
+    refused-lists _ _ _ _ _ _ _ _ _ _ _ _ _ (omega (arith, j .ensures .refusal))
     (c .before .check-lists .ensures ∙ lists-of g (a .factors .now) (length (a .results .now)) (length (a .work .now))) (λ z. omega arith)
 
 array-share-prefix-early : tie.Need-array-share-prefix-early
@@ -48,7 +48,7 @@ returns-3 c =
     let z = sym (c .before .before .before .before .before .before .before .before .before .before .before .before .check-lists .ensures) ∙ none in
     let l = sym z ∙ lists-of g (a .factors .now) (length (a .results .now)) (length (a .work .now)) in
     let f = finished-of g (a .factors .now) (a .manner) (c .before .before .before .before .before .before .before .before .before .before .is-elementwise .result) _ _ _ _ (c .before .before .before .before .before .before .before .before .before .before .is-elementwise .ensures) (c .before .before .before .before .before .answer-job .ensures) in
-    accepted _ _ _ _ _ _ _ _ _ (a .results .now) _ (omega (arith, j .ensures .refusal)) l _ _ (passed-of g (a .factors .now) (length (a .results .now)) (length (a .work .now)) z .fitting) (rw (c .if3 .taken) at f)
+    accepted _ _ _ _ _ _ _ _ _ _ (a .results .now) _ (omega (arith, j .ensures .refusal)) l _ _ (passed-of g (a .factors .now) (length (a .results .now)) (length (a .work .now)) z .fitting) (rw (c .if3 .taken) at f)
 
 returns-4 : tie.Need-returns-4
 returns-4 c =
@@ -59,7 +59,7 @@ returns-4 c =
     let z = sym (c .before .before .before .before .before .before .before .before .before .before .before .before .check-lists .ensures) ∙ none in
     let l = sym z ∙ lists-of g (a .factors .now) (length (a .results .now)) (length (a .work .now)) in
     let f = finished-of g (a .factors .now) (a .manner) (c .before .before .before .before .before .before .before .before .before .before .is-elementwise .result) _ _ _ _ (c .before .before .before .before .before .before .before .before .before .before .is-elementwise .ensures) (c .before .before .before .before .before .answer-job .ensures) in
-    refused-14 _ _ _ _ _ _ _ _ _ (a .results .now) _ (omega (arith, j .ensures .refusal)) l _ _ (passed-of g (a .factors .now) (length (a .results .now)) (length (a .work .now)) z .fitting) (rw (c .if3 .left) at f)
+    refused-14 _ _ _ _ _ _ _ _ _ _ (a .results .now) _ (omega (arith, j .ensures .refusal)) l _ _ (passed-of g (a .factors .now) (length (a .results .now)) (length (a .work .now)) z .fitting) (rw (c .if3 .left) at f)
 
 pub correlations-spec : {M : Type 1} → statement M
 correlations-spec =

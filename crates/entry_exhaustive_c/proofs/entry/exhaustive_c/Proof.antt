@@ -31,6 +31,7 @@ given s = let a = s .args in record {
   betas = a .betas .now;
   factors = a .factors .now;
   manner = a .manner;
+  caller = a .caller;
 }
 
 -- the free edges of the kept edges were counted
@@ -49,7 +50,7 @@ listed c =
     let a = c .before .before .before .before .before .before .before .before .before .before .before .before .before .before .before .before .before .before .before .before .before .before .before .before .args in
     let g = given (c .before .before .before .before .before .before .before .before .before .before .before .before .before .before .before .before .before .before .before .before .before .before .before .before) in
     let is = counted (c .before .before .before) in
-    stored-lists (c .before .before .before .before .before .before .before .before .before .before .before .check-with-betas .ensures .ready (c .before .before .before .before .before .before .before .if1 .left)) (length (a .betas .now)) (a .factors .now) _ _ _ (storedCount (early g) (late g) (a .us .now) (length (a .betas .now))) (length (a .stored .now)) (length (a .work .now)) _ is
+    stored-lists (c .before .before .before .before .before .before .before .before .before .before .before .check-with-betas .ensures .ready (c .before .before .before .before .before .before .before .if1 .left)) (a .caller) (length (a .betas .now)) (a .factors .now) _ _ _ (storedCount (early g) (late g) (a .us .now) (length (a .betas .now))) (length (a .stored .now)) (length (a .work .now)) _ is
     (λ l. c .before .stored-count .ensures l ∙ ap (λ (i : ℕ). sums g * 2 ^ i) is) (c .check-enumeration .ensures)
 
 -- and none refused
@@ -57,14 +58,14 @@ passed : (c : tie.Else2)
     → let a = c .before .before .before .before .before .before .before .before .before .before .before .before .before .before .before .before .before .before .before .before .before .before .before .before .before .args in
     let k = c .before .before .before .before .before .before .before .before .before .before .before .before .check-with-betas in
     let wanted = c .before .before .stored-count .result in
-    Passed (a .n) (k .result .window) (take (k .result .edges) (k .last .1 .1 .1 .1 .1 .1 .1 .1 .0)) (take (k .result .edges) (k .last .1 .1 .1 .1 .1 .1 .1 .1 .1 .0)) (a .us .now) (a .vs .now) (length (a .factors .now)) (length (a .betas .now)) (length (a .work .now))
+    Passed (a .n) (k .result .window) (take (k .result .edges) (k .last .1 .1 .1 .1 .1 .1 .1 .1 .1 .0)) (take (k .result .edges) (k .last .1 .1 .1 .1 .1 .1 .1 .1 .1 .1 .0)) (a .us .now) (a .vs .now) (length (a .factors .now)) (length (a .betas .now)) (length (a .work .now))
     × (misfits wanted (length (a .stored .now)) (length (a .stored .now)) ≡ false) × (c .before .before .before .before .number-free-edges .result ≤ 24)
 passed c =
     let a = c .before .before .before .before .before .before .before .before .before .before .before .before .before .before .before .before .before .before .before .before .before .before .before .before .before .args in
     let k = c .before .before .before .before .before .before .before .before .before .before .before .before .check-with-betas .ensures in
     let v = c .before .before .before .before .before .before .before .before .if1 .left in
     let wanted = c .before .before .stored-count .result in
-    all-passed (k .ready v) (length (a .betas .now)) (a .factors .now) _ mostStored (misfits wanted (length (a .stored .now)) (length (a .stored .now))) (length (a .work .now)) _ (k .betas-pass v .few) (c .before .check-enumeration .ensures) (c .if2 .left)
+    all-passed (k .ready v) (a .caller) (length (a .betas .now)) (a .factors .now) _ mostStored (misfits wanted (length (a .stored .now)) (length (a .stored .now))) (length (a .work .now)) _ (k .betas-pass v .few) (c .before .check-enumeration .ensures) (c .if2 .left)
 
 fitting : (c : tie.Else2) → length (c .before .before .before .before .before .before .before .before .before .before .before .before .before .before .before .before .before .before .before .before .before .before .before .before .before .args .stored .now) ≡ sums (given (c .before .before .before .before .before .before .before .before .before .before .before .before .before .before .before .before .before .before .before .before .before .before .before .before .before)) * 2 ^ c .before .before .before .before .number-free-edges .result
 fitting c =

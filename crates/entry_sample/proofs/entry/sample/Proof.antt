@@ -31,6 +31,7 @@ given s = let a = s .args in record {
   betas = a .betas .now;
   factors = a .factors .now;
   manner = a .manner;
+  caller = a .caller;
 }
 
 abbrev misfit : tie.Start → Bool
@@ -53,7 +54,7 @@ listed c =
 passed : (c : tie.Else2)
     → let a = c .before .before .before .before .before .before .before .before .before .before .before .before .before .before .before .before .before .before .before .before .args in
     let k = c .before .before .before .before .before .before .check-with-betas in
-    Passed (a .n) (k .result .window) (take (k .result .edges) (k .last .1 .1 .1 .1 .1 .1 .1 .1 .0)) (take (k .result .edges) (k .last .1 .1 .1 .1 .1 .1 .1 .1 .1 .0)) (a .us .now) (a .vs .now) (length (a .factors .now)) (length (a .betas .now)) (length (a .work .now))
+    Passed (a .n) (k .result .window) (take (k .result .edges) (k .last .1 .1 .1 .1 .1 .1 .1 .1 .1 .0)) (take (k .result .edges) (k .last .1 .1 .1 .1 .1 .1 .1 .1 .1 .1 .0)) (a .us .now) (a .vs .now) (length (a .factors .now)) (length (a .betas .now)) (length (a .work .now))
     × (misfit (c .before .before .before .before .before .before .before .before .before .before .before .before .before .before .before .before .before .before .before .before) ≡ false) × ((a .to - a .from) * a .samples ≤ 4294967296)
 passed c =
     let a = c .before .before .before .before .before .before .before .before .before .before .before .before .before .before .before .before .before .before .before .before .args in

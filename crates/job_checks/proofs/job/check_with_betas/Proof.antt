@@ -7,7 +7,7 @@ use Rattle.job_checks.proofs.job.check_with_betas.Statement.{statement}
 use Rattle.job_checks.proofs.job.check_with_betas.Tie as tie
 
 returns : tie.Need-returns
-returns c = job-refused _ _ _ _ _ _ _ _ (c .before .before .before .before .before .before .before .before .check-graph .ensures) (c .refused .ensures) (c .before .if1 .taken)
+returns c = job-refused _ _ _ _ _ _ _ _ _ (c .before .before .before .before .before .before .before .before .check-graph .ensures) (c .refused .ensures) (c .before .if1 .taken)
 
 check-kept-requires : tie.Need-check-kept-requires
 check-kept-requires c κs =
@@ -18,7 +18,7 @@ check-kept-requires c κs =
 returns-2 : tie.Need-returns-2
 returns-2 c =
     let accepted = c .before .before .before in
-    graph-accepted _ _ _ _ _ _ _ _ (accepted .before .before .before .before .before .before .before .check-graph .ensures) (accepted .if1 .left) (c .check-kept .ensures)
+    graph-accepted _ _ _ _ _ _ _ _ _ (accepted .before .before .before .before .before .before .before .check-graph .ensures) (accepted .if1 .left) (c .check-kept .ensures)
 
 pub check-with-betas-spec : {M : Type 1} → statement M
 check-with-betas-spec =

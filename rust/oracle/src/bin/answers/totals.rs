@@ -49,7 +49,7 @@ impl Call {
     fn by_rules<T>(&self, of: impl FnOnce(Totals) -> T) -> T {
         let Call { entry, job, betas, drawn, .. } = self;
         let (edges, pairs) = (&job.edges(), &job.pairs());
-        of(Totals { entry: *entry, edges, pairs, betas, factors: &job.factors, each: job.each, by: *drawn })
+        of(Totals { entry: *entry, edges, pairs, betas, factors: &job.factors, each: job.each, by: *drawn, tester: false })
     }
 
     /// Checks 1 to 13.

@@ -1,0 +1,39 @@
+// The options of a call, which over C are one number: a sum of bits.
+ghost use mathlib.Core.Path.{_≡_};
+ghost use Rattle.c_values.specs.Options.{mannerIn, callerIn, optionsNumbered};
+use entry_correlations::Manner;
+use limits::Caller;
+
+// How often a sweep is rescaled, and who calls.
+pub struct Options {
+    pub manner: Manner,
+    pub caller: Caller,
+}
+
+fn manner_in(number: usize) -> Manner
+    ensures { λ r. ⌜ r ≡ mannerIn number ⌝ }
+{
+    if number % 2 == 1 {
+        return Manner::Block;
+    }
+    Manner::PerElement
+}
+
+fn caller_in(number: usize) -> Caller
+    ensures { λ r. ⌜ r ≡ callerIn number ⌝ }
+{
+    if number / 4 % 2 == 1 {
+        return Caller::Tester;
+    }
+    Caller::Desk
+}
+
+// 1 is block and 4 the tester; other bits are not read, so that no number is a bad one.
+pub fn options_numbered(number: usize) -> Options
+    ensures { λ r. ⌜ r ≡ optionsNumbered number ⌝ }
+{
+    Options {
+        manner: manner_in(number),
+        caller: caller_in(number),
+    }
+}

@@ -1,0 +1,178 @@
+-- The tester's calls: one that 22 does not refuse answers and leaves what the desk's call on the same lists does, so an accepted one too; the desk's is
+-- never refused by 22; and an accepted one is within the tester's limits.
+use mathlib.Core.Path.{_≡_, refl, sym, ap, _∙_}
+use mathlib.Core.Bool.{not}
+use mathlib.Core.List.{List, _∷_, _++_}
+use Prim.Native.Nat.{ℕ, zero, suc, _*_, _≤_}
+use native.Mathlib.Omega.{arith}
+use lib.Dec.{eqb}
+use lib.Ieee.{Float}
+use lib.ListN.{length}
+use borrow.Author.Tests.{ltb-false}
+use Rattle.limits.specs.declared.Caller.{Caller}
+use Rattle.limits.specs.declared.Caller.the-variants.{Desk, Tester}
+use Rattle.limits.specs.Limits.{testerWindow, testerFree}
+use Rattle.refusals.specs.Answers.{answered}
+use Rattle.refusals.specs.declared.Answer.{Answer}
+use Rattle.refusals.specs.declared.Answer.the-variants.{Number, Refused}
+use Rattle.refusals.specs.Edges.{windowFrom}
+use Rattle.refusals.specs.Key.{Key}
+use Rattle.refusals.specs.Laws.First.{passed-at}
+use Rattle.refusals.specs.Laws.Tester.{atDesk, as-at-desk, desk-not-22}
+use Rattle.refusals.specs.Refusal.{refusal, ofRoom, ofLists, ofSamplingLists, ofSweeps, ofCorrelations, ofEnumeration, ofSampling}
+use Rattle.refusals.specs.Request.{Request, correlationRequest, enumerationRequest, samplingRequest, mostCounted, mostStored}
+use Rattle.refusals.specs.AcceptedTotals.{misfits}
+use Rattle.pair_correlations.specs.Sound.{unsound}
+use Rattle.entry_correlations.specs.Correlations.{jobGiven, settled, cleared, Correlated}
+use Rattle.entry_correlations.specs.declared.Manner.{Manner}
+use Rattle.totals_call.specs.Given.{Given}
+use Rattle.totals_call.specs.Calls.{Totalled, Stored, Enumerated, EnumeratedEach, Sampled, misfitStored, unsoundAll, unsoundDrawn}
+use Rattle.demands.specs.Configurations.{free, accepted-number}
+
+-- ---- at the desk each list of checks is the one without 22
+
+pub desk-checks : (r : Request) → (refusal ofCorrelations (atDesk r) ≡ refusal (ofRoom ++ (ofLists ++ ofSweeps)) (atDesk r))
+    × (refusal ofEnumeration (atDesk r) ≡ refusal (ofRoom ++ (Key.freeEdges ∷ (ofLists ++ ofSweeps))) (atDesk r))
+    × (refusal ofSampling (atDesk r) ≡ refusal (ofRoom ++ (ofSamplingLists ++ ofSweeps)) (atDesk r))
+desk-checks r = (refl, refl, refl)
+
+-- ---- answers by a refusal's number
+
+abbrev held : Answer → ℕ
+held (Number k) = k
+held (Refused k) = k
+
+number-told : (k x j : ℕ) → answered k x ≡ Refused (suc j) → k ≡ suc j
+number-told zero x j e = let z : _≡_ {A = ℕ} 0 1 = ap kind e in absurd (omega arith)
+  where
+    kind : Answer → ℕ
+    kind (Number k) = 0
+    kind (Refused k) = 1
+number-told (suc k) x j e = ap held e
+
+-- ---- `correlations`
+
+module _ (n floor : ℕ) (a b : List ℕ) (m : List Float) (us vs : List ℕ) (factors : List Float) (manner : Manner) (results work : List Float) where
+  abbrev request : Caller → Request
+  request caller =
+      correlationRequest caller n floor a b m us vs factors (length results) (length work) (unsound (jobGiven n floor a b m factors manner) us vs)
+
+  -- The answer and the lists are the desk's,
+  pub results-at-desk : {r s : ℕ} {results′ results″ work′ work″ : List Float}
+      → Correlated n floor a b m us vs factors manner Tester r results results′ work work′ → (r ≡ 22 → ⊥)
+      → Correlated n floor a b m us vs factors manner Desk s results results″ work work″ → (r ≡ s) × (results′ ≡ results″) × (work′ ≡ work″)
+  results-at-desk {r} {s} t h d =
+      let e : r ≡ s = t .answer ∙ as-at-desk ofCorrelations (request Tester) (λ p. h (t .answer ∙ p)) ∙ sym (d .answer) in
+      (e, t .answers ∙ rw e (sym (d .answers)), t .memory ∙ rw e (sym (d .memory)))
+
+  -- which is never refused by 22;
+  pub results-desk-not-22 : {r : ℕ} {results′ work′ : List Float} → Correlated n floor a b m us vs factors manner Desk r results results′ work work′ → r ≡ 22 → ⊥
+  results-desk-not-22 d p = desk-not-22 ofCorrelations (request Desk) (sym (d .answer) ∙ p)
+
+  -- and the window of an accepted call is within the limit.
+  pub results-tester-window : {results′ work′ : List Float} → Correlated n floor a b m us vs factors manner Tester 0 results results′ work work′
+      → windowFrom floor a b m ≤ testerWindow
+  results-tester-window t = ltb-false testerWindow (windowFrom floor a b m) (passed-at ofCorrelations (request Tester) (sym (t .answer)) Key.testerWindow refl)
+
+-- ---- totals, by the refusals of two calls that are given the same but for the caller
+
+module _ {k j count : ℕ} {squared fourthed : List Float} {end : ℕ} {r s : Answer} {squares squares′ squares″ fourths fourths′ fourths″ work work′ work″ : List Float} where
+  same-totals : ((k ≡ 22 → ⊥) → k ≡ j) → Totalled k count squared fourthed end r squares squares′ fourths fourths′ work work′ → (r ≡ Refused 22 → ⊥)
+      → Totalled j count squared fourthed end s squares squares″ fourths fourths″ work work″
+      → (r ≡ s) × (squares′ ≡ squares″) × (fourths′ ≡ fourths″) × (work′ ≡ work″)
+  same-totals desk t h d =
+      let e : k ≡ j = desk (λ p. h (t .answer ∙ ap (λ (i : ℕ). answered i count) p)) in (
+        t .answer ∙ rw e (sym (d .answer)),
+        t .squares-are ∙ rw e (sym (d .squares-are)),
+        t .fourths-are ∙ rw e (sym (d .fourths-are)),
+        t .memory ∙ rw e (sym (d .memory)),
+      )
+
+module _ {k j count : ℕ} {correlations : List Float} {end : ℕ} {r s : Answer} {stored stored′ stored″ work work′ work″ : List Float} where
+  same-stored : ((k ≡ 22 → ⊥) → k ≡ j) → Stored k count correlations end r stored stored′ work work′ → (r ≡ Refused 22 → ⊥)
+      → Stored j count correlations end s stored stored″ work work″ → (r ≡ s) × (stored′ ≡ stored″) × (work′ ≡ work″)
+  same-stored desk t h d =
+      let e : k ≡ j = desk (λ p. h (t .answer ∙ ap (λ (i : ℕ). answered i count) p)) in
+      (t .answer ∙ rw e (sym (d .answer)), t .stored-are ∙ rw e (sym (d .stored-are)), t .memory ∙ rw e (sym (d .memory)))
+
+module _ (n floor : ℕ) (a b : List ℕ) (m : List Float) (us vs : List ℕ) (betas factors : List Float) (manner : Manner) where
+  abbrev given : Given
+  given = record { n = n; floor = floor; a = a; b = b; m = m; us = us; vs = vs; betas = betas; factors = factors; manner = manner; caller = Desk }
+
+  -- ---- `exhaustive`
+
+  module _ (squares fourths work : List Float) where
+    abbrev counting : Caller → Request
+    counting caller =
+        enumerationRequest caller n floor a b m us vs betas factors (free a b m) mostCounted
+        (misfits (length betas * length us) (length squares) (length fourths)) (length work) (unsoundAll given)
+
+    pub totals-at-desk : {r s : Answer} {squares′ squares″ fourths′ fourths″ work′ work″ : List Float}
+        → Enumerated n floor a b m us vs betas factors manner Tester r squares squares′ fourths fourths′ work work′ → (r ≡ Refused 22 → ⊥)
+        → Enumerated n floor a b m us vs betas factors manner Desk s squares squares″ fourths fourths″ work work″
+        → (r ≡ s) × (squares′ ≡ squares″) × (fourths′ ≡ fourths″) × (work′ ≡ work″)
+    totals-at-desk t h d = same-totals (as-at-desk ofEnumeration (counting Tester)) (t .call) h (d .call)
+
+    pub totals-desk-not-22 : {r : Answer} {squares′ fourths′ work′ : List Float}
+        → Enumerated n floor a b m us vs betas factors manner Desk r squares squares′ fourths fourths′ work work′ → r ≡ Refused 22 → ⊥
+    totals-desk-not-22 d p = desk-not-22 ofEnumeration (counting Desk) (number-told _ _ 21 (sym (d .call .answer) ∙ p))
+
+    pub totals-tester-limits : {count : ℕ} {squares′ fourths′ work′ : List Float}
+        → Enumerated n floor a b m us vs betas factors manner Tester (Number count) squares squares′ fourths fourths′ work work′
+        → (windowFrom floor a b m ≤ testerWindow) × (free a b m ≤ testerFree)
+    totals-tester-limits t =
+        let z = accepted-number _ _ _ (t .call .answer) .0 in (
+          ltb-false testerWindow (windowFrom floor a b m) (passed-at ofEnumeration (counting Tester) z Key.testerWindow refl),
+          ltb-false testerFree (free a b m) (passed-at ofEnumeration (counting Tester) z Key.testerFree refl),
+        )
+
+  -- ---- `exhaustive_c`
+
+  module _ (stored work : List Float) where
+    abbrev storing : Caller → Request
+    storing caller =
+        enumerationRequest caller n floor a b m us vs betas factors (free a b m) mostStored (misfitStored given (length stored)) (length work)
+        (unsoundAll given)
+
+    pub stored-at-desk : {r s : Answer} {stored′ stored″ work′ work″ : List Float}
+        → EnumeratedEach n floor a b m us vs betas factors manner Tester r stored stored′ work work′ → (r ≡ Refused 22 → ⊥)
+        → EnumeratedEach n floor a b m us vs betas factors manner Desk s stored stored″ work work″ → (r ≡ s) × (stored′ ≡ stored″) × (work′ ≡ work″)
+    stored-at-desk t h d = same-stored (as-at-desk ofEnumeration (storing Tester)) (t .call) h (d .call)
+
+    pub stored-desk-not-22 : {r : Answer} {stored′ work′ : List Float}
+        → EnumeratedEach n floor a b m us vs betas factors manner Desk r stored stored′ work work′ → r ≡ Refused 22 → ⊥
+    stored-desk-not-22 d p = desk-not-22 ofEnumeration (storing Desk) (number-told _ _ 21 (sym (d .call .answer) ∙ p))
+
+    pub stored-tester-limits : {count : ℕ} {stored′ work′ : List Float}
+        → EnumeratedEach n floor a b m us vs betas factors manner Tester (Number count) stored stored′ work work′
+        → (windowFrom floor a b m ≤ testerWindow) × (free a b m ≤ testerFree)
+    stored-tester-limits t =
+        let z = accepted-number _ _ _ (t .call .answer) .0 in (
+          ltb-false testerWindow (windowFrom floor a b m) (passed-at ofEnumeration (storing Tester) z Key.testerWindow refl),
+          ltb-false testerFree (free a b m) (passed-at ofEnumeration (storing Tester) z Key.testerFree refl),
+        )
+
+  -- ---- `sample`
+
+  module _ (seed from to samples : ℕ) (squares fourths work : List Float) where
+    abbrev drawing : Caller → Request
+    drawing caller =
+        samplingRequest caller n floor a b m us vs betas factors (free a b m) from to samples
+        (misfits (length betas * length us) (length squares) (length fourths)) (length work) (unsoundDrawn given seed from to samples)
+
+    pub samples-at-desk : {r s : Answer} {squares′ squares″ fourths′ fourths″ work′ work″ : List Float}
+        → Sampled n floor a b m us vs betas factors manner Tester seed from to samples r squares squares′ fourths fourths′ work work′ → (r ≡ Refused 22 → ⊥)
+        → Sampled n floor a b m us vs betas factors manner Desk seed from to samples s squares squares″ fourths fourths″ work work″
+        → (r ≡ s) × (squares′ ≡ squares″) × (fourths′ ≡ fourths″) × (work′ ≡ work″)
+    samples-at-desk t h d = same-totals (as-at-desk ofSampling (drawing Tester)) (t .call) h (d .call)
+
+    pub samples-desk-not-22 : {r : Answer} {squares′ fourths′ work′ : List Float}
+        → Sampled n floor a b m us vs betas factors manner Desk seed from to samples r squares squares′ fourths fourths′ work work′ → r ≡ Refused 22 → ⊥
+    samples-desk-not-22 d p = desk-not-22 ofSampling (drawing Desk) (number-told _ _ 21 (sym (d .call .answer) ∙ p))
+
+    pub samples-tester-window : {count : ℕ} {squares′ fourths′ work′ : List Float}
+        → Sampled n floor a b m us vs betas factors manner Tester seed from to samples (Number count) squares squares′ fourths fourths′ work work′
+        → windowFrom floor a b m ≤ testerWindow
+    samples-tester-window t =
+        ltb-false testerWindow (windowFrom floor a b m)
+        (passed-at ofSampling (drawing Tester) (accepted-number _ _ _ (t .call .answer) .0) Key.testerWindow refl)
