@@ -56,7 +56,7 @@ step-full : (J : Job Float) (i : ℕ) → length (S.afterSteps ieee J (suc i) .0
 unfolding S.afterSteps S.sweepBackward S.backwardStep
 step-full J i = tabulate-length _ (2 ^ J .window)
 
-backward-is : (J : Job Float) (t : ℕ) → S.backward ieee J t ≡ S.afterSteps ieee J (J .last - t) .0
+pub backward-is : (J : Job Float) (t : ℕ) → S.backward ieee J t ≡ S.afterSteps ieee J (J .last - t) .0
 unfolding S.backward
 backward-is J t = refl
 
@@ -205,6 +205,20 @@ module _ {plan : List ℕ} (e : List Float) {r : List Float} {n w scales : ℕ} 
       (λ s. absurd (omega (arith, s .last)))
       (λ s. let h = from .from early in rw (s .same) (record { vectors = λ u a. given (omega arith) .vectors u (omega arith) }))
       begun
+
+-- one sweep after another
+pub invariant-then : {plan : List ℕ} {r₀ r r₂ : List Float} {n w scales : ℕ} {elementwise : Bool} {Given : Job Float → Type 0} {t src : ℕ} {most : Float}
+    {u dst : ℕ} {most′ : Float} → BackwardInvariant plan r₀ r n w scales elementwise Given t src most
+    → BackwardInvariant plan r r₂ n w scales elementwise (λ J. NewestBackward J plan r n w t src most) u dst most′
+    → BackwardInvariant plan r₀ r₂ n w scales elementwise Given u dst most′
+invariant-then {plan} {r₀} {r} {r₂} {n} {w} {scales} g h =
+    record {
+      below = h .below;
+      ready = h .ready;
+      since = since-then (g .since) (h .since);
+      free = h .free;
+      newest = λ J of given. h .newest J (rw (tail-factors r₀ r scales n (g .since .tail)) of) (g .newest J of given);
+    }
 
 -- ---- an iteration
 
