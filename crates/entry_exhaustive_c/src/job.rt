@@ -56,6 +56,7 @@ pub(crate) fn store_job(
         w,
         scales: layout.scales,
         elementwise,
+        less: false,
         betas,
     };
     let end = layout.room;

@@ -156,7 +156,7 @@ module _ (plan : List ℕ) (r₀ : List Float) (n w scales u v : ℕ) (current :
         });
         known = λ J elementwise passed known. rw eh (record { reached = λ _. g .reached J elementwise passed known });
         source-of = λ J elementwise passed known. rw es (record {
-          z-of = λ t h. rw (d .forward, d .backward) at (h .z-is) 
+          z-of = λ t h. rw (d .forward, d .backward) at (h .z-is)
               ∙ z-at J r w _ _ u v (halves-now J elementwise passed) (ready .wide);
           n-of = λ t h. rw (d .backward) at (h .n-is)
               ∙ propagated-sum J w u v (passed .of .window) _ _ (ready .wide)

@@ -94,17 +94,7 @@ pub fn sweep_answering(
     };
     while left > 0 {
         let v = last_vertex(us, vs, order, left);
-        newest = sweep_down(
-            room,
-            plan,
-            n,
-            w,
-            scales,
-            elementwise,
-            t,
-            newest,
-            v,
-        );
+        newest = sweep_down(room, plan, n, w, scales, elementwise, t, newest, v);
         let from = first_of(us, vs, order, left, v);
         let at = VertexPlaces {
             vertex: v,

@@ -56,7 +56,14 @@ pub fn kept_from(plan: &[usize], n: usize, c: usize) -> usize
 }
 
 // The vector of vertex t at place src: written at the last vertex, kept already elsewhere. Returns the largest entry that was stored with it.
-pub fn begin_at(room: &mut [f64], n: usize, w: usize, elementwise: bool, t: usize, src: usize) -> f64
+pub fn begin_at(
+    room: &mut [f64],
+    n: usize,
+    w: usize,
+    elementwise: bool,
+    t: usize,
+    src: usize,
+) -> f64
     requires { ⌜ Place (length (now room)) w src × (t < n) ⌝ }
     ensures { λ r. ⌜ Begun (now (room .entry)) (now (room .exit)) n w elementwise t src r ⌝ }
 {

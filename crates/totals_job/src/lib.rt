@@ -76,6 +76,7 @@ pub fn total_job(
         w,
         scales: layout.scales,
         elementwise,
+        less: false,
         betas,
     };
     let end = layout.room;

@@ -31,9 +31,10 @@ loop-again : tie.Need-loop-again Inv-loop μ-loop
 loop-again c =
     let i = c .before .before .before .loop .inv in
     let k = c .before .before .before .loop .k in
-    let here = sym (c .before .last-vertex .ensures (omega arith)) ∙ c .if1 .left in
-    (omega (arith, i .0),
-      λ j a b. dite (decLt j k) (λ l. let e : j ≡ k - 1 = omega arith in rw e here) (λ l. i .1 j (omega arith) b))
+    let here = sym (c .before .last-vertex .ensures (omega arith)) ∙ c .if1 .left in (
+      omega (arith, i .0),
+      λ j a b. dite (decLt j k) (λ l. let e : j ≡ k - 1 = omega arith in rw e here) (λ l. i .1 j (omega arith) b),
+    )
 
 returns-2 : tie.Need-returns-2 Inv-loop μ-loop
 returns-2 c = let i = c .before .loop .inv in record { inside = i .0; end = i .1; first = λ b e. omega arith }

@@ -63,9 +63,10 @@ loop-again c =
     let stepped = c .before .before .backward-through .ensures in
     let due = c .before .before .before .before .before .before .before .before .before .before .is-due .ensures in
     let placed = c .before .before .before .before .before .before .before .before .before .before .before in
-    let g = placed .before .before .before .before .loop .inv .0 in
-    (backward-iteration _ g (placed .before .before .backward-last .ensures) (next placed) (target placed) one-is (rw one-is) (stepped .0) (stored-if _ 0 _ _ due (stepped .1)),
-      omega (arith, ends (placed .before .before)))
+    let g = placed .before .before .before .before .loop .inv .0 in (
+      backward-iteration _ g (placed .before .before .backward-last .ensures) (next placed) (target placed) one-is (rw one-is) (stepped .0) (stored-if _ 0 _ _ due (stepped .1)),
+      omega (arith, ends (placed .before .before)),
+    )
 
 same-length : tie.Need-same-length Inv-loop μ-loop
 same-length c = c .before .loop .inv .0 .since .same

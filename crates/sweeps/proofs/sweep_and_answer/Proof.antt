@@ -27,9 +27,10 @@ returns c =
     let d = c .before .before .before .before .before .before .before .before .before .before .before .before .before .direct-pairs .ensures in
     let e = c .before .before .before .before .before .before .before .before .before .before .before .before .in-passing .ensures in
     let first = c .before .before .before .before .before .before .before .before .before .before .sweep-forward .ensures in
-    let then = c .before .before .before .before .before .sweep-answering .ensures in
-    (both-same _ _ _ _ _ _ _ _ _ _ _ _ _ _ _ (first .0) (then .0) (first .1) (then .1),
-      λ J of given. passed-unsound _ _ _ _ _ _ _ _ _ _ _ _ _ _ _ (first .0) (then .0) (first .1) (then .1) J of given (not-true _ (c .if1 .taken)))
+    let then = c .before .before .before .before .before .sweep-answering .ensures in (
+      both-same _ _ _ _ _ _ _ _ _ _ _ _ _ _ _ (first .0) (then .0) (first .1) (then .1),
+      λ J of given. passed-unsound _ _ _ _ _ _ _ _ _ _ _ _ _ _ _ (first .0) (then .0) (first .1) (then .1) J of given (not-true _ (c .if1 .taken)),
+    )
 
 answer-pairs-requires : tie.Need-answer-pairs-requires
 answer-pairs-requires c κs =

@@ -82,9 +82,11 @@ loop-again c =
     let s = c .before .before .before .before .before .before .before .before .before .before .before .before .before .before .before .before .before in
     let i = c .before .before .before .before .before .before .before .before .before .before .before .loop .inv in
     let next = c .before .before .before .before .before .before .before .before .before .beside .ensures in
-    let wrote = c .before .before .before .write-two .ensures in
-    (omega (arith, i .0, next .0), omega (arith, next .2),
-      directs-more _ (s .pre) _ _ (i .0) next _ _ (c .before .before .before .before .before .before .source-at .ensures) (c .before .before .before .before .before .source-at2 .ensures) _ _ _ _ (i .2 .long ∙ s .pre .fitting) wrote (not-false _ (c .if1 .left)) (i .2))
+    let wrote = c .before .before .before .write-two .ensures in (
+      omega (arith, i .0, next .0),
+      omega (arith, next .2),
+      directs-more _ (s .pre) _ _ (i .0) next _ _ (c .before .before .before .before .before .before .source-at .ensures) (c .before .before .before .before .before .source-at2 .ensures) _ _ _ _ (i .2 .long ∙ s .pre .fitting) wrote (not-false _ (c .if1 .left)) (i .2),
+    )
 
 same-length-2 : tie.Need-same-length-2 Inv-loop μ-loop
 same-length-2 c = c .before .loop .inv .2 .long
