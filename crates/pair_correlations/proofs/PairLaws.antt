@@ -1,5 +1,5 @@
 -- What is summed where a pair's sums are read is the definition's N and Z.
-use mathlib.Core.Path.{_≡_, refl, sym, _∙_, subst}
+use mathlib.Core.Path.{_≡_, refl, sym, ap, _∙_, subst}
 use mathlib.Core.Bool.{Bool}
 use mathlib.Core.List.{List}
 use Prim.Native.Nat.{ℕ, _-_, _^_, _≤_, _<_}
@@ -96,6 +96,19 @@ z-at : (J : Job Float) (r : List Float) (w f b u v : ℕ) → VertexHalves J r w
 z-at J r w f b u v h wide = z-sum J w u v (h .window) _ _ wide (h .backward) (h .forward)
 
 -- ---- a direct pair
+
+-- where its sums are read is decided by the vertices and their places
+source-is : (s : Source) {f g b d : ℕ} → s .f ≡ f → s .g ≡ g → s .b ≡ b → s .d ≡ d → s ≡ record { f = f; g = g; b = b; d = d }
+source-is s {f} {g} {b} {d} ef eg eb ed =
+    ap (λ (x : ℕ). record { f = x; g = s .g; b = s .b; d = s .d }) ef
+    ∙ ap (λ (x : ℕ). record { f = f; g = x; b = s .b; d = s .d }) eg
+    ∙ ap (λ (x : ℕ). record { f = f; g = g; b = x; d = s .d }) eb
+    ∙ ap (λ (x : ℕ). record { f = f; g = g; b = b; d = x }) ed
+
+pub direct-same : (f b u v u′ : ℕ) (s t : Source) → DirectSource f b u v s → DirectSource f b u′ v t → u′ ≡ u → t ≡ s
+direct-same f b u v u′ s t d e same =
+    source-is t (e .forward) (e .other) (e .backward) (e .bit ∙ ap (λ (k : ℕ). v - k) same)
+    ∙ sym (source-is s (d .forward) (d .other) (d .backward) (d .bit))
 
 module _ (r : List Float) (w f b u v : ℕ) (s : Source) (at-f : Place (length r) w f) (at-b : Place (length r) w b) (order : u < v) (near : v - u < w)
     (d : DirectSource f b u v s) where

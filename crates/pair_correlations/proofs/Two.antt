@@ -1,10 +1,11 @@
 -- Two pairs that are answered in one pass: the first, and that pair again or a direct one.
-use mathlib.Core.Path.{_≡_, refl, sym, _∙_}
+use mathlib.Core.Path.{_≡_, refl, sym, ap, _∙_}
 use mathlib.Core.Bool.{Bool, true, false, true≢false}
 use mathlib.Core.List.{List}
 use mathlib.Core.Logic.{_⊎_, inl, inr}
 use Prim.Native.Nat.{ℕ, _-_, _<_}
 use lib.ListN.{length, set, length-set}
+use lib.Seq.{set-set}
 use lib.Ieee.{Float}
 use Rattle.transfer_matrix.specs.Job.{Job}
 use Rattle.transfer_matrix.specs.Room.{earlier, later}
@@ -21,7 +22,7 @@ use Rattle.pair_correlations.specs.Sound.{soundly, unsound}
 use Rattle.propagation.specs.Current.{PlanSwept, CurrentKnown}
 use Rattle.propagation.specs.Laws.Current.{still-passed}
 use Rattle.pair_correlations.specs.Aim.{PairPlaces, SourceOf, Aimed, Second, SecondSource}
-use Rattle.pair_correlations.specs.Two.{quotient, WroteTwo, Written, AnsweredTwo}
+use Rattle.pair_correlations.specs.Two.{quotient, WroteOne, WroteTwo, Written, AnsweredTwo}
 use Rattle.pair_correlations.proofs.PairLaws.{forward-at, backward-at, swept-halves, direct-sourced, direct-of}
 use Rattle.pair_correlations.proofs.Answering.{answer-of, none-of-it}
 
@@ -45,6 +46,30 @@ wrote-both r w x y p q results s t gs gt e f =
       written = λ _. (e, f, refl);
       refused = λ z. absurd (true≢false z);
     }
+
+-- one pair alone
+pub wrote-alone : (r : List Float) (w : ℕ) (x y : Source) (p q : ℕ) (results₀ results : List Float) (sound : Bool) → q ≡ p → y ≡ x
+    → WroteOne r w x p results₀ results sound → WroteTwo r w x y p q results₀ results sound
+wrote-alone r w x y p q results₀ results sound e same g =
+    record {
+      first = g .sums;
+      second = g .sums;
+      first-of = g .sums-of;
+      second-of = rw same (g .sums-of);
+      long = g .long;
+      written = λ t. let h = g .written t in (h .0, h .0, h .1 ∙ sym (set-set results₀ p _ _) ∙ ap (λ (i : ℕ). set (set results₀ p (quotient (g .sums))) i (quotient (g .sums))) (sym e));
+      refused = λ f. inl (g .refused f);
+    }
+
+pub wrote-one : (r : List Float) (w : ℕ) (x : Source) (p : ℕ) (results : List Float) (s : Sums) → SumsOf r w x s → soundly (s .z) ≡ true
+    → WroteOne r w x p results (set results p (quotient s)) true
+wrote-one r w x p results s g e =
+    record { sums = s; sums-of = g; long = length-set results p (quotient s); written = λ _. (e, refl); refused = λ z. absurd (true≢false z) }
+
+pub wrote-not : (r : List Float) (w : ℕ) (x : Source) (p : ℕ) (results : List Float) (s : Sums) → SumsOf r w x s → soundly (s .z) ≡ false
+    → WroteOne r w x p results results false
+wrote-not r w x p results s g e =
+    record { sums = s; sums-of = g; long = refl; written = λ f. absurd (true≢false (sym f)); refused = λ _. e }
 
 -- of a job whose sums are read there
 module _ (J : Job Float) (us vs : List ℕ) (r : List Float) (w p q : ℕ) (x y : Source) (results₀ results : List Float) (sound : Bool)
@@ -97,6 +122,14 @@ module _ (plan us vs : List ℕ) (r₀ r : List Float) (n w scales p q : ℕ) (c
       go : SecondSource plan us vs p q (aim .source) other → Sourced (length r) w other
       go (inl e) = rw (e .1) (aimed .sourced)
       go (inr d) = direct-sourced r w _ _ _ _ other forward-now backward-now (places .order) (near (d .0)) (d .1)
+
+  -- the first pair again is read where it was
+  pub second-same : q ≡ p → other ≡ aim .source
+  second-same e = go at
+    where
+      go : SecondSource plan us vs p q (aim .source) other → other ≡ aim .source
+      go (inl d) = d .1
+      go (inr d) = absurd (d .0 e)
 
   second-of : (J : Job Float) (elementwise : Bool) → PlanSwept J plan r₀ n w scales elementwise → CurrentKnown J r₀ n w current
       → SourceOf J r w (earlier us vs q) (later us vs q) other

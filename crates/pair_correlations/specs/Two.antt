@@ -32,6 +32,14 @@ Answered J us vs results p = AnswerOf J us vs p (getD results p nan)
 abbrev pub quotient : Sums → Float
 quotient s = div binary64 (s .n) (s .z)
 
+-- The sums of a pair were read at x; their quotient is result p where Z is sound.
+pub record WroteOne (r : List Float) (w : ℕ) (x : Source) (p : ℕ) (results₀ results : List Float) (sound : Bool) : Type 0 where
+  pub sums : Sums
+  pub sums-of : SumsOf r w x sums
+  pub long : length results ≡ length results₀
+  pub written : sound ≡ true → (soundly (sums .z) ≡ true) × (results ≡ set results₀ p (quotient sums))
+  pub refused : sound ≡ false → soundly (sums .z) ≡ false
+
 -- The sums of two pairs were read at x and y; their quotients are the results p and q where both Z are sound.
 pub record WroteTwo (r : List Float) (w : ℕ) (x y : Source) (p q : ℕ) (results₀ results : List Float) (sound : Bool) : Type 0 where
   pub first : Sums

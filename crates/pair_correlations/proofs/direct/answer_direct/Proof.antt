@@ -1,10 +1,12 @@
 -- Two pairs a turn.
-use mathlib.Core.Path.{_≡_, _∙_}
+use mathlib.Core.Path.{_≡_, ap, _∙_}
 use Prim.Native.Nat.{_-_, _≤_, _<_}
 use native.Mathlib.Omega.{arith}
 use borrow.Author.Tests.{not-true, not-false}
 use borrow.Author.Needs.{needs}
+use Rattle.transfer_matrix.specs.Room.{earlier}
 use Rattle.pair_correlations.specs.Direct.{DirectsAnswered}
+use Rattle.pair_correlations.proofs.PairLaws.{direct-same}
 use Rattle.pair_correlations.proofs.AtVertex.{directs-none, pair-inside, pair-sourced, pairs-unsound, directs-more, answered-none, answered-all}
 use Rattle.pair_correlations.proofs.direct.answer_direct.Statement.{statement}
 use Rattle.pair_correlations.proofs.direct.answer_direct.Tie as tie
@@ -57,6 +59,7 @@ write-two-requires c κs =
       pair-sourced room g _ low (next .2) _ (c .before .source-at2 .ensures),
       rw long (pair-inside room g _ (i .0) high),
       rw long (pair-inside room g _ low (next .2)),
+      λ e. direct-same _ _ _ _ _ _ _ (c .before .before .source-at .ensures) (c .before .source-at2 .ensures) (ap (earlier (c .before .before .before .before .before .before .before .before .before .before .before .before .before .args .us .now) (c .before .before .before .before .before .before .before .before .before .before .before .before .before .args .vs .now)) e),
     )
 
 same-length : tie.Need-same-length Inv-loop μ-loop

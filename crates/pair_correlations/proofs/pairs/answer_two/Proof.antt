@@ -1,7 +1,7 @@
 -- Both pairs' sums are those of the definition.
 use native.Mathlib.Omega.{arith}
 use borrow.Author.Needs.{needs}
-use Rattle.pair_correlations.proofs.Two.{second-sourced, two-answered}
+use Rattle.pair_correlations.proofs.Two.{second-sourced, second-same, two-answered}
 use Rattle.pair_correlations.proofs.pairs.answer_two.Statement.{statement}
 use Rattle.pair_correlations.proofs.pairs.answer_two.Tie as tie
 
@@ -20,8 +20,13 @@ write-two-requires : tie.Need-write-two-requires
 write-two-requires c κs =
     let s = c .before .before .before .before .before .before .before .before .before .before .before .before .before .before .before .before .before in
     let p = s .pre in
-    let aimed = rw (c .before .before .before .before .before .before .before .before .earlier .ensures, c .before .before .before .before .before .before .before .later .ensures) at (c .before .before .before .before .before .before .aim-at .ensures) in
-    (aimed .sourced, second-sourced (s .args .plan .now) (s .args .us .now) (s .args .vs .now) (s .args .room .now) _ _ _ _ _ _ _ _ _ (p .0) (p .2) (p .3) (p .8) (p .4) aimed (c .before .before .second-source .ensures), omega (arith, p .2, p .6), omega (arith, p .3, p .6))
+    let aimed = rw (c .before .before .before .before .before .before .before .before .earlier .ensures, c .before .before .before .before .before .before .before .later .ensures) at (c .before .before .before .before .before .before .aim-at .ensures) in (
+      aimed .sourced,
+      second-sourced (s .args .plan .now) (s .args .us .now) (s .args .vs .now) (s .args .room .now) _ _ _ _ _ _ _ _ _ (p .0) (p .2) (p .3) (p .8) (p .4) aimed (c .before .before .second-source .ensures),
+      omega (arith, p .2, p .6),
+      omega (arith, p .3, p .6),
+      second-same (s .args .plan .now) (s .args .us .now) (s .args .vs .now) (s .args .room .now) _ _ _ _ _ _ _ _ _ (p .0) (p .2) (p .3) (p .8) (p .4) aimed (c .before .before .second-source .ensures),
+    )
 
 returns : tie.Need-returns
 returns c =
