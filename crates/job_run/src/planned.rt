@@ -36,8 +36,8 @@ pub fn clear(list: &mut [f64])
     fill(list, 0, len, 0.0);
 }
 
-// Sweeps, answers the pairs, and clears the room; `less`: with less room. Returns whether every pair's Z is finite and above zero; where one is not, all results
-// are +0.0.
+// Sweeps, answers the pairs, and clears the room; `less`: with less room. Returns whether every pair's Z is finite and above zero; where one is
+// not, all results are +0.0.
 pub fn run(
     room: &mut [f64],
     plan: &[usize],

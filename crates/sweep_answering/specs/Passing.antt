@@ -23,7 +23,7 @@ pub record Passing (plan us vs order : List ℕ) (n w passing : ℕ) : Type 0 wh
   pub rising : (j k : ℕ) → j ≤ k → k < passing → later us vs (getD order j 0) ≤ later us vs (getD order k 0)
   pub placed : (k : ℕ) → k < passing → 0 < forwardPlace plan (later us vs (getD order k 0))
 
--- The pairs from `left` on, of those, begin at `from` where their later vertex is v.
+-- Of the first `left` pairs those from `from` on, and no more before them, have the later vertex v.
 pub record VertexPairs (us vs order : List ℕ) (left v from : ℕ) : Type 0 where
   pub inside : from ≤ left
   pub end : (k : ℕ) → from ≤ k → k < left → later us vs (getD order k 0) ≡ v

@@ -80,8 +80,8 @@ pub struct NewestVector {
     pub largest: f64,
 }
 
-// From vertex t, whose vector is the newest, down to vertex `stop`; returns the vector of that. The step at t gives the vector of t - 1. Keeps
-// the lower halves of the backward vectors that the plan has a place for. In the block manner the largest entry is taken after steps with
+// Steps from vertex `from`, whose vector is the newest, down to vertex `stop`, whose vector it returns; the step at t gives the vector of t - 1.
+// Keeps the lower halves of the backward vectors that the plan has a place for. In the block manner the largest entry is taken after steps with
 // t % 4 = 0.
 pub fn sweep_down(
     room: &mut [f64],

@@ -21,7 +21,7 @@ pub record NewestBackward (J : Job Float) (plan : List ℕ) (r : List Float) (n 
   pub entry : most ≡ S.afterSteps ieee J (J .last - t) .1
   pub kept : Backward J plan r n w t
 
--- The sweep began with the room r₀, of which Given is known of a job.
+-- The sweep began with the room r₀; Given is what was known then of a job.
 pub record BackwardInvariant (plan : List ℕ) (r₀ r : List Float) (n w scales : ℕ) (elementwise : Bool) (Given : Job Float → Type 0) (t src : ℕ)
     (most : Float) : Type 0 where
   pub below : t < n

@@ -19,7 +19,7 @@ abbrev pub ForwardSteps : (plan : List ℕ) (n w : ℕ) (elementwise : Bool) (t 
 ForwardSteps plan n w elementwise t last = (last ≡ t) ⊎ ForwardTwo plan n w elementwise t last
 
 -- The steps at t and `last`, which is the vertex before, in the block manner: after the step at t no largest entry is due, and its vector,
--- which is that of `last`, has no place. The sweep goes down to vertex `stop`, whose vector both steps do not pass by.
+-- which is that of `last`, has no place. The sweep goes down to vertex `stop`, and does not step over it.
 pub record BackwardTwo (plan : List ℕ) (w : ℕ) (elementwise : Bool) (stop t last : ℕ) : Type 0 where
   pub next : t ≡ last + 1
   pub inside : stop < last

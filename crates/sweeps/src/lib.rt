@@ -25,8 +25,9 @@ fn in_passing(less: bool, directs: usize) -> usize
     if less { directs } else { 0 }
 }
 
-// Sweeps, and answers the pairs; `less`: with less room. Returns whether every pair's Z is finite and above zero; where one is not, the results are not all written. The
-// kept backward vectors from vertex `changed` on stand already; none does where `changed` is the last vertex or more. All of them stand after.
+// Sweeps, and answers the pairs; `less`: with less room. Returns whether every pair's Z is finite and above zero; where one is not, the results
+// are not all written. The kept backward vectors from vertex `changed` on stand already; none does where `changed` is the last vertex or more.
+// All of them stand after.
 pub fn sweep_and_answer(
     room: &mut [f64],
     plan: &[usize],
