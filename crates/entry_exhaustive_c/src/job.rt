@@ -52,6 +52,7 @@ pub(crate) fn store_job(
         w,
         scales: layout.scales,
         elementwise,
+        less: false,
         betas,
     };
     let end = layout.room;

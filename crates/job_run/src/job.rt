@@ -46,6 +46,7 @@ pub fn answer_job(
         w,
         layout.scales,
         elementwise,
+        false,
         us,
         vs,
         order,

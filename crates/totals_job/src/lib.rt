@@ -56,6 +56,7 @@ pub fn total_job(
         w,
         scales: layout.scales,
         elementwise,
+        less: false,
         betas,
     };
     let end = layout.room;

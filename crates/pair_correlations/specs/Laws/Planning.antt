@@ -1,6 +1,6 @@
 -- What the plan of a job ensures is what the sweeps and the answers ask for.
 use mathlib.Core.Path.{_≡_, refl, sym, ap, _∙_}
-use mathlib.Core.Bool.{Bool, cond}
+use mathlib.Core.Bool.{Bool, false, cond}
 use mathlib.Core.List.{List}
 use Prim.Native.Nat.{ℕ, _+_, _*_, _-_, _^_, _≤_, _<_}
 use native.Mathlib.Nat.{mul-le-mul-right}
@@ -67,5 +67,5 @@ module _ (plan early late us vs : List ℕ) (n w places scales at end work : ℕ
   pub ready : Holds plan n → Ready plan end n w scales
   ready holds = ready-of plan early late us vs n w places scales at end g (p .edges .wide) (p .edges .narrow) holds
 
-  pub serves : Served plan us vs n w
+  pub serves : Served plan us vs n w false
   serves = served plan us vs n w (g .kept) (p .pairs) (p .distinct)

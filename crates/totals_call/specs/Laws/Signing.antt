@@ -68,7 +68,7 @@ module _ (plan early late us vs : List ℕ) (n w places scales at end : ℕ) (g 
 
   -- what every sweep reads
   abbrev shape : JobShape
-  shape = record { n = n; w = w; scales = scales; elementwise = elementwise; betas = betas }
+  shape = record { n = n; w = w; scales = scales; elementwise = elementwise; less = false; betas = betas }
 
   signed-plan : (minus : ℕ → Bool)
       → PlanOfAll (jobSigned n w early late factors (stepping elementwise) minus) plan factors (length early) (tabulate minus (length early)) shape

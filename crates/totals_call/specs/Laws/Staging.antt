@@ -15,7 +15,7 @@ use Rattle.forest.specs.FreeEdges.{freeCount, bitsOf}
 use Rattle.transfer_matrix.specs.Room.{room}
 use Rattle.transfer_matrix.specs.Job.{Job}
 use Rattle.plan_steps.specs.Layout.{Holds}
-use Rattle.plan_layout.specs.Order.{Ordered}
+use Rattle.plan_layout.specs.Order.{InOrder}
 use Rattle.plan_layout.specs.Work.{Planned}
 use Rattle.pair_correlations.specs.Laws.Planning.{ready, serves, end-fits}
 use Rattle.totals_configuration.specs.Powers.{correlationAt, unsoundBetas}
@@ -41,8 +41,8 @@ module _ {n w : ℕ} {early late us vs : List ℕ} {factors betas work : ℕ} (p
   few-sums = few-products betas (length us) (p .few-betas) (p .job .few-pairs)
 
   module _ {plan : List ℕ} {places scales at end : ℕ} (g : Planned plan early late us vs n w places scales at end) where
-    pub staged : (order : List ℕ) (m end′ results : ℕ) (elementwise : Bool) → Holds plan n → Ordered order (length us) → m ≡ length early → end′ ≡ end → results ≡ length us
-        → Stage plan us vs order m (record { n = n; w = w; scales = scales; elementwise = elementwise; betas = betas }) end′ results
+    pub staged : (order : List ℕ) (m end′ results : ℕ) (elementwise : Bool) → Holds plan n → InOrder order us vs w → m ≡ length early → end′ ≡ end → results ≡ length us
+        → Stage plan us vs order m (record { n = n; w = w; scales = scales; elementwise = elementwise; less = false; betas = betas }) end′ results
     staged order m end′ results elementwise holds ordered e f r = rw (e, f) (record {
       some = p .job .some;
       ready = ready plan early late us vs n w places scales at end work (p .job) g holds;
