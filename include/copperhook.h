@@ -83,11 +83,14 @@ enum copperhook_limit {
 /*
  * The `options` of a call are a sum of these; other bits are not read, so no number is a bad one.
  * COPPERHOOK_BLOCK: a sweep is rescaled by every fourth step's largest entry; without it, per element, by every step's.
+ * COPPERHOOK_LESS_ROOM: pairs nearer than the window are answered as the backward sweep passes their later vertex, and no backward vector
+ * is kept for them. The room may then be smaller (copperhook_room); 13 and what is cleared go by it. All else that a call with enough work
+ * memory returns and leaves is the same as without this option, bit for bit, refusal 14 too.
  * COPPERHOOK_TESTER: the call is the bench tester's, which has smaller limits, COPPERHOOK_TESTER_WINDOW and, where all configurations are
  * gone through, COPPERHOOK_TESTER_FREE. Over one of them the call is refused by 22. A call that 22 does not refuse returns and leaves the
  * same as without this option, bit for bit.
  */
-enum copperhook_option { COPPERHOOK_PER_ELEMENT = 0, COPPERHOOK_BLOCK = 1, COPPERHOOK_TESTER = 4 };
+enum copperhook_option { COPPERHOOK_PER_ELEMENT = 0, COPPERHOOK_BLOCK = 1, COPPERHOOK_LESS_ROOM = 2, COPPERHOOK_TESTER = 4 };
 
 /* The lattice of a strip; a site of COPPERHOOK_EIGHT has both diagonals, so eight neighbours. Any number but 0, 1 and 3 is honeycomb. */
 enum copperhook_kind { COPPERHOOK_SQUARE = 0, COPPERHOOK_TRIANGULAR = 1, COPPERHOOK_HONEYCOMB = 2, COPPERHOOK_EIGHT = 3 };
@@ -95,17 +98,20 @@ enum copperhook_kind { COPPERHOOK_SQUARE = 0, COPPERHOOK_TRIANGULAR = 1, COPPERH
 /* ---- Correlations of one configuration. */
 
 /*
- * The number of doubles of work memory that copperhook_correlations needs, in *room, whoever calls: no limit of the tester's is asked.
- * Pair i is us[i] and vs[i], in either order; pairs may repeat.
+ * The number of doubles of work memory that copperhook_correlations needs with these options, in *room. Of the options only
+ * COPPERHOOK_LESS_ROOM is read: the manner does not change the room, and no limit of the tester's is asked.
+ * Pair i is us[i] and vs[i], in either order; pairs may repeat. A pair is direct where its vertices are nearer than the window w, else
+ * propagated. With n vertices and k kept edges the room is 2^w * (2 + F + L) + n + k: F counts the vertices that are the later one of some
+ * pair or the earlier one of a propagated pair; L those that are the later one of some pair, with COPPERHOOK_LESS_ROOM of a propagated one.
  * Refusals: 1 to 8.
  */
 size_t copperhook_room(size_t n, size_t floor, const size_t *a, size_t a_len, const size_t *b, size_t b_len, const double *m,
-                       size_t m_len, const size_t *us, size_t us_len, const size_t *vs, size_t vs_len, size_t *room);
+                       size_t m_len, const size_t *us, size_t us_len, const size_t *vs, size_t vs_len, size_t options, size_t *room);
 
 /*
  * The pair correlations <s_u s_v>, one for each pair, in `results`.
  * `factors` has one double for each kept edge, in their order: exp(beta times magnitude times sign). `results` is as long as the pairs;
- * `work` at least as long as the room, of which an accepted call leaves every double +0.0, and what lies behind it untouched.
+ * `work` at least as long as the room by `options`, of which an accepted call leaves every double +0.0, and what lies behind it untouched.
  * Refusals: 1 to 8, 10, 12, 13, 14; 22 by COPPERHOOK_TESTER.
  */
 size_t copperhook_correlations(size_t n, size_t floor, const size_t *a, size_t a_len, const size_t *b, size_t b_len, const double *m,
@@ -143,7 +149,8 @@ size_t copperhook_couplings(size_t n, const size_t *a, size_t a_len, const size_
  * has a bit (copperhook_spanning_forest tells it) and that bit of the configuration's number is set.
  * `factors` has two doubles for each beta and kept edge: with k kept edges, those of beta i and edge e are at 2 * (i * k + e) for plus and
  * next to it for minus, exp of the coupling and of its negative. Both result lists have exactly betas_len * us_len doubles, that of beta i
- * and pair p at i * us_len + p. `work` is as copperhook_correlations takes it, with the room that copperhook_room answers.
+ * and pair p at i * us_len + p. `work` is as copperhook_correlations takes it, with the room that copperhook_room answers for these
+ * options.
  * Refusals: 1 to 10 (4 and 21 of the betas too; 9 from 35 free edges on), 12, 13, 14; 22 by COPPERHOOK_TESTER, of the window and of free
  * edges.
  */

@@ -2,6 +2,7 @@
 ghost use mathlib.Core.Path.{_≡_};
 ghost use Prim.Native.Nat.{_≤_};
 ghost use Rattle.limits.specs.Limits.{mostVertices, mostEdges, mostWindow};
+ghost use Rattle.transfer_matrix.specs.Room.{arranged};
 ghost use Rattle.refusals.specs.AcceptedJob.{buffersRefusal, listsRefusal};
 ghost use Rattle.plan_layout.specs.Places.{Pairs};
 use crate::factors::bad_factors;
@@ -9,6 +10,7 @@ use plan_layout::room_needed;
 
 // Checks 12 and 13, of a job that 1 to 8 pass: whether a result buffer misfits is given.
 pub(crate) fn check_buffers(
+    less: bool,
     n: usize,
     w: usize,
     edges: usize,
@@ -18,12 +20,12 @@ pub(crate) fn check_buffers(
     work: usize,
 ) -> usize
     requires { ⌜ Pairs (now us) (now vs) n × (n ≤ mostVertices) × (w ≤ mostWindow) × (edges ≤ mostEdges) ⌝ }
-    ensures { λ r. ⌜ r ≡ buffersRefusal n w edges (now (us .entry)) (now (vs .entry)) misfit work ⌝ }
+    ensures { λ r. ⌜ r ≡ buffersRefusal (arranged less) n w edges (now (us .entry)) (now (vs .entry)) misfit work ⌝ }
 {
     if misfit {
         return 12;
     }
-    if work < room_needed(n, w, edges, us, vs) {
+    if work < room_needed(less, n, w, edges, us, vs) {
         return 13;
     }
     0
@@ -32,6 +34,7 @@ pub(crate) fn check_buffers(
 // Checks 10, 12 and 13 of such a job: one factor for each kept edge, one result for each pair, and the room.
 // Returns the refusal's number, 0 for accepted.
 pub fn check_lists(
+    less: bool,
     n: usize,
     w: usize,
     edges: usize,
@@ -42,10 +45,10 @@ pub fn check_lists(
     work: usize,
 ) -> usize
     requires { ⌜ Pairs (now us) (now vs) n × (n ≤ mostVertices) × (w ≤ mostWindow) × (edges ≤ mostEdges) ⌝ }
-    ensures { λ r. ⌜ r ≡ listsRefusal n w edges (now (us .entry)) (now (vs .entry)) (now (factors .entry)) results work ⌝ }
+    ensures { λ r. ⌜ r ≡ listsRefusal (arranged less) n w edges (now (us .entry)) (now (vs .entry)) (now (factors .entry)) results work ⌝ }
 {
     if bad_factors(factors, edges) {
         return 10;
     }
-    check_buffers(n, w, edges, us, vs, results != us.len(), work)
+    check_buffers(less, n, w, edges, us, vs, results != us.len(), work)
 }

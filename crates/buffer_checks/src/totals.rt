@@ -2,6 +2,7 @@
 ghost use mathlib.Core.Path.{_≡_};
 ghost use Prim.Native.Nat.{_≤_};
 ghost use Rattle.limits.specs.Limits.{mostVertices, mostEdges, mostBetas, mostWindow};
+ghost use Rattle.transfer_matrix.specs.Room.{arranged};
 ghost use Rattle.refusals.specs.Request.{tooManyChunks};
 ghost use Rattle.refusals.specs.AcceptedTotals.{misfits, enumerationLists, samplingLists};
 ghost use Rattle.plan_layout.specs.Places.{Pairs};
@@ -39,6 +40,7 @@ fn misfit(wanted: usize, squares: usize, fourths: usize) -> bool
 // Returns the refusal's number, 0 for accepted.
 pub fn check_enumeration(
     caller: Caller,
+    less: bool,
     n: usize,
     w: usize,
     edges: usize,
@@ -54,7 +56,7 @@ pub fn check_enumeration(
     work: usize,
 ) -> usize
     requires { ⌜ Pairs (now us) (now vs) n × (n ≤ mostVertices) × (w ≤ mostWindow) × (edges ≤ mostEdges) × (betas ≤ mostBetas) ⌝ }
-    ensures { λ r. ⌜ r ≡ enumerationLists caller n w edges (now (us .entry)) (now (vs .entry)) betas (now (factors .entry)) free most
+    ensures { λ r. ⌜ r ≡ enumerationLists caller (arranged less) n w edges (now (us .entry)) (now (vs .entry)) betas (now (factors .entry)) free most
         (misfits wanted squares fourths) work ⌝ }
 {
     if most < free {
@@ -67,12 +69,13 @@ pub fn check_enumeration(
         return 10;
     }
     let misfit = misfit(wanted, squares, fourths);
-    check_buffers(n, w, edges, us, vs, misfit, work)
+    check_buffers(less, n, w, edges, us, vs, misfit, work)
 }
 
 // Checks 10 to 13 of a call that draws chunks of samples.
 // Returns the refusal's number, 0 for accepted.
 pub fn check_sampling(
+    less: bool,
     n: usize,
     w: usize,
     edges: usize,
@@ -89,7 +92,7 @@ pub fn check_sampling(
     work: usize,
 ) -> usize
     requires { ⌜ Pairs (now us) (now vs) n × (n ≤ mostVertices) × (w ≤ mostWindow) × (edges ≤ mostEdges) × (betas ≤ mostBetas) ⌝ }
-    ensures { λ r. ⌜ r ≡ samplingLists n w edges (now (us .entry)) (now (vs .entry)) betas (now (factors .entry)) start end samples
+    ensures { λ r. ⌜ r ≡ samplingLists (arranged less) n w edges (now (us .entry)) (now (vs .entry)) betas (now (factors .entry)) start end samples
         (misfits wanted squares fourths) work ⌝ }
 {
     if bad_factors(factors, 2 * (betas * edges)) {
@@ -99,5 +102,5 @@ pub fn check_sampling(
         return 11;
     }
     let misfit = misfit(wanted, squares, fourths);
-    check_buffers(n, w, edges, us, vs, misfit, work)
+    check_buffers(less, n, w, edges, us, vs, misfit, work)
 }

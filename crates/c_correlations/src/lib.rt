@@ -21,13 +21,14 @@ pub fn correlations_between(
 ) -> usize
     requires { ⌜ e .count ≤ mostCopied ⌝ }
     ensures { λ r. ⌜ Correlated n floor (now (a .entry)) (now (b .entry)) (now (m .entry)) (firstEnds e) (secondEnds e)
-        (now (factors .entry)) (optionsNumbered options .manner) (optionsNumbered options .caller) r (now (results .entry)) (now (results .exit)) (now (work .entry)) (now (work .exit)) ⌝ }
+        (now (factors .entry)) (optionsNumbered options .manner) (optionsNumbered options .arrangement) (optionsNumbered options .caller) r (now (results .entry)) (now (results .exit)) (now (work .entry)) (now (work .exit)) ⌝ }
 {
     let count = e.count;
     let us = e.us;
     let vs = e.vs;
     let asked = options_numbered(options);
     let manner = asked.manner;
+    let arrangement = asked.arrangement;
     let caller = asked.caller;
     entry_correlations::correlations(
         n,
@@ -39,6 +40,7 @@ pub fn correlations_between(
         &vs[..count],
         factors,
         manner,
+        arrangement,
         caller,
         results,
         work,

@@ -17,5 +17,6 @@ pub use kinds::number_of;
 pub use kinds::strip_numbered;
 pub use numbers::tell_number;
 pub use options::Options;
+pub use options::arrangement_in;
 pub use options::options_numbered;
 pub use vertices::tell_vertex;

@@ -45,24 +45,24 @@ module _ {answer : Answer} {r count count′ : ℕ} (t : Tells answer r count co
 
 module _ {n floor : ℕ} {a b : List ℕ} {m : List Float} {us vs : List ℕ} {betas factors : List Float} {o o′ : Options} {answer : Answer} {r count count′ : ℕ} (e : o ≡ o′) where
   pub enumerated-told : {squares squares′ fourths fourths′ work work′ : List Float}
-      → Enumerated n floor a b m us vs betas factors (o .manner) (o .caller) answer squares squares′ fourths fourths′ work work′ → Tells answer r count count′
-      → Enumerated n floor a b m us vs betas factors (o′ .manner) (o′ .caller) (answered r count′) squares squares′ fourths fourths′ work work′ × ((r ≡ 0 → ⊥) → count′ ≡ count)
+      → Enumerated n floor a b m us vs betas factors (o .manner) (o .arrangement) (o .caller) answer squares squares′ fourths fourths′ work work′ → Tells answer r count count′
+      → Enumerated n floor a b m us vs betas factors (o′ .manner) (o′ .arrangement) (o′ .caller) (answered r count′) squares squares′ fourths fourths′ work work′ × ((r ≡ 0 → ⊥) → count′ ≡ count)
   enumerated-told {squares} {squares′} {fourths} {fourths′} {work} {work′} g t =
       let again = totalled-again t (g .call) in
-      (carried (λ (x : Options) (y : Answer). Enumerated n floor a b m us vs betas factors (x .manner) (x .caller) y squares squares′ fourths fourths′ work work′) e (again .0) g, again .1)
+      (carried (λ (x : Options) (y : Answer). Enumerated n floor a b m us vs betas factors (x .manner) (x .arrangement) (x .caller) y squares squares′ fourths fourths′ work work′) e (again .0) g, again .1)
 
-  pub stored-told : {stored stored′ work work′ : List Float} → EnumeratedEach n floor a b m us vs betas factors (o .manner) (o .caller) answer stored stored′ work work′ → Tells answer r count count′
-      → EnumeratedEach n floor a b m us vs betas factors (o′ .manner) (o′ .caller) (answered r count′) stored stored′ work work′ × ((r ≡ 0 → ⊥) → count′ ≡ count)
+  pub stored-told : {stored stored′ work work′ : List Float} → EnumeratedEach n floor a b m us vs betas factors (o .manner) (o .arrangement) (o .caller) answer stored stored′ work work′ → Tells answer r count count′
+      → EnumeratedEach n floor a b m us vs betas factors (o′ .manner) (o′ .arrangement) (o′ .caller) (answered r count′) stored stored′ work work′ × ((r ≡ 0 → ⊥) → count′ ≡ count)
   stored-told {stored} {stored′} {work} {work′} g t =
       let again = stored-again t (g .call) in
-      (carried (λ (x : Options) (y : Answer). EnumeratedEach n floor a b m us vs betas factors (x .manner) (x .caller) y stored stored′ work work′) e (again .0) g, again .1)
+      (carried (λ (x : Options) (y : Answer). EnumeratedEach n floor a b m us vs betas factors (x .manner) (x .arrangement) (x .caller) y stored stored′ work work′) e (again .0) g, again .1)
 
   pub sampled-told : {seed from to samples : ℕ} {squares squares′ fourths fourths′ work work′ : List Float}
-      → Sampled n floor a b m us vs betas factors (o .manner) (o .caller) seed from to samples answer squares squares′ fourths fourths′ work work′ → Tells answer r count count′
-      → Sampled n floor a b m us vs betas factors (o′ .manner) (o′ .caller) seed from to samples (answered r count′) squares squares′ fourths fourths′ work work′ × ((r ≡ 0 → ⊥) → count′ ≡ count)
+      → Sampled n floor a b m us vs betas factors (o .manner) (o .arrangement) (o .caller) seed from to samples answer squares squares′ fourths fourths′ work work′ → Tells answer r count count′
+      → Sampled n floor a b m us vs betas factors (o′ .manner) (o′ .arrangement) (o′ .caller) seed from to samples (answered r count′) squares squares′ fourths fourths′ work work′ × ((r ≡ 0 → ⊥) → count′ ≡ count)
   sampled-told {seed} {from} {to} {samples} {squares} {squares′} {fourths} {fourths′} {work} {work′} g t =
       let again = totalled-again t (g .call) in
-      (carried (λ (x : Options) (y : Answer). Sampled n floor a b m us vs betas factors (x .manner) (x .caller) seed from to samples y squares squares′ fourths fourths′ work work′) e (again .0) g, again .1)
+      (carried (λ (x : Options) (y : Answer). Sampled n floor a b m us vs betas factors (x .manner) (x .arrangement) (x .caller) seed from to samples y squares squares′ fourths fourths′ work work′) e (again .0) g, again .1)
 
 -- ---- the edges of a strip, and its pairs
 

@@ -20,10 +20,11 @@ pub extern "C" fn copperhook_correlations(
     work: &mut [f64],
 ) -> usize
     ensures { λ r. ⌜ Correlated n floor (now (a .entry)) (now (b .entry)) (now (m .entry)) (now (us .entry)) (now (vs .entry))
-        (now (factors .entry)) (optionsNumbered options .manner) (optionsNumbered options .caller) r (now (results .entry)) (now (results .exit)) (now (work .entry)) (now (work .exit)) ⌝ }
+        (now (factors .entry)) (optionsNumbered options .manner) (optionsNumbered options .arrangement) (optionsNumbered options .caller) r (now (results .entry)) (now (results .exit)) (now (work .entry)) (now (work .exit)) ⌝ }
 {
     let asked = options_numbered(options);
     let manner = asked.manner;
+    let arrangement = asked.arrangement;
     let caller = asked.caller;
     entry_correlations::correlations(
         n,
@@ -35,6 +36,7 @@ pub extern "C" fn copperhook_correlations(
         vs,
         factors,
         manner,
+        arrangement,
         caller,
         results,
         work,

@@ -6,9 +6,12 @@ ghost use Rattle.refusals.specs.Edges.{kept, windowFrom};
 ghost use Rattle.refusals.specs.Request.{roomRequest};
 ghost use Rattle.refusals.specs.Refusal.{refusal, ofRoom};
 ghost use Rattle.refusals.specs.Answers.{left};
+ghost use Rattle.plan_layout.specs.Arrangements.{arrangementOf};
+ghost use Rattle.c_values.specs.Options.{arrangementIn};
+use c_values::arrangement_in;
 use c_values::tell_number;
 
-// As `refuse::room`, the number of doubles in `room`; where the call is refused, that keeps what it held.
+// As `refuse::room`, the number of doubles in `room`; of the options it reads the arrangement alone; where the call is refused, that keeps what it held.
 #[no_mangle]
 pub extern "C" fn copperhook_room(
     n: usize,
@@ -18,14 +21,15 @@ pub extern "C" fn copperhook_room(
     m: &[f64],
     us: &[usize],
     vs: &[usize],
+    options: usize,
     room: &mut usize,
 ) -> usize
     ensures { λ r. ⌜ r ≡ refusal ofRoom (roomRequest n floor (now (a .entry)) (now (b .entry)) (now (m .entry)) (now (us .entry)) (now (vs .entry))) ⌝ }
     ensures { λ r. ⌜ now (room .exit) ≡ left r
-        (roomOf n (windowFrom floor (now (a .entry)) (now (b .entry)) (now (m .entry)))
+        (roomOf (arrangementOf (arrangementIn options)) n (windowFrom floor (now (a .entry)) (now (b .entry)) (now (m .entry)))
         (length (kept (now (a .entry)) (now (b .entry)) (now (m .entry)))) (now (us .entry)) (now (vs .entry)))
         (now (room .entry)) ⌝ }
 {
-    let answer = job_checks::room(n, floor, a, b, m, us, vs);
+    let answer = job_checks::room(n, floor, a, b, m, us, vs, arrangement_in(options));
     tell_number(answer, room)
 }

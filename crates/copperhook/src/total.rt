@@ -25,12 +25,13 @@ pub extern "C" fn copperhook_exhaustive(
     count: &mut usize,
 ) -> usize
     ensures { λ r. ⌜ Enumerated n floor (now (a .entry)) (now (b .entry)) (now (m .entry)) (now (us .entry)) (now (vs .entry))
-        (now (betas .entry)) (now (factors .entry)) (optionsNumbered options .manner) (optionsNumbered options .caller)
+        (now (betas .entry)) (now (factors .entry)) (optionsNumbered options .manner) (optionsNumbered options .arrangement) (optionsNumbered options .caller)
         (answered r (now (count .exit))) (now (squares .entry)) (now (squares .exit)) (now (fourths .entry)) (now (fourths .exit)) (now (work .entry)) (now (work .exit)) ⌝ }
     ensures { λ r. ⌜ ((r ≡ 0 → ⊥) → now (count .exit) ≡ now (count .entry)) ⌝ }
 {
     let asked = options_numbered(options);
     let manner = asked.manner;
+    let arrangement = asked.arrangement;
     let caller = asked.caller;
     let answer = entry_exhaustive::exhaustive(
         n,
@@ -43,6 +44,7 @@ pub extern "C" fn copperhook_exhaustive(
         betas,
         factors,
         manner,
+        arrangement,
         caller,
         squares,
         fourths,
@@ -69,12 +71,13 @@ pub extern "C" fn copperhook_exhaustive_c(
     count: &mut usize,
 ) -> usize
     ensures { λ r. ⌜ EnumeratedEach n floor (now (a .entry)) (now (b .entry)) (now (m .entry)) (now (us .entry)) (now (vs .entry))
-        (now (betas .entry)) (now (factors .entry)) (optionsNumbered options .manner) (optionsNumbered options .caller)
+        (now (betas .entry)) (now (factors .entry)) (optionsNumbered options .manner) (optionsNumbered options .arrangement) (optionsNumbered options .caller)
         (answered r (now (count .exit))) (now (stored .entry)) (now (stored .exit)) (now (work .entry)) (now (work .exit)) ⌝ }
     ensures { λ r. ⌜ ((r ≡ 0 → ⊥) → now (count .exit) ≡ now (count .entry)) ⌝ }
 {
     let asked = options_numbered(options);
     let manner = asked.manner;
+    let arrangement = asked.arrangement;
     let caller = asked.caller;
     let answer = entry_exhaustive_c::exhaustive_c(
         n,
@@ -87,6 +90,7 @@ pub extern "C" fn copperhook_exhaustive_c(
         betas,
         factors,
         manner,
+        arrangement,
         caller,
         stored,
         work,
@@ -117,12 +121,13 @@ pub extern "C" fn copperhook_sample(
     count: &mut usize,
 ) -> usize
     ensures { λ r. ⌜ Sampled n floor (now (a .entry)) (now (b .entry)) (now (m .entry)) (now (us .entry)) (now (vs .entry))
-        (now (betas .entry)) (now (factors .entry)) (optionsNumbered options .manner) (optionsNumbered options .caller) seed from to samples
+        (now (betas .entry)) (now (factors .entry)) (optionsNumbered options .manner) (optionsNumbered options .arrangement) (optionsNumbered options .caller) seed from to samples
         (answered r (now (count .exit))) (now (squares .entry)) (now (squares .exit)) (now (fourths .entry)) (now (fourths .exit)) (now (work .entry)) (now (work .exit)) ⌝ }
     ensures { λ r. ⌜ ((r ≡ 0 → ⊥) → now (count .exit) ≡ now (count .entry)) ⌝ }
 {
     let asked = options_numbered(options);
     let manner = asked.manner;
+    let arrangement = asked.arrangement;
     let caller = asked.caller;
     let answer = entry_sample::sample(
         n,
@@ -135,6 +140,7 @@ pub extern "C" fn copperhook_sample(
         betas,
         factors,
         manner,
+        arrangement,
         caller,
         seed,
         from,

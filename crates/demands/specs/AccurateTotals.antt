@@ -9,6 +9,7 @@ use lib.Dec.{T}
 use lib.Ieee.{Float, nan, binary64, ofInt}
 use lib.Ieee.Positive.{positive}
 use lib.ListN.{length, getD, length-map}
+use Rattle.transfer_matrix.specs.Room as Room
 use Rattle.fraction.specs.Fraction.{ℚ, oneℚ, invℚ}
 use Rattle.fraction.specs.Value.{value}
 use Rattle.rounding.specs.Under.{unit}
@@ -52,7 +53,7 @@ abbrev pub roundings : (n floor : ℕ) → (a b : List ℕ) → List Float → �
 roundings n floor a b m = roundingsOf n (windowFrom floor a b m) (nearOf n floor a b m)
 
 module _ (n floor : ℕ) (a b : List ℕ) (m : List Float) (us vs : List ℕ) (betas factors : List Float) (manner : Manner) (misfit : Bool) (work : ℕ)
-    (ok : AcceptedTotals n floor a b m us vs betas factors misfit work) (bound : Float) (answered : errorBoundOf n floor a b m betas factors true ≡ Within bound) where
+    {A : Room.Arrangement} (ok : AcceptedTotals A n floor a b m us vs betas factors misfit work) (bound : Float) (answered : errorBoundOf n floor a b m betas factors true ≡ Within bound) where
   abbrev edges : ℕ
   edges = length (early a b m)
 

@@ -5,6 +5,7 @@ use native.Mathlib.Nat.{mul-le-mul-right}
 use native.Mathlib.Omega.{arith}
 use lib.Ieee.{Float}
 use lib.ListN.{length}
+use Rattle.plan_layout.specs.declared.Arrangement.{Arrangement}
 use Rattle.limits.specs.declared.Caller.{Caller}
 use Rattle.transfer_matrix.specs.Job.{Job}
 use Rattle.refusals.specs.declared.Answer.the-variants.{Number}
@@ -24,12 +25,13 @@ pub record CorrelationsCall : Type 0 where
   pub vs : List ℕ
   pub factors : List Float
   pub manner : Manner
+  pub arrangement : Arrangement
   pub caller : Caller
   pub results : List Float
   pub results′ : List Float
   pub work : List Float
   pub work′ : List Float
-  pub call : Correlated n floor a b m us vs factors manner caller 0 results results′ work work′
+  pub call : Correlated n floor a b m us vs factors manner arrangement caller 0 results results′ work work′
 
 pub record ExhaustiveCall : Type 0 where
   pub given : Given
@@ -41,7 +43,7 @@ pub record ExhaustiveCall : Type 0 where
   pub work : List Float
   pub work′ : List Float
   pub call : Enumerated (given .n) (given .floor) (given .a) (given .b) (given .m) (given .us) (given .vs) (given .betas) (given .factors) (given .manner)
-      (given .caller) (Number count) squares squares′ fourths fourths′ work work′
+      (given .arrangement) (given .caller) (Number count) squares squares′ fourths fourths′ work work′
 
 pub record StoringCall : Type 0 where
   pub given : Given
@@ -51,7 +53,7 @@ pub record StoringCall : Type 0 where
   pub work : List Float
   pub work′ : List Float
   pub call : EnumeratedEach (given .n) (given .floor) (given .a) (given .b) (given .m) (given .us) (given .vs) (given .betas) (given .factors) (given .manner)
-      (given .caller) (Number count) stored stored′ work work′
+      (given .arrangement) (given .caller) (Number count) stored stored′ work work′
 
 pub record SampleCall : Type 0 where
   pub given : Given
@@ -67,7 +69,7 @@ pub record SampleCall : Type 0 where
   pub work : List Float
   pub work′ : List Float
   pub call : Sampled (given .n) (given .floor) (given .a) (given .b) (given .m) (given .us) (given .vs) (given .betas) (given .factors) (given .manner)
-      (given .caller) seed from to samples (Number count) squares squares′ fourths fourths′ work work′
+      (given .arrangement) (given .caller) seed from to samples (Number count) squares squares′ fourths fourths′ work work′
 
 -- The job of a call of `correlations`; and of a call for totals: of a configuration and beta, and of a sample and beta.
 abbrev pub jobOf : CorrelationsCall → Job Float

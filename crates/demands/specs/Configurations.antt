@@ -8,6 +8,7 @@ use native.Mathlib.Nat.{mod-lt, div-lt-iff-lt-mul}
 use native.Mathlib.Omega.{arith}
 use lib.Ieee.{Float}
 use lib.ListN.{length}
+use Rattle.transfer_matrix.specs.Room as Room
 use Rattle.limits.specs.declared.Caller.{Caller}
 use Rattle.list_laws.specs.Search.{some}
 use Rattle.list_laws.specs.Laws.Search.{none-at}
@@ -86,7 +87,7 @@ module _ (n floor : ℕ) (a b : List ℕ) (m factors : List Float) (manner : Man
 
 module _ (n floor : ℕ) (a b : List ℕ) (m : List Float) (us vs : List ℕ) (betas factors : List Float) (manner : Manner) (misfit : Bool) (work : ℕ) where
   -- a job whose sums are sound, of a call that the checks pass
-  pub signed-sound : AcceptedTotals n floor a b m us vs betas factors misfit work → (minus : ℕ → Bool) (beta : ℕ) → beta < length betas
+  pub signed-sound : {A : Room.Arrangement} → AcceptedTotals A n floor a b m us vs betas factors misfit work → (minus : ℕ → Bool) (beta : ℕ) → beta < length betas
       → unsound (signedJob n floor a b m factors manner minus beta) us vs ≡ false → Sound (signedJob n floor a b m factors manner minus beta) us vs
   signed-sound ok minus beta l none =
       let f = ok .job in
@@ -106,14 +107,14 @@ module _ (n floor : ℕ) (a b : List ℕ) (m : List Float) (us vs : List ℕ) (b
   abbrev bad : Bool
   bad = unsoundEnumeration n (windowFrom floor a b m) (early a b m) (late a b m) factors (mannerOf manner) us vs (length betas)
 
-  module _ (caller : Caller) (most : ℕ)
-      (accepted : refusal ofEnumeration (enumerationRequest caller n floor a b m us vs betas factors (free a b m) most misfit work bad) ≡ 0) where
-    pub enumeration-facts : AcceptedTotals n floor a b m us vs betas factors misfit work × (free a b m ≤ most)
-    enumeration-facts = accepted-enumeration caller n floor a b m us vs betas factors (free a b m) most misfit work bad 0 accepted (inl refl)
+  module _ (caller : Caller) (A : Room.Arrangement) (most : ℕ)
+      (accepted : refusal ofEnumeration (enumerationRequest caller A n floor a b m us vs betas factors (free a b m) most misfit work bad) ≡ 0) where
+    pub enumeration-facts : AcceptedTotals A n floor a b m us vs betas factors misfit work × (free a b m ≤ most)
+    enumeration-facts = accepted-enumeration caller A n floor a b m us vs betas factors (free a b m) most misfit work bad 0 accepted (inl refl)
 
     none-bad : bad ≡ false
     none-bad =
-        passed-at ofEnumeration (enumerationRequest caller n floor a b m us vs betas factors (free a b m) most misfit work bad) accepted Key.partitionSums refl
+        passed-at ofEnumeration (enumerationRequest caller A n floor a b m us vs betas factors (free a b m) most misfit work bad) accepted Key.partitionSums refl
 
     pub few-free : free a b m ≤ most
     few-free = enumeration-facts .1

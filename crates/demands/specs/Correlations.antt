@@ -9,6 +9,8 @@ use lib.Dec.{T}
 use lib.Ieee.{Float, nan}
 use lib.Ieee.Positive.{positive}
 use lib.ListN.{length, getD, length-map}
+use Rattle.plan_layout.specs.Arrangements.{arrangementOf}
+use Rattle.plan_layout.specs.declared.Arrangement.{Arrangement}
 use Rattle.limits.specs.declared.Caller.{Caller}
 use Rattle.fraction.specs.Value.{value}
 use Rattle.transfer_matrix.specs.Job.{Job}
@@ -35,17 +37,17 @@ use Rattle.demands.specs.Laws.Given.{checked-given}
 use Rattle.demands.specs.OneJob.{InUnit, Exact, Bounded, Sound, Z-positive, exact, bounded}
 use Rattle.demands.specs.Accurate.{nearOf, bound-known, made-close, close-within}
 
-module _ {n floor : ℕ} {a b : List ℕ} {m : List Float} {us vs : List ℕ} {factors : List Float} {manner : Manner} {caller : Caller} {r : ℕ}
-    {results results′ work work′ : List Float} (call : Correlated n floor a b m us vs factors manner caller r results results′ work work′) (accepted : r ≡ 0) where
+module _ {n floor : ℕ} {a b : List ℕ} {m : List Float} {us vs : List ℕ} {factors : List Float} {manner : Manner} {arrangement : Arrangement} {caller : Caller} {r : ℕ}
+    {results results′ work work′ : List Float} (call : Correlated n floor a b m us vs factors manner arrangement caller r results results′ work work′) (accepted : r ≡ 0) where
   abbrev job : Job Float
   job = jobGiven n floor a b m factors manner
 
-  facts : AcceptedCorrelations n floor a b m us vs factors (length results) (length work)
-  facts = accepted-correlations caller n floor a b m us vs factors (length results) (length work) (unsound job us vs) r (sym (call .answer)) (inl accepted)
+  facts : AcceptedCorrelations (arrangementOf arrangement) n floor a b m us vs factors (length results) (length work)
+  facts = accepted-correlations caller (arrangementOf arrangement) n floor a b m us vs factors (length results) (length work) (unsound job us vs) r (sym (call .answer)) (inl accepted)
 
   all-sound : unsound job us vs ≡ false
   all-sound =
-      passed-at ofCorrelations (correlationRequest caller n floor a b m us vs factors (length results) (length work) (unsound job us vs)) (sym (call .answer) ∙ accepted) Key.partitionSums refl
+      passed-at ofCorrelations (correlationRequest caller (arrangementOf arrangement) n floor a b m us vs factors (length results) (length work) (unsound job us vs)) (sym (call .answer) ∙ accepted) Key.partitionSums refl
 
   pub result-sound : Sound job us vs
   result-sound =

@@ -7,6 +7,8 @@ use native.Mathlib.Omega.{arith}
 use lib.Ieee.{Float, nan, binary64}
 use lib.ListN.{length, getD}
 use lib.Pow.{pow-pos, pow-mono}
+use Rattle.plan_layout.specs.Arrangements.{arrangementOf}
+use Rattle.plan_layout.specs.declared.Arrangement.{Arrangement}
 use Rattle.limits.specs.declared.Caller.{Caller}
 use Rattle.rounding.specs.Powers.{Ordered}
 use Rattle.fraction.specs.Fraction.{ℚ, invℚ}
@@ -41,24 +43,24 @@ use Rattle.demands.specs.Accurate.{Accurate}
 use Rattle.demands.specs.AccurateTotals as A
 use Rattle.demands.specs.OneJob.{Exact, Bounded, Sound, answerable, exact, bounded}
 
-module _ {n floor : ℕ} {a b : List ℕ} {m : List Float} {us vs : List ℕ} {betas factors : List Float} {manner : Manner} {caller : Caller}
+module _ {n floor : ℕ} {a b : List ℕ} {m : List Float} {us vs : List ℕ} {betas factors : List Float} {manner : Manner} {arrangement : Arrangement} {caller : Caller}
     {squares squares′ fourths fourths′ work work′ : List Float} {count : ℕ}
-    (call : Enumerated n floor a b m us vs betas factors manner caller (Number count) squares squares′ fourths fourths′ work work′) where
+    (call : Enumerated n floor a b m us vs betas factors manner arrangement caller (Number count) squares squares′ fourths fourths′ work work′) where
   abbrev free : ℕ
   free = C.free a b m
 
   abbrev configuration : ℕ → ℕ → Job Float
   configuration = C.configuration n floor a b m factors manner
 
-  accepted : (refusedEnumeration n floor a b m us vs betas factors manner caller (length squares) (length fourths) (length work) ≡ 0)
+  accepted : (refusedEnumeration n floor a b m us vs betas factors manner arrangement caller (length squares) (length fourths) (length work) ≡ 0)
       × (count ≡ enumeratedCount free)
   accepted = accepted-number _ _ count (call .call .answer)
 
   abbrev misfit : Bool
   misfit = misfits (length betas * length us) (length squares) (length fourths)
 
-  facts : AcceptedTotals n floor a b m us vs betas factors misfit (length work)
-  facts = enumeration-facts n floor a b m us vs betas factors manner misfit (length work) caller mostCounted (accepted .0) .0
+  facts : AcceptedTotals (arrangementOf arrangement) n floor a b m us vs betas factors misfit (length work)
+  facts = enumeration-facts n floor a b m us vs betas factors manner misfit (length work) caller (arrangementOf arrangement) mostCounted (accepted .0) .0
 
   -- The betas rise strictly.
   pub enumeration-rising : Rising betas
@@ -66,7 +68,7 @@ module _ {n floor : ℕ} {a b : List ℕ} {m : List Float} {us vs : List ℕ} {b
 
   -- Every configuration's job is sound at every beta.
   pub enumeration-sound : (x beta : ℕ) → x < 2 ^ free → beta < length betas → Sound (configuration x beta) us vs
-  enumeration-sound = configuration-sound n floor a b m us vs betas factors manner misfit (length work) caller mostCounted (accepted .0)
+  enumeration-sound = configuration-sound n floor a b m us vs betas factors manner misfit (length work) caller (arrangementOf arrangement) mostCounted (accepted .0)
 
   -- Exact: the totals are the definition's, of squares and of fourth powers,
   pub squares-are : (k : ℕ) → k < length betas * length us
@@ -94,7 +96,7 @@ module _ {n floor : ℕ} {a b : List ℕ} {m : List Float} {us vs : List ℕ} {b
   enumeration-bounded k l =
       let p = k % length us in
       let beta = k / length us in
-      let few = few-free n floor a b m us vs betas factors manner misfit (length work) caller mostCounted (accepted .0) in
+      let few = few-free n floor a b m us vs betas factors manner misfit (length work) caller (arrangementOf arrangement) mostCounted (accepted .0) in
       rw (squares-are k l, fourths-are k l, enumeration-counted)
       (enumerated-answers-bounded free (λ x. configuration x beta) (getD us p 0) (getD vs p 0) (omega arith)
       (λ x h. answerable (enumeration-sound x beta h (beta-inside (length betas) (length us) k l)) p (pair-inside (length betas) (length us) k l)))
@@ -125,7 +127,7 @@ module _ {n floor : ℕ} {a b : List ℕ} {m : List Float} {us vs : List ℕ} {b
       covered = chunks-cover free ∙ sym enumeration-counted
 
       few : chunkCount free * chunkSize free ≤ 2 ^ 34
-      few = rw (chunks-cover free) (pow-mono (few-free n floor a b m us vs betas factors manner misfit (length work) caller mostCounted (accepted .0)))
+      few = rw (chunks-cover free) (pow-mono (few-free n floor a b m us vs betas factors manner misfit (length work) caller (arrangementOf arrangement) mostCounted (accepted .0)))
 
       sound-at : (c j : ℕ) → c < chunkCount free → j < chunkSize free → Sound (configuration (c * chunkSize free + j) (k / length us)) us vs
       sound-at c j u v = enumeration-sound (c * chunkSize free + j) (k / length us) (configuration-lt free c j u v) (beta-inside (length betas) (length us) k l)

@@ -1,5 +1,6 @@
 -- What is proved of the definitions.
 pub mod Lists
+pub mod Alike
 pub mod Given
 pub mod Halves
 pub mod Summed

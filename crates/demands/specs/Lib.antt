@@ -12,5 +12,6 @@ pub mod Alone
 pub mod Strips
 pub mod Couplings
 pub mod Tester
+pub mod Arrangements
 -- and the laws of these definitions, which no reader needs to believe.
 pub mod Laws

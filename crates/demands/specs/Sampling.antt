@@ -9,6 +9,8 @@ use native.Mathlib.Omega.{arith}
 use lib.Dec.{lit≤}
 use lib.Ieee.{Float, nan, binary64}
 use lib.ListN.{length, getD}
+use Rattle.plan_layout.specs.Arrangements.{arrangementOf}
+use Rattle.plan_layout.specs.declared.Arrangement.{Arrangement}
 use Rattle.limits.specs.declared.Caller.{Caller}
 use Rattle.list_laws.specs.Search.{some}
 use Rattle.list_laws.specs.Laws.Search.{none-at}
@@ -51,9 +53,9 @@ use Rattle.demands.specs.Accurate.{Accurate}
 use Rattle.demands.specs.AccurateTotals as A
 use Rattle.demands.specs.OneJob.{Exact, Bounded, Sound, answerable, exact, bounded}
 
-module _ {n floor : ℕ} {a b : List ℕ} {m : List Float} {us vs : List ℕ} {betas factors : List Float} {manner : Manner} {caller : Caller} {seed from to samples : ℕ}
+module _ {n floor : ℕ} {a b : List ℕ} {m : List Float} {us vs : List ℕ} {betas factors : List Float} {manner : Manner} {arrangement : Arrangement} {caller : Caller} {seed from to samples : ℕ}
     {squares squares′ fourths fourths′ work work′ : List Float} {count : ℕ}
-    (call : Sampled n floor a b m us vs betas factors manner caller seed from to samples (Number count) squares squares′ fourths fourths′ work work′) where
+    (call : Sampled n floor a b m us vs betas factors manner arrangement caller seed from to samples (Number count) squares squares′ fourths fourths′ work work′) where
   -- The job of a chunk's sample, at a beta.
   abbrev drawn : (chunk sample : ℕ) → ℕ → Job Float
   drawn = C.drawnConfiguration n floor a b m factors manner seed
@@ -64,12 +66,12 @@ module _ {n floor : ℕ} {a b : List ℕ} {m : List Float} {us vs : List ℕ} {b
   abbrev misfit : Bool
   misfit = misfits (length betas * length us) (length squares) (length fourths)
 
-  accepted : (refusedSampling n floor a b m us vs betas factors manner caller seed from to samples (length squares) (length fourths) (length work) ≡ 0)
+  accepted : (refusedSampling n floor a b m us vs betas factors manner arrangement caller seed from to samples (length squares) (length fourths) (length work) ≡ 0)
       × (count ≡ sampledCount from to samples)
   accepted = accepted-number _ _ count (call .call .answer)
 
-  facts : AcceptedTotals n floor a b m us vs betas factors misfit (length work) × ((to - from) * samples ≤ 4294967296)
-  facts = accepted-sampling caller n floor a b m us vs betas factors (C.free a b m) from to samples misfit (length work) bad 0 (accepted .0) (inl refl)
+  facts : AcceptedTotals (arrangementOf arrangement) n floor a b m us vs betas factors misfit (length work) × ((to - from) * samples ≤ 4294967296)
+  facts = accepted-sampling caller (arrangementOf arrangement) n floor a b m us vs betas factors (C.free a b m) from to samples misfit (length work) bad 0 (accepted .0) (inl refl)
 
   -- The betas rise strictly.
   pub sampling-rising : Rising betas
@@ -77,7 +79,7 @@ module _ {n floor : ℕ} {a b : List ℕ} {m : List Float} {us vs : List ℕ} {b
 
   none-bad : bad ≡ false
   none-bad =
-      passed-at ofSampling (samplingRequest caller n floor a b m us vs betas factors (C.free a b m) from to samples misfit (length work) bad) (accepted .0) Key.partitionSums refl
+      passed-at ofSampling (samplingRequest caller (arrangementOf arrangement) n floor a b m us vs betas factors (C.free a b m) from to samples misfit (length work) bad) (accepted .0) Key.partitionSums refl
 
   -- the chunks by how far they are from the first
   drawn-sound : (i j beta : ℕ) → i < to - from → j < samples → beta < length betas → Sound (drawn (from + i) j beta) us vs

@@ -9,6 +9,8 @@ use lib.Dec.{eqb}
 use lib.Ieee.{Float, nan}
 use lib.ListN.{length, getD}
 use lib.Pow.{pow-pos}
+use Rattle.plan_layout.specs.Arrangements.{arrangementOf}
+use Rattle.plan_layout.specs.declared.Arrangement.{Arrangement}
 use Rattle.limits.specs.declared.Caller.{Caller}
 use Rattle.fraction.specs.Value.{value}
 use Rattle.forest.specs.FreeEdges.{bitOf}
@@ -36,9 +38,9 @@ use Rattle.demands.specs.Configurations.{accepted-number, pair-inside, b
 use Rattle.demands.specs.AccurateTotals.{exactly, signed-accurate}
 use Rattle.demands.specs.OneJob.{InUnit, Exact, Bounded, Sound, exact, bounded}
 
-module _ {n floor : ℕ} {a b : List ℕ} {m : List Float} {us vs : List ℕ} {betas factors : List Float} {manner : Manner} {caller : Caller}
+module _ {n floor : ℕ} {a b : List ℕ} {m : List Float} {us vs : List ℕ} {betas factors : List Float} {manner : Manner} {arrangement : Arrangement} {caller : Caller}
     {stored stored′ work work′ : List Float} {count : ℕ}
-    (call : EnumeratedEach n floor a b m us vs betas factors manner caller (Number count) stored stored′ work work′) where
+    (call : EnumeratedEach n floor a b m us vs betas factors manner arrangement caller (Number count) stored stored′ work work′) where
   abbrev free : ℕ
   free = C.free a b m
 
@@ -49,14 +51,14 @@ module _ {n floor : ℕ} {a b : List ℕ} {m : List Float} {us vs : List ℕ} {b
   abbrev size : ℕ
   size = storedCount (C.early a b m) (C.late a b m) us (length betas)
 
-  accepted : (refusedStoring n floor a b m us vs betas factors manner caller (length stored) (length work) ≡ 0) × (count ≡ enumeratedCount free)
+  accepted : (refusedStoring n floor a b m us vs betas factors manner arrangement caller (length stored) (length work) ≡ 0) × (count ≡ enumeratedCount free)
   accepted = accepted-number _ _ count (call .call .answer)
 
   abbrev misfit : Bool
   misfit = not (eqb (length stored) size)
 
-  facts : AcceptedTotals n floor a b m us vs betas factors misfit (length work)
-  facts = enumeration-facts n floor a b m us vs betas factors manner misfit (length work) caller mostStored (accepted .0) .0
+  facts : AcceptedTotals (arrangementOf arrangement) n floor a b m us vs betas factors misfit (length work)
+  facts = enumeration-facts n floor a b m us vs betas factors manner misfit (length work) caller (arrangementOf arrangement) mostStored (accepted .0) .0
 
   -- The betas rise strictly.
   pub storing-rising : Rising betas
@@ -64,7 +66,7 @@ module _ {n floor : ℕ} {a b : List ℕ} {m : List Float} {us vs : List ℕ} {b
 
   -- Every configuration's job is sound at every beta.
   pub storing-sound : (x beta : ℕ) → x < 2 ^ free → beta < length betas → Sound (configuration x beta) us vs
-  storing-sound = configuration-sound n floor a b m us vs betas factors manner misfit (length work) caller mostStored (accepted .0)
+  storing-sound = configuration-sound n floor a b m us vs betas factors manner misfit (length work) caller (arrangementOf arrangement) mostStored (accepted .0)
 
   -- Exact: each stored double is the definition's correlation,
   pub stored-are : (k : ℕ) → k < size → getD stored′ k nan ≡ correlationAt (configuration (k % 2 ^ free)) us vs (k / 2 ^ free)

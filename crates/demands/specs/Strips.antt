@@ -5,6 +5,7 @@ use mathlib.Core.List.{List, []}
 use Prim.Native.Nat.{ℕ, _*_, _^_, _≤_, _<_}
 use lib.Ieee.{Float, nan, binary64}
 use lib.ListN.{length, getD}
+use Rattle.plan_layout.specs.declared.Arrangement.{Arrangement}
 use Rattle.limits.specs.declared.Caller.{Caller}
 use Rattle.rounding.specs.Powers.{Ordered}
 use Rattle.transfer_matrix.specs.Job.{Job}
@@ -32,7 +33,7 @@ pub record Demanded (J : Job Float) (us vs : List ℕ) (told : ErrorBound) : Typ
   pub accurate : (bound : Float) → told ≡ Within bound → Accurate J us vs bound
 
 -- A strip, and what else its jobs have. The magnitudes may be 1.0 throughout, drawn by dilution, or the caller's own.
-module _ (s : Strip) (floor : ℕ) (m : List Float) (us vs : List ℕ) (factors : List Float) (manner : Manner) (caller : Caller) where
+module _ (s : Strip) (floor : ℕ) (m : List Float) (us vs : List ℕ) (factors : List Float) (manner : Manner) (arrangement : Arrangement) (caller : Caller) where
   abbrev n : ℕ
   n = s .w * s .l
 
@@ -43,7 +44,7 @@ module _ (s : Strip) (floor : ℕ) (m : List Float) (us vs : List ℕ) (factors 
   b = lateEnds (edges s)
 
   -- Of every accepted call of `correlations`,
-  pub strip-result : {results results′ work work′ : List Float} → Correlated n floor a b m us vs factors manner caller 0 results results′ work work′
+  pub strip-result : {results results′ work work′ : List Float} → Correlated n floor a b m us vs factors manner arrangement caller 0 results results′ work work′
       → Demanded (jobGiven n floor a b m factors manner) us vs (errorBoundOf n floor a b m [] factors false)
   strip-result call =
       record {
@@ -58,7 +59,7 @@ module _ (s : Strip) (floor : ℕ) (m : List Float) (us vs : List ℕ) (factors 
 
     -- of `exhaustive`, every configuration and beta,
     pub strip-enumeration : {count : ℕ} {squares squares′ fourths fourths′ work work′ : List Float}
-        → Enumerated n floor a b m us vs betas factors manner caller (Number count) squares squares′ fourths fourths′ work work′
+        → Enumerated n floor a b m us vs betas factors manner arrangement caller (Number count) squares squares′ fourths fourths′ work work′
         → (x beta : ℕ) → x < 2 ^ free a b m → beta < length betas → Demanded (configuration n floor a b m factors manner x beta) us vs told
     strip-enumeration call x beta h l =
         record {
@@ -69,13 +70,13 @@ module _ (s : Strip) (floor : ℕ) (m : List Float) (us vs : List ℕ) (factors 
 
     -- whose totals are in order too,
     pub strip-totals : {count : ℕ} {squares squares′ fourths fourths′ work work′ : List Float}
-        → Enumerated n floor a b m us vs betas factors manner caller (Number count) squares squares′ fourths fourths′ work work′
+        → Enumerated n floor a b m us vs betas factors manner arrangement caller (Number count) squares squares′ fourths fourths′ work work′
         → (k : ℕ) → k < length betas * length us → Ordered binary64 (getD fourths′ k nan) (getD squares′ k nan) count
     strip-totals call = enumeration-bounded call
 
     -- of `exhaustive_c`, the same,
     pub strip-stored : {count : ℕ} {stored stored′ work work′ : List Float}
-        → EnumeratedEach n floor a b m us vs betas factors manner caller (Number count) stored stored′ work work′
+        → EnumeratedEach n floor a b m us vs betas factors manner arrangement caller (Number count) stored stored′ work work′
         → (x beta : ℕ) → x < 2 ^ free a b m → beta < length betas → Demanded (configuration n floor a b m factors manner x beta) us vs told
     strip-stored call x beta h l =
         record {
@@ -86,7 +87,7 @@ module _ (s : Strip) (floor : ℕ) (m : List Float) (us vs : List ℕ) (factors 
 
     -- and of `sample`, every sample and beta, and its totals.
     pub strip-sampling : {seed from to samples count : ℕ} {squares squares′ fourths fourths′ work work′ : List Float}
-        → Sampled n floor a b m us vs betas factors manner caller seed from to samples (Number count) squares squares′ fourths fourths′ work work′
+        → Sampled n floor a b m us vs betas factors manner arrangement caller seed from to samples (Number count) squares squares′ fourths fourths′ work work′
         → (chunk j beta : ℕ) → from ≤ chunk → chunk < to → j < samples → beta < length betas
         → Demanded (drawnConfiguration n floor a b m factors manner seed chunk j beta) us vs told
     strip-sampling call chunk j beta u v i l =
@@ -97,6 +98,6 @@ module _ (s : Strip) (floor : ℕ) (m : List Float) (us vs : List ℕ) (factors 
         }
 
     pub strip-sampled-totals : {seed from to samples count : ℕ} {squares squares′ fourths fourths′ work work′ : List Float}
-        → Sampled n floor a b m us vs betas factors manner caller seed from to samples (Number count) squares squares′ fourths fourths′ work work′
+        → Sampled n floor a b m us vs betas factors manner arrangement caller seed from to samples (Number count) squares squares′ fourths fourths′ work work′
         → (k : ℕ) → k < length betas * length us → Ordered binary64 (getD fourths′ k nan) (getD squares′ k nan) count
     strip-sampled-totals call = sampling-bounded call

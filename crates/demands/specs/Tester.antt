@@ -9,6 +9,8 @@ use lib.Dec.{eqb}
 use lib.Ieee.{Float}
 use lib.ListN.{length}
 use borrow.Author.Tests.{ltb-false}
+use Rattle.plan_layout.specs.Arrangements.{arrangementOf}
+use Rattle.plan_layout.specs.declared.Arrangement.{Arrangement}
 use Rattle.limits.specs.declared.Caller.{Caller}
 use Rattle.limits.specs.declared.Caller.the-variants.{Desk, Tester}
 use Rattle.limits.specs.Limits.{testerWindow, testerFree}
@@ -52,25 +54,25 @@ number-told (suc k) x j e = ap held e
 
 -- ---- `correlations`
 
-module _ (n floor : ℕ) (a b : List ℕ) (m : List Float) (us vs : List ℕ) (factors : List Float) (manner : Manner) (results work : List Float) where
+module _ (n floor : ℕ) (a b : List ℕ) (m : List Float) (us vs : List ℕ) (factors : List Float) (manner : Manner) (arrangement : Arrangement) (results work : List Float) where
   abbrev request : Caller → Request
   request caller =
-      correlationRequest caller n floor a b m us vs factors (length results) (length work) (unsound (jobGiven n floor a b m factors manner) us vs)
+      correlationRequest caller (arrangementOf arrangement) n floor a b m us vs factors (length results) (length work) (unsound (jobGiven n floor a b m factors manner) us vs)
 
   -- The answer and the lists are the desk's,
   pub results-at-desk : {r s : ℕ} {results′ results″ work′ work″ : List Float}
-      → Correlated n floor a b m us vs factors manner Tester r results results′ work work′ → (r ≡ 22 → ⊥)
-      → Correlated n floor a b m us vs factors manner Desk s results results″ work work″ → (r ≡ s) × (results′ ≡ results″) × (work′ ≡ work″)
+      → Correlated n floor a b m us vs factors manner arrangement Tester r results results′ work work′ → (r ≡ 22 → ⊥)
+      → Correlated n floor a b m us vs factors manner arrangement Desk s results results″ work work″ → (r ≡ s) × (results′ ≡ results″) × (work′ ≡ work″)
   results-at-desk {r} {s} t h d =
       let e : r ≡ s = t .answer ∙ as-at-desk ofCorrelations (request Tester) (λ p. h (t .answer ∙ p)) ∙ sym (d .answer) in
       (e, t .answers ∙ rw e (sym (d .answers)), t .memory ∙ rw e (sym (d .memory)))
 
   -- which is never refused by 22;
-  pub results-desk-not-22 : {r : ℕ} {results′ work′ : List Float} → Correlated n floor a b m us vs factors manner Desk r results results′ work work′ → r ≡ 22 → ⊥
+  pub results-desk-not-22 : {r : ℕ} {results′ work′ : List Float} → Correlated n floor a b m us vs factors manner arrangement Desk r results results′ work work′ → r ≡ 22 → ⊥
   results-desk-not-22 d p = desk-not-22 ofCorrelations (request Desk) (sym (d .answer) ∙ p)
 
   -- and the window of an accepted call is within the limit.
-  pub results-tester-window : {results′ work′ : List Float} → Correlated n floor a b m us vs factors manner Tester 0 results results′ work work′
+  pub results-tester-window : {results′ work′ : List Float} → Correlated n floor a b m us vs factors manner arrangement Tester 0 results results′ work work′
       → windowFrom floor a b m ≤ testerWindow
   results-tester-window t = ltb-false testerWindow (windowFrom floor a b m) (passed-at ofCorrelations (request Tester) (sym (t .answer)) Key.testerWindow refl)
 
@@ -95,30 +97,30 @@ module _ {k j count : ℕ} {correlations : List Float} {end : ℕ} {r s : Answer
       let e : k ≡ j = desk (λ p. h (t .answer ∙ ap (λ (i : ℕ). answered i count) p)) in
       (t .answer ∙ rw e (sym (d .answer)), t .stored-are ∙ rw e (sym (d .stored-are)), t .memory ∙ rw e (sym (d .memory)))
 
-module _ (n floor : ℕ) (a b : List ℕ) (m : List Float) (us vs : List ℕ) (betas factors : List Float) (manner : Manner) where
+module _ (n floor : ℕ) (a b : List ℕ) (m : List Float) (us vs : List ℕ) (betas factors : List Float) (manner : Manner) (arrangement : Arrangement) where
   abbrev given : Given
-  given = record { n = n; floor = floor; a = a; b = b; m = m; us = us; vs = vs; betas = betas; factors = factors; manner = manner; caller = Desk }
+  given = record { n = n; floor = floor; a = a; b = b; m = m; us = us; vs = vs; betas = betas; factors = factors; manner = manner; arrangement = arrangement; caller = Desk }
 
   -- ---- `exhaustive`
 
   module _ (squares fourths work : List Float) where
     abbrev counting : Caller → Request
     counting caller =
-        enumerationRequest caller n floor a b m us vs betas factors (free a b m) mostCounted
+        enumerationRequest caller (arrangementOf arrangement) n floor a b m us vs betas factors (free a b m) mostCounted
         (misfits (length betas * length us) (length squares) (length fourths)) (length work) (unsoundAll given)
 
     pub totals-at-desk : {r s : Answer} {squares′ squares″ fourths′ fourths″ work′ work″ : List Float}
-        → Enumerated n floor a b m us vs betas factors manner Tester r squares squares′ fourths fourths′ work work′ → (r ≡ Refused 22 → ⊥)
-        → Enumerated n floor a b m us vs betas factors manner Desk s squares squares″ fourths fourths″ work work″
+        → Enumerated n floor a b m us vs betas factors manner arrangement Tester r squares squares′ fourths fourths′ work work′ → (r ≡ Refused 22 → ⊥)
+        → Enumerated n floor a b m us vs betas factors manner arrangement Desk s squares squares″ fourths fourths″ work work″
         → (r ≡ s) × (squares′ ≡ squares″) × (fourths′ ≡ fourths″) × (work′ ≡ work″)
     totals-at-desk t h d = same-totals (as-at-desk ofEnumeration (counting Tester)) (t .call) h (d .call)
 
     pub totals-desk-not-22 : {r : Answer} {squares′ fourths′ work′ : List Float}
-        → Enumerated n floor a b m us vs betas factors manner Desk r squares squares′ fourths fourths′ work work′ → r ≡ Refused 22 → ⊥
+        → Enumerated n floor a b m us vs betas factors manner arrangement Desk r squares squares′ fourths fourths′ work work′ → r ≡ Refused 22 → ⊥
     totals-desk-not-22 d p = desk-not-22 ofEnumeration (counting Desk) (number-told _ _ 21 (sym (d .call .answer) ∙ p))
 
     pub totals-tester-limits : {count : ℕ} {squares′ fourths′ work′ : List Float}
-        → Enumerated n floor a b m us vs betas factors manner Tester (Number count) squares squares′ fourths fourths′ work work′
+        → Enumerated n floor a b m us vs betas factors manner arrangement Tester (Number count) squares squares′ fourths fourths′ work work′
         → (windowFrom floor a b m ≤ testerWindow) × (free a b m ≤ testerFree)
     totals-tester-limits t =
         let z = accepted-number _ _ _ (t .call .answer) .0 in (
@@ -131,20 +133,20 @@ module _ (n floor : ℕ) (a b : List ℕ) (m : List Float) (us vs : List ℕ) (b
   module _ (stored work : List Float) where
     abbrev storing : Caller → Request
     storing caller =
-        enumerationRequest caller n floor a b m us vs betas factors (free a b m) mostStored (misfitStored given (length stored)) (length work)
+        enumerationRequest caller (arrangementOf arrangement) n floor a b m us vs betas factors (free a b m) mostStored (misfitStored given (length stored)) (length work)
         (unsoundAll given)
 
     pub stored-at-desk : {r s : Answer} {stored′ stored″ work′ work″ : List Float}
-        → EnumeratedEach n floor a b m us vs betas factors manner Tester r stored stored′ work work′ → (r ≡ Refused 22 → ⊥)
-        → EnumeratedEach n floor a b m us vs betas factors manner Desk s stored stored″ work work″ → (r ≡ s) × (stored′ ≡ stored″) × (work′ ≡ work″)
+        → EnumeratedEach n floor a b m us vs betas factors manner arrangement Tester r stored stored′ work work′ → (r ≡ Refused 22 → ⊥)
+        → EnumeratedEach n floor a b m us vs betas factors manner arrangement Desk s stored stored″ work work″ → (r ≡ s) × (stored′ ≡ stored″) × (work′ ≡ work″)
     stored-at-desk t h d = same-stored (as-at-desk ofEnumeration (storing Tester)) (t .call) h (d .call)
 
     pub stored-desk-not-22 : {r : Answer} {stored′ work′ : List Float}
-        → EnumeratedEach n floor a b m us vs betas factors manner Desk r stored stored′ work work′ → r ≡ Refused 22 → ⊥
+        → EnumeratedEach n floor a b m us vs betas factors manner arrangement Desk r stored stored′ work work′ → r ≡ Refused 22 → ⊥
     stored-desk-not-22 d p = desk-not-22 ofEnumeration (storing Desk) (number-told _ _ 21 (sym (d .call .answer) ∙ p))
 
     pub stored-tester-limits : {count : ℕ} {stored′ work′ : List Float}
-        → EnumeratedEach n floor a b m us vs betas factors manner Tester (Number count) stored stored′ work work′
+        → EnumeratedEach n floor a b m us vs betas factors manner arrangement Tester (Number count) stored stored′ work work′
         → (windowFrom floor a b m ≤ testerWindow) × (free a b m ≤ testerFree)
     stored-tester-limits t =
         let z = accepted-number _ _ _ (t .call .answer) .0 in (
@@ -157,21 +159,21 @@ module _ (n floor : ℕ) (a b : List ℕ) (m : List Float) (us vs : List ℕ) (b
   module _ (seed from to samples : ℕ) (squares fourths work : List Float) where
     abbrev drawing : Caller → Request
     drawing caller =
-        samplingRequest caller n floor a b m us vs betas factors (free a b m) from to samples
+        samplingRequest caller (arrangementOf arrangement) n floor a b m us vs betas factors (free a b m) from to samples
         (misfits (length betas * length us) (length squares) (length fourths)) (length work) (unsoundDrawn given seed from to samples)
 
     pub samples-at-desk : {r s : Answer} {squares′ squares″ fourths′ fourths″ work′ work″ : List Float}
-        → Sampled n floor a b m us vs betas factors manner Tester seed from to samples r squares squares′ fourths fourths′ work work′ → (r ≡ Refused 22 → ⊥)
-        → Sampled n floor a b m us vs betas factors manner Desk seed from to samples s squares squares″ fourths fourths″ work work″
+        → Sampled n floor a b m us vs betas factors manner arrangement Tester seed from to samples r squares squares′ fourths fourths′ work work′ → (r ≡ Refused 22 → ⊥)
+        → Sampled n floor a b m us vs betas factors manner arrangement Desk seed from to samples s squares squares″ fourths fourths″ work work″
         → (r ≡ s) × (squares′ ≡ squares″) × (fourths′ ≡ fourths″) × (work′ ≡ work″)
     samples-at-desk t h d = same-totals (as-at-desk ofSampling (drawing Tester)) (t .call) h (d .call)
 
     pub samples-desk-not-22 : {r : Answer} {squares′ fourths′ work′ : List Float}
-        → Sampled n floor a b m us vs betas factors manner Desk seed from to samples r squares squares′ fourths fourths′ work work′ → r ≡ Refused 22 → ⊥
+        → Sampled n floor a b m us vs betas factors manner arrangement Desk seed from to samples r squares squares′ fourths fourths′ work work′ → r ≡ Refused 22 → ⊥
     samples-desk-not-22 d p = desk-not-22 ofSampling (drawing Desk) (number-told _ _ 21 (sym (d .call .answer) ∙ p))
 
     pub samples-tester-window : {count : ℕ} {squares′ fourths′ work′ : List Float}
-        → Sampled n floor a b m us vs betas factors manner Tester seed from to samples (Number count) squares squares′ fourths fourths′ work work′
+        → Sampled n floor a b m us vs betas factors manner arrangement Tester seed from to samples (Number count) squares squares′ fourths fourths′ work work′
         → windowFrom floor a b m ≤ testerWindow
     samples-tester-window t =
         ltb-false testerWindow (windowFrom floor a b m)

@@ -13,7 +13,9 @@ use Rattle.list_laws.specs.Front.{over}
 use Rattle.transfer_matrix.specs.Job as Job
 use Rattle.transfer_matrix.specs.Job.{Job, block, perElement}
 use Rattle.transfer_matrix.specs.Configuration.{jobOf}
-use Rattle.transfer_matrix.specs.Room.{room}
+use Rattle.transfer_matrix.specs.Room as Room
+use Rattle.plan_layout.specs.declared.Arrangement.{Arrangement}
+use Rattle.plan_layout.specs.Arrangements.{arrangementOf}
 use Rattle.transfer_matrix.specs.Rounded.{ieee}
 use Rattle.transfer_matrix.specs.Sweep as S
 use Rattle.refusals.specs.Edges.{kept, windowFrom, keptEarly, keptLate}
@@ -32,22 +34,25 @@ use Rattle.entry_correlations.specs.Correlations.{mannerOf, jobGiven, se
 use Rattle.entry_correlations.specs.Laws.Settling.{settled-not, cleared-not, not-14}
 use Rattle.entry_correlations.specs.declared.Manner.{Manner}
 
-module _ (n floor : ℕ) (a b : List ℕ) (m : List Float) (us vs : List ℕ) (factors : List Float) (manner : Manner) (caller : Caller) (results work : List Float) where
+module _ (n floor : ℕ) (a b : List ℕ) (m : List Float) (us vs : List ℕ) (factors : List Float) (manner : Manner) (arrangement : Arrangement) (caller : Caller) (results work : List Float) where
   abbrev job : Job Float
   job = jobGiven n floor a b m factors manner
+
+  abbrev A : Room.Arrangement
+  A = arrangementOf arrangement
 
   abbrev early-refusal : ℕ
   early-refusal = refusal ofJob (callRequest caller n floor a b m us vs [])
 
   abbrev lists-refusal : ℕ
-  lists-refusal = listsRefusal n (windowFrom floor a b m) (length (kept a b m)) us vs factors (length results) (length work)
+  lists-refusal = listsRefusal A n (windowFrom floor a b m) (length (kept a b m)) us vs factors (length results) (length work)
 
-  whole : refusal ofCorrelations (correlationRequest caller n floor a b m us vs factors (length results) (length work) (unsound job us vs))
+  whole : refusal ofCorrelations (correlationRequest caller A n floor a b m us vs factors (length results) (length work) (unsound job us vs))
       ≡ orElse early-refusal (orElse lists-refusal (cond (unsound job us vs) 14 0))
-  whole = correlations-in-parts caller n floor a b m us vs factors (length results) (length work) (unsound job us vs)
+  whole = correlations-in-parts caller n floor a b m us vs A factors (length results) (length work) (unsound job us vs)
 
   -- refused by one of 1 to 8
-  pub refused-early : (r : ℕ) → r ≡ early-refusal → (r ≡ 0 → ⊥) → Correlated n floor a b m us vs factors manner caller r results results work work
+  pub refused-early : (r : ℕ) → r ≡ early-refusal → (r ≡ 0 → ⊥) → Correlated n floor a b m us vs factors manner arrangement caller r results results work work
   refused-early r e z =
       let q = not-14 ofJob early-refusal refl (is-among ofJob (callRequest caller n floor a b m us vs []) checks) in
       record {
@@ -62,10 +67,10 @@ module _ (n floor : ℕ) (a b : List ℕ) (m : List Float) (us vs : List ℕ) (f
 
   -- by 10, 12 or 13
   pub refused-lists : (r : ℕ) → 0 ≡ early-refusal → r ≡ lists-refusal → (r ≡ 0 → ⊥)
-      → Correlated n floor a b m us vs factors manner caller r results results work work
+      → Correlated n floor a b m us vs factors manner arrangement caller r results results work work
   refused-lists r o e z =
       let q = not-14 ofLists lists-refusal refl
-      (is-among ofLists (correlationRequest caller n floor a b m us vs factors (length results) (length work) false) checks) in
+      (is-among ofLists (correlationRequest caller A n floor a b m us vs factors (length results) (length work) false) checks) in
       record {
         answer = go lists-refusal e ∙ ap (λ (k : ℕ). orElse k (orElse lists-refusal (cond (unsound job us vs) 14 0))) o ∙ sym whole;
         answers = settled-not r _ results z (λ p. q (sym e ∙ p));
@@ -79,7 +84,7 @@ module _ (n floor : ℕ) (a b : List ℕ) (m : List Float) (us vs : List ℕ) (f
   -- by none of these: the job was finished
   module _ (o : 0 ≡ early-refusal) (e : 0 ≡ lists-refusal) (results′ work′ : List Float) (fits : length results ≡ length us) where
     late : (t : Bool) → unsound job us vs ≡ t → cond t 14 0 ≡ refusal ofCorrelations
-        (correlationRequest caller n floor a b m us vs factors (length results) (length work) (unsound job us vs))
+        (correlationRequest caller A n floor a b m us vs factors (length results) (length work) (unsound job us vs))
     late t p =
         sym (ap (λ (x : Bool). cond x 14 0) p) ∙ ap (λ (k : ℕ). orElse k (cond (unsound job us vs) 14 0)) e
         ∙ ap (λ (k : ℕ). orElse k (orElse lists-refusal (cond (unsound job us vs) 14 0))) o ∙ sym whole
@@ -90,13 +95,13 @@ module _ (n floor : ℕ) (a b : List ℕ) (m : List Float) (us vs : List ℕ) (f
     turned false true p = refl
     turned false false p = p
 
-    pub accepted : JobFinished job n (length (kept a b m)) us vs true results′ work work′
-        → Correlated n floor a b m us vs factors manner caller 0 results results′ work work′
+    pub accepted : JobFinished job A n (length (kept a b m)) us vs true results′ work work′
+        → Correlated n floor a b m us vs factors manner arrangement caller 0 results results′ work work′
     unfolding settled cleared
     accepted g = record { answer = late false (turned true _ (g .told)); answers = g .answers; memory = g .memory }
 
-    pub refused-14 : JobFinished job n (length (kept a b m)) us vs false results′ work work′
-        → Correlated n floor a b m us vs factors manner caller 14 results results′ work work′
+    pub refused-14 : JobFinished job A n (length (kept a b m)) us vs false results′ work work′
+        → Correlated n floor a b m us vs factors manner arrangement caller 14 results results′ work work′
     unfolding settled cleared
     refused-14 g =
         record { answer = late true (turned false _ (g .told)); answers = g .answers ∙ ap zeros (sym fits); memory = g .memory }
@@ -105,27 +110,27 @@ module _ (n floor : ℕ) (a b : List ℕ) (m : List Float) (us vs : List ℕ) (f
 
 module _ {n floor : ℕ} {a b : List ℕ} {m : List Float} {us vs : List ℕ} {k w : ℕ} {early early′ late late′ : List ℕ} {mag mag′ : List Float}
     (g : ReadyJob n floor a b m us vs k w early early′ late late′ mag mag′) where
-  pub lists-of : (factors : List Float) (results work : ℕ)
-      → listsRefusal n w k us vs factors results work ≡ listsRefusal n (windowFrom floor a b m) (length (kept a b m)) us vs factors results work
-  lists-of factors results work = rw (g .window, g .written .edges)
+  pub lists-of : (A B : Room.Arrangement) → A ≡ B → (factors : List Float) (results work : ℕ)
+      → listsRefusal A n w k us vs factors results work ≡ listsRefusal B n (windowFrom floor a b m) (length (kept a b m)) us vs factors results work
+  lists-of A B e factors results work = rw (e, g .window, g .written .edges)
 
-  pub passed-of : (factors : List Float) (results work : ℕ) → listsRefusal n w k us vs factors results work ≡ 0
-      → JobPassed n w (take k early′) (take k late′) us vs factors results work
-  passed-of factors results work z =
-      let l = accepted-lists n w k us vs factors results work z in
+  pub passed-of : (A : Room.Arrangement) (factors : List Float) (results work : ℕ) → listsRefusal A n w k us vs factors results work ≡ 0
+      → JobPassed A n w (take k early′) (take k late′) us vs factors results work
+  passed-of A factors results work z =
+      let l = accepted-lists A n w k us vs factors results work z in
       rw (front-early (g .written))
-      record { job = rw (← front-early (g .written)) (plannable g work (l .enough)); factored = l .factor-count ∙ g .written .edges ∙ sym (edge-count g); fitting = l .fitting }
+      record { job = rw (← front-early (g .written)) (plannable g A work (l .enough)); factored = l .factor-count ∙ g .written .edges ∙ sym (edge-count g); fitting = l .fitting }
 
-  pub finished-of : (factors : List Float) (manner : Manner) (each sound : Bool) (results work work′ : List Float)
+  pub finished-of : (A B : Room.Arrangement) → A ≡ B → (factors : List Float) (manner : Manner) (each sound : Bool) (results work work′ : List Float)
       → cond each perElement block ≡ mannerOf manner
-      → JobFinished (jobOf nan n w (take k early′) (take k late′) factors (cond each perElement block)) n (length (take k early′)) us vs sound results work work′
-      → JobFinished (jobGiven n floor a b m factors manner) n (length (kept a b m)) us vs sound results work work′
-  finished-of factors manner each sound results work work′ e f =
+      → JobFinished (jobOf nan n w (take k early′) (take k late′) factors (cond each perElement block)) A n (length (take k early′)) us vs sound results work work′
+      → JobFinished (jobGiven n floor a b m factors manner) B n (length (kept a b m)) us vs sound results work work′
+  finished-of A B eA factors manner each sound results work work′ e f =
       let p : JobFinished (jobOf nan n w (keptEarly a b m) (keptLate a b m) factors (cond each perElement block))
-      n (length (keptEarly a b m)) us vs sound results work work′ = rw (← front-early (g .written), ← front-late (g .written)) f in
+      A n (length (keptEarly a b m)) us vs sound results work work′ = rw (← front-early (g .written), ← front-late (g .written)) f in
       let q = subst (λ (v : ℕ). JobFinished (jobOf nan n v (keptEarly a b m) (keptLate a b m) factors (cond each perElement block))
-      n (length (keptEarly a b m)) us vs sound results work work′) (g .window) p in
+      A n (length (keptEarly a b m)) us vs sound results work work′) (g .window) p in
       let s = subst (λ (c : ℕ). JobFinished (jobOf nan n (windowFrom floor a b m) (keptEarly a b m) (keptLate a b m) factors (cond each perElement block))
-      n c us vs sound results work work′) (edge-count g) q in
-      subst (λ (x : Job.Manner). JobFinished (jobOf nan n (windowFrom floor a b m) (keptEarly a b m) (keptLate a b m) factors x)
-      n (length (kept a b m)) us vs sound results work work′) e s
+      A n c us vs sound results work work′) (edge-count g) q in
+      rw (← eA) (subst (λ (x : Job.Manner). JobFinished (jobOf nan n (windowFrom floor a b m) (keptEarly a b m) (keptLate a b m) factors x)
+      A n (length (kept a b m)) us vs sound results work work′) e s)

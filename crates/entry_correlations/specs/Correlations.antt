@@ -17,6 +17,8 @@ use Rattle.transfer_matrix.specs.Sweep as S
 use Rattle.refusals.specs.Edges.{kept, windowFrom, keptEarly, keptLate}
 use Rattle.refusals.specs.Request.{correlationRequest}
 use Rattle.refusals.specs.Refusal.{refusal, ofCorrelations}
+use Rattle.plan_layout.specs.declared.Arrangement.{Arrangement}
+use Rattle.plan_layout.specs.Arrangements.{arrangementOf}
 use Rattle.pair_correlations.specs.Sound.{unsound}
 use Rattle.job_run.specs.Zeros.{zeros}
 use Rattle.entry_correlations.specs.declared.Manner.{Manner}
@@ -42,8 +44,8 @@ cleared refused end old = cond (eqb refused 0 || eqb refused 14) (over (zeros en
 
 -- The answer r of a caller's call, and the results and the work memory after it.
 pub record Correlated (n floor : ℕ) (a b : List ℕ) (m : List Float) (us vs : List ℕ) (factors : List Float) (manner : Manner)
-    (caller : Caller) (r : ℕ) (results results′ work work′ : List Float) : Type 0 where
+    (arrangement : Arrangement) (caller : Caller) (r : ℕ) (results results′ work work′ : List Float) : Type 0 where
   pub answer : r ≡ refusal ofCorrelations
-      (correlationRequest caller n floor a b m us vs factors (length results) (length work) (unsound (jobGiven n floor a b m factors manner) us vs))
+      (correlationRequest caller (arrangementOf arrangement) n floor a b m us vs factors (length results) (length work) (unsound (jobGiven n floor a b m factors manner) us vs))
   pub answers : results′ ≡ settled r (S.answers ieee (jobGiven n floor a b m factors manner) us vs) results
-  pub memory : work′ ≡ cleared r (room n (windowFrom floor a b m) (length (kept a b m)) us vs) work
+  pub memory : work′ ≡ cleared r (room (arrangementOf arrangement) n (windowFrom floor a b m) (length (kept a b m)) us vs) work

@@ -7,6 +7,8 @@ use job_checks::check_job;
 use job_run::answer_job;
 use limits::Caller;
 use limits::EDGES;
+use plan_layout::Arrangement;
+use plan_layout::takes_less;
 
 // Writes the correlation of each pair to `results`. The edges come in three lists of ends and magnitudes, the pairs in two lists of ends;
 // one factor is lent for each kept edge. Returns the refusal's number, 0 for accepted.
@@ -20,12 +22,13 @@ pub fn correlations(
     vs: &[usize],
     factors: &[f64],
     manner: Manner,
+    arrangement: Arrangement,
     caller: Caller,
     results: &mut [f64],
     work: &mut [f64],
 ) -> usize
     ensures { λ r. ⌜ Correlated n floor (now (a .entry)) (now (b .entry)) (now (m .entry)) (now (us .entry)) (now (vs .entry))
-        (now (factors .entry)) manner caller r (now (results .entry)) (now (results .exit)) (now (work .entry)) (now (work .exit)) ⌝ }
+        (now (factors .entry)) manner arrangement caller r (now (results .entry)) (now (results .exit)) (now (work .entry)) (now (work .exit)) ⌝ }
 {
     let mut early = [0usize; EDGES];
     let mut late = [0usize; EDGES];
@@ -49,7 +52,18 @@ pub fn correlations(
     }
     let w = job.window;
     let edges = job.edges;
-    let unfit = check_lists(n, w, edges, us, vs, factors, results.len(), work.len());
+    let less = takes_less(arrangement);
+    let unfit = check_lists(
+        less,
+        n,
+        w,
+        edges,
+        us,
+        vs,
+        factors,
+        results.len(),
+        work.len(),
+    );
     if unfit != 0 {
         return unfit;
     }
@@ -63,6 +77,7 @@ pub fn correlations(
         vs,
         factors,
         elementwise,
+        less,
         results,
         work,
     ) {

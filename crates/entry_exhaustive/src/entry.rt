@@ -8,6 +8,8 @@ use job_checks::check_with_betas;
 use limits::COUNTED;
 use limits::Caller;
 use limits::EDGES;
+use plan_layout::Arrangement;
+use plan_layout::takes_less;
 use refusals::Answer;
 use step_tables::pow2;
 use totals_chunks::all_chunks;
@@ -26,15 +28,17 @@ pub fn exhaustive(
     betas: &[f64],
     factors: &[f64],
     manner: Manner,
+    arrangement: Arrangement,
     caller: Caller,
     squares: &mut [f64],
     fourths: &mut [f64],
     work: &mut [f64],
 ) -> Answer
     ensures { λ r. ⌜ Enumerated n floor (now (a .entry)) (now (b .entry)) (now (m .entry)) (now (us .entry)) (now (vs .entry))
-        (now (betas .entry)) (now (factors .entry)) manner caller r (now (squares .entry)) (now (squares .exit))
+        (now (betas .entry)) (now (factors .entry)) manner arrangement caller r (now (squares .entry)) (now (squares .exit))
         (now (fourths .entry)) (now (fourths .exit)) (now (work .entry)) (now (work .exit)) ⌝ }
 {
+    let less = takes_less(arrangement);
     let mut early = [0usize; EDGES];
     let mut late = [0usize; EDGES];
     let mut mag = [0.0f64; EDGES];
@@ -62,6 +66,7 @@ pub fn exhaustive(
     let free = number_free_edges(n, &early[..edges], &late[..edges], &mut bits[..edges]);
     let unfit = check_enumeration(
         caller,
+        less,
         n,
         w,
         edges,
@@ -85,6 +90,7 @@ pub fn exhaustive(
         n,
         w,
         elementwise,
+        less,
         &early[..edges],
         &late[..edges],
         &bits[..edges],

@@ -12,6 +12,8 @@ use job_checks::check_with_betas;
 use limits::Caller;
 use limits::EDGES;
 use limits::STORED;
+use plan_layout::Arrangement;
+use plan_layout::takes_less;
 use refusals::Answer;
 use step_tables::pow2;
 
@@ -39,13 +41,15 @@ pub fn exhaustive_c(
     betas: &[f64],
     factors: &[f64],
     manner: Manner,
+    arrangement: Arrangement,
     caller: Caller,
     stored: &mut [f64],
     work: &mut [f64],
 ) -> Answer
     ensures { λ r. ⌜ EnumeratedEach n floor (now (a .entry)) (now (b .entry)) (now (m .entry)) (now (us .entry)) (now (vs .entry))
-        (now (betas .entry)) (now (factors .entry)) manner caller r (now (stored .entry)) (now (stored .exit)) (now (work .entry)) (now (work .exit)) ⌝ }
+        (now (betas .entry)) (now (factors .entry)) manner arrangement caller r (now (stored .entry)) (now (stored .exit)) (now (work .entry)) (now (work .exit)) ⌝ }
 {
+    let less = takes_less(arrangement);
     let mut early = [0usize; EDGES];
     let mut late = [0usize; EDGES];
     let mut mag = [0.0f64; EDGES];
@@ -73,6 +77,7 @@ pub fn exhaustive_c(
     let free = number_free_edges(n, &early[..edges], &late[..edges], &mut bits[..edges]);
     let unfit = check_enumeration(
         caller,
+        less,
         n,
         w,
         edges,
@@ -95,6 +100,7 @@ pub fn exhaustive_c(
         n,
         w,
         elementwise,
+        less,
         &early[..edges],
         &late[..edges],
         &bits[..edges],

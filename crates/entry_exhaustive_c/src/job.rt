@@ -4,6 +4,7 @@ ghost use Prim.Native.Nat.{_*_, _^_, _≤_};
 ghost use lib.ListN.{length};
 ghost use Rattle.limits.specs.Limits.{mostCounted};
 ghost use Rattle.forest.specs.FreeEdges.{freeCount, bitsOf};
+ghost use Rattle.transfer_matrix.specs.Room.{arranged};
 ghost use Rattle.totals_call.specs.Finished.{Passed, stepping, StoredAre};
 use job_run::clear;
 use plan_layout::make_plan;
@@ -20,6 +21,7 @@ pub(crate) fn store_job(
     n: usize,
     w: usize,
     elementwise: bool,
+    less: bool,
     early: &[usize],
     late: &[usize],
     bits: &[usize],
@@ -31,11 +33,11 @@ pub(crate) fn store_job(
     stored: &mut [f64],
     work: &mut [f64],
 ) -> bool
-    requires { ⌜ Passed n w (now early) (now late) (now us) (now vs) (length (now factors)) betas (length (now work))
+    requires { ⌜ Passed (arranged less) n w (now early) (now late) (now us) (now vs) (length (now factors)) betas (length (now work))
         × (free ≡ freeCount (now early) (now late)) × (free ≤ mostCounted) × (now bits ≡ bitsOf (now early) (now late))
         × (length (now stored) ≡ betas * length (now us) * 2 ^ free) ⌝ }
     ensures { λ r. ⌜ StoredAre n w (now (early .entry)) (now (late .entry)) (now (factors .entry)) (stepping elementwise) (now (us .entry))
-        (now (vs .entry)) betas (betas * length (now (us .entry)) * 2 ^ free) (length (now (early .entry))) r (now (stored .exit))
+        (now (vs .entry)) betas (betas * length (now (us .entry)) * 2 ^ free) (arranged less) (length (now (early .entry))) r (now (stored .exit))
         (now (work .entry)) (now (work .exit)) ⌝ }
 {
     let mut plan = [0usize; PLAN];
@@ -45,13 +47,14 @@ pub(crate) fn store_job(
     let pairs = us.len();
     let edges = early.len();
     let order = &mut orders[..pairs];
-    let layout = make_plan(&mut plan, n, w, early, late, us, vs);
+    let layout = make_plan(&mut plan, less, n, w, early, late, us, vs);
     order_pairs(order, n, w, us, vs);
     let shape = JobShape {
         n,
         w,
         scales: layout.scales,
         elementwise,
+        less,
         betas,
     };
     let end = layout.room;

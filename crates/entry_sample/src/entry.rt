@@ -6,6 +6,8 @@ use entry_correlations::is_elementwise;
 use job_checks::check_with_betas;
 use limits::Caller;
 use limits::EDGES;
+use plan_layout::Arrangement;
+use plan_layout::takes_less;
 use refusals::Answer;
 use totals_chunks::Chunks;
 use totals_job::total_job;
@@ -25,6 +27,7 @@ pub fn sample(
     betas: &[f64],
     factors: &[f64],
     manner: Manner,
+    arrangement: Arrangement,
     caller: Caller,
     seed: u64,
     from: u64,
@@ -35,9 +38,10 @@ pub fn sample(
     work: &mut [f64],
 ) -> Answer
     ensures { λ r. ⌜ Sampled n floor (now (a .entry)) (now (b .entry)) (now (m .entry)) (now (us .entry)) (now (vs .entry))
-        (now (betas .entry)) (now (factors .entry)) manner caller seed from to samples r (now (squares .entry)) (now (squares .exit))
+        (now (betas .entry)) (now (factors .entry)) manner arrangement caller seed from to samples r (now (squares .entry)) (now (squares .exit))
         (now (fourths .entry)) (now (fourths .exit)) (now (work .entry)) (now (work .exit)) ⌝ }
 {
+    let less = takes_less(arrangement);
     let mut early = [0usize; EDGES];
     let mut late = [0usize; EDGES];
     let mut mag = [0.0f64; EDGES];
@@ -62,6 +66,7 @@ pub fn sample(
     let w = job.window;
     let edges = job.edges;
     let unfit = check_sampling(
+        less,
         n,
         w,
         edges,
@@ -94,6 +99,7 @@ pub fn sample(
         n,
         w,
         elementwise,
+        less,
         ends,
         &late[..edges],
         ends,

@@ -10,6 +10,7 @@ use Rattle.list_laws.specs.Search.{some}
 use Rattle.list_laws.specs.Most.{most}
 use Rattle.transfer_matrix.specs.Configuration.{numbered}
 use Rattle.transfer_matrix.specs.Job.{Edge, backEdges}
+use Rattle.transfer_matrix.specs.Room.{keepAll}
 use Rattle.refusals.specs.Edges.{kept, windowFrom, keptEarly, keptLate}
 use Rattle.refusals.specs.Request.{Request, sweepRequest, single, signedFactors}
 use Rattle.refusals.specs.Key.{Key}
@@ -53,7 +54,7 @@ abbrev pub ofErrorBound : List Key
 ofErrorBound = ofGraph ++ (Key.window ∷ Key.nearEdges ∷ Key.factors ∷ [])
 
 abbrev pub errorBoundRequest : (n floor : ℕ) → (a b : List ℕ) → (m betas factors : List Float) → (count : ℕ) → Request
-errorBoundRequest n floor a b m betas factors count = sweepRequest Desk n floor a b m [] [] betas single factors count false 0 false
+errorBoundRequest n floor a b m betas factors count = sweepRequest Desk keepAll n floor a b m [] [] betas single factors count false 0 false
 
 -- How many factors there should be: one for each kept edge or, signed, two for each beta and kept edge.
 abbrev pub factorCount : (signed : Bool) → (betas edges : ℕ) → ℕ

@@ -17,7 +17,7 @@ use Rattle.distance.specs.Walks.{Distance, Walk, Adjacent, along, back}
 use Rattle.distance.specs.declared.Reach.the-variants.{Length}
 use Rattle.transfer_matrix.specs.Job.{Edge, Job, Manner, block, perElement, windowOf}
 use Rattle.transfer_matrix.specs.Sweep.{answer}
-use Rattle.transfer_matrix.specs.Room.{room}
+use Rattle.transfer_matrix.specs.Room.{room, keepAll, lessRoom}
 use Rattle.transfer_matrix.specs.Configuration.{configured, enumeratedMinus}
 use Rattle.transfer_matrix.specs.Rounded.{ieee}
 use Rattle.strip_bonds.specs.Edges as Rules
@@ -82,11 +82,13 @@ examples =
     -- vertices 0, 1, one edge, factor 2, window 1, pair 0-1: the double nearest 3/5, either manner; room 13
     (answer ieee (bond two 0 block) 0 1 ≡ nearest 3 5)
     ∷ (answer ieee (bond two 0 perElement) 0 1 ≡ nearest 3 5)
-    ∷ (room 2 (bond two 0 block .window) 1 (0 ∷ []) (1 ∷ []) ≡ 13)
+    ∷ (room keepAll 2 (bond two 0 block .window) 1 (0 ∷ []) (1 ∷ []) ≡ 13)
     -- the same with floor 2: the same double; room 19
     ∷ (answer ieee (bond two 2 block) 0 1 ≡ nearest 3 5)
     ∷ (answer ieee (bond two 2 perElement) 0 1 ≡ nearest 3 5)
-    ∷ (room 2 (bond two 2 block .window) 1 (0 ∷ []) (1 ∷ []) ≡ 19)
+    ∷ (room keepAll 2 (bond two 2 block .window) 1 (0 ∷ []) (1 ∷ []) ≡ 19)
+    -- and in less room 15
+    ∷ (room lessRoom 2 (bond two 2 block .window) 1 (0 ∷ []) (1 ∷ []) ≡ 15)
     -- factor 1/2: the double nearest -3/5; factor 1: +0.0
     ∷ (answer ieee (bond half 0 block) 0 1 ≡ minusNearest 3 5)
     ∷ (answer ieee (bond half 0 perElement) 0 1 ≡ minusNearest 3 5)
@@ -146,4 +148,4 @@ two-apart = ((2, (0, refl, along 1 (omega arith)), along 3 (omega arith)), short
 pub examples-hold : AllHold examples
 unfolding examples add sub mul div neg lt le round ofBits ofInt sqrt answer room windowOf configured enumeratedMinus bitsOf bitOf freeBefore count isTree labels tabulate most edgesBelow Rules.across Rules.wrap Rules.along Rules.rising Rules.falling estimateOf
 examples-hold =
-    (refl, (refl, (refl, (refl, (refl, (refl, (refl, (refl, (refl, (refl, (refl, (refl, (edges-of-square, (refl, (refl, (refl, (refl, (refl, (refl, (refl, (two-apart, (refl, (refl, tt)))))))))))))))))))))))
+    (refl, (refl, (refl, (refl, (refl, (refl, (refl, (refl, (refl, (refl, (refl, (refl, (refl, (edges-of-square, (refl, (refl, (refl, (refl, (refl, (refl, (refl, (two-apart, (refl, (refl, tt))))))))))))))))))))))))

@@ -12,7 +12,7 @@ use Rattle.limits.specs.Limits.{mostWindow}
 use Rattle.list_laws.specs.Laws.Most.{most-above}
 use Rattle.transfer_matrix.specs.Job.{longest, windowOf, tooManyNear}
 use Rattle.transfer_matrix.specs.Configuration.{numbered}
-use Rattle.transfer_matrix.specs.Room.{room}
+use Rattle.transfer_matrix.specs.Room.{Arrangement, room}
 use Rattle.refusals.specs.declared.Answer.the-variants.{Number}
 use Rattle.refusals.specs.Answers.{answered}
 use Rattle.refusals.specs.Laws.Answers.{number-is}
@@ -111,8 +111,8 @@ module _ (caller : Caller) (n floor : ℕ) (a b : List ℕ) (m : List Float) (us
 -- ---- the room
 
 pub room-answered : {n floor q k w : ℕ} {a b : List ℕ} {m : List Float} {us vs early early′ late late′ : List ℕ} {mag mag′ : List Float}
-    → CheckedJob Desk n floor a b m us vs [] q k w early early′ late late′ mag mag′ → q ≡ 0 → (r : ℕ) → r ≡ room n w k us vs
-    → Number r ≡ answered (refusal ofRoom (roomRequest n floor a b m us vs)) (room n (windowFrom floor a b m) (length (kept a b m)) us vs)
-room-answered {n} {us = us} {vs} checked z r e =
+    → CheckedJob Desk n floor a b m us vs [] q k w early early′ late late′ mag mag′ → q ≡ 0 → (A B : Arrangement) → A ≡ B → (r : ℕ) → r ≡ room A n w k us vs
+    → Number r ≡ answered (refusal ofRoom (roomRequest n floor a b m us vs)) (room B n (windowFrom floor a b m) (length (kept a b m)) us vs)
+room-answered {n} {us = us} {vs} checked z A B same r e =
     let job = checked .ready z in
-    number-is _ _ _ _ (checked .refusal) z (e ∙ ap₂ (λ (x y : ℕ). room n x y us vs) (job .window) (job .written .edges))
+    number-is _ _ _ _ (checked .refusal) z (rw same at e ∙ ap₂ (λ (x y : ℕ). room B n x y us vs) (job .window) (job .written .edges))

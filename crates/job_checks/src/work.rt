@@ -6,9 +6,13 @@ ghost use Rattle.refusals.specs.Edges.{kept, windowFrom};
 ghost use Rattle.refusals.specs.Request.{roomRequest};
 ghost use Rattle.refusals.specs.Refusal.{refusal, ofRoom};
 ghost use Rattle.refusals.specs.Answers.{answered};
+ghost use Rattle.plan_layout.specs.Arrangements.{arrangementOf};
 use crate::job::check_job;
 use limits::Caller;
 use limits::EDGES;
+use plan_layout::Arrangement;
+use plan_layout::room_needed;
+use plan_layout::takes_less;
 use refusals::Answer;
 
 // The doubles of work memory that a job's pairs need, whoever calls: no limit of the tester's is asked.
@@ -20,10 +24,11 @@ pub fn room(
     m: &[f64],
     us: &[usize],
     vs: &[usize],
+    arrangement: Arrangement,
 ) -> Answer
     ensures { λ r. ⌜ r ≡ answered
         (refusal ofRoom (roomRequest n floor (now (a .entry)) (now (b .entry)) (now (m .entry)) (now (us .entry)) (now (vs .entry))))
-        (roomOf n (windowFrom floor (now (a .entry)) (now (b .entry)) (now (m .entry)))
+        (roomOf (arrangementOf arrangement) n (windowFrom floor (now (a .entry)) (now (b .entry)) (now (m .entry)))
         (length (kept (now (a .entry)) (now (b .entry)) (now (m .entry)))) (now (us .entry)) (now (vs .entry))) ⌝ }
 {
     let mut early = [0usize; EDGES];
@@ -46,5 +51,6 @@ pub fn room(
     if refusal != 0 {
         return Answer::Refused(refusal);
     }
-    Answer::Number(plan_layout::room_needed(n, job.window, job.edges, us, vs))
+    let less = takes_less(arrangement);
+    Answer::Number(room_needed(less, n, job.window, job.edges, us, vs))
 }

@@ -12,7 +12,7 @@ use Rattle.list_laws.specs.Part.{put, part}
 use Rattle.list_laws.specs.Laws.Part.{part-at, part-put, put-length}
 use Rattle.transfer_matrix.specs.Job.{Job, block, perElement}
 use Rattle.transfer_matrix.specs.Configuration.{jobOf}
-use Rattle.transfer_matrix.specs.Room.{room}
+use Rattle.transfer_matrix.specs.Room.{Arrangement, room}
 use Rattle.transfer_matrix.specs.Rounded.{ieee}
 use Rattle.transfer_matrix.specs.Sweep as S
 use Rattle.plan_layout.specs.Work.{Laid, Planned}
@@ -32,8 +32,8 @@ laid-last d x at e =
     let b′ : i < length x = omega (arith, length-drop at (put d at x)) in
     getD-drop at (put d at x) i nan ∙ sym (part-at (put d at x) at (length x) i nan b′) ∙ ap (λ (y : List Float). getD y i nan) (part-put d at x fits))
 
-module _ (plan early late us vs : List ℕ) (factors : List Float) (n w places scales at end results work : ℕ)
-    (p : JobPassed n w early late us vs factors results work) (g : Planned plan early late us vs n w places scales at end) where
+module _ (A : Arrangement) (plan early late us vs : List ℕ) (factors : List Float) (n w places scales at end results work : ℕ)
+    (p : JobPassed A n w early late us vs factors results work) (g : Planned A plan early late us vs n w places scales at end) where
   -- the factors end where the room ends
   pub factors-fit : at + length factors ≡ end
   factors-fit = omega (arith, g .laid .ends, p .factored)
@@ -44,7 +44,7 @@ module _ (plan early late us vs : List ℕ) (factors : List Float) (n w places s
       (said : (J : Job Float) → PlanOf J plan (drop (scales + n) room₁) n w elementwise
       → (sound ≡ not (unsound J us vs)) × (results′ ≡ cond sound (S.answers ieee J us vs) (zeros (length us)))) where
     taken : length (take end memory) ≡ end
-    taken = length-take-le end memory (omega (arith, end-fits plan early late us vs n w places scales at end work (p .job) g))
+    taken = length-take-le end memory (omega (arith, end-fits A plan early late us vs n w places scales at end work (p .job) g))
 
     in-room : drop (scales + n) room₁ ≡ factors
     in-room =
@@ -59,17 +59,17 @@ module _ (plan early late us vs : List ℕ) (factors : List Float) (n w places s
         let f = factors-fit in
         ap length laid ∙ put-length (take end memory) at factors (omega arith) ∙ t
 
-    pub finished : JobFinished (jobOf nan n w early late factors (cond elementwise perElement block)) n (length early) us vs sound results′ memory (room₂ ++ drop end memory)
+    pub finished : JobFinished (jobOf nan n w early late factors (cond elementwise perElement block)) A n (length early) us vs sound results′ memory (room₂ ++ drop end memory)
     finished =
         let J = jobOf nan n w early late factors (cond elementwise perElement block) in
         let of : PlanOf J plan (drop (scales + n) room₁) n w elementwise =
-        rw in-room (plan-of plan early late us vs n w places scales at end g (p .job .some) factors elementwise) in
+        rw in-room (plan-of A plan early late us vs n w places scales at end g (p .job .some) factors elementwise) in
         let s = said J of in
-        let z : room₂ ≡ zeros (room n w (length early) us vs) = cleared ∙ ap zeros (same ∙ g .ends) in
-        let k : length (zeros (room n w (length early) us vs)) ≡ end = length-replicate _ _ ∙ sym (g .ends) in
+        let z : room₂ ≡ zeros (room A n w (length early) us vs) = cleared ∙ ap zeros (same ∙ g .ends) in
+        let k : length (zeros (room A n w (length early) us vs)) ≡ end = length-replicate _ _ ∙ sym (g .ends) in
         record {
           told = s .0;
           answers = s .1;
           memory = ap (λ (r : List Float). r ++ drop end memory) z
-              ∙ ap (λ (j : ℕ). zeros (room n w (length early) us vs) ++ drop j memory) (sym k);
+              ∙ ap (λ (j : ℕ). zeros (room A n w (length early) us vs) ++ drop j memory) (sym k);
         }

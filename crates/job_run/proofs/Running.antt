@@ -1,23 +1,24 @@
--- What a run says of its pairs, from what the sweeps left and what the pairs were told.
-use mathlib.Core.Path.{_≡_, refl, sym, ap, _∙_}
+-- What a run says of its pairs, from what they were told.
+use mathlib.Core.Path.{_≡_, _∙_}
 use mathlib.Core.Bool.{Bool, true, false, cond, not}
 use mathlib.Core.List.{List}
 use Prim.Native.Nat.{ℕ, _+_}
+use native.Mathlib.Omega.{arith}
 use lib.Ieee.{Float}
 use lib.ListN.{length, drop}
 use Rattle.transfer_matrix.specs.Job.{Job}
 use Rattle.transfer_matrix.specs.Rounded.{ieee}
 use Rattle.transfer_matrix.specs.Sweep as S
-use Rattle.vertex_step.specs.Ready.{PlanOf, BothSwept}
-use Rattle.sweep_places.specs.Kept.{SameFrom}
+use Rattle.vertex_step.specs.Ready.{PlanOf, Backward}
+use Rattle.sweep_places.specs.Begun.{Stands}
 use Rattle.pair_correlations.specs.Sound.{unsound, Outcome}
 
+-- no kept vector stands before the run
 module _ (plan us vs : List ℕ) (e r results : List Float) (n w scales : ℕ) (elementwise sound : Bool)
-    (same : SameFrom e r (scales + n))
-    (swept : (J : Job Float) → PlanOf J plan (drop (scales + n) e) n w elementwise → BothSwept J plan r n w scales)
-    (told : (J : Job Float) (elementwise : Bool) → PlanOf J plan (drop (scales + n) r) n w elementwise → BothSwept J plan r n w scales → Outcome J us vs results sound) where
+    (told : (J : Job Float) → PlanOf J plan (drop (scales + n) e) n w elementwise → Stands J plan e n w n
+    → Outcome J us vs results sound × Backward J plan r n w 0) where
   outcome : (J : Job Float) → PlanOf J plan (drop (scales + n) e) n w elementwise → Outcome J us vs results sound
-  outcome J of = told J elementwise (rw (same .tail) of) (swept J of)
+  outcome J of = told J of (λ b. absurd (omega arith)) .0
 
   -- every Z is sound: the results are the answers
   pub all-sound : (z : List Float) → sound ≡ true → (J : Job Float) → PlanOf J plan (drop (scales + n) e) n w elementwise

@@ -4,6 +4,7 @@ ghost use lib.Ieee.{nan};
 ghost use lib.ListN.{length};
 ghost use Rattle.transfer_matrix.specs.Job.{block, perElement};
 ghost use Rattle.transfer_matrix.specs.Configuration.{jobOf};
+ghost use Rattle.transfer_matrix.specs.Room.{arranged};
 ghost use Rattle.job_run.specs.Passed.{JobPassed, JobFinished};
 use crate::planned::lay_factors;
 use crate::planned::run;
@@ -23,16 +24,17 @@ pub fn answer_job(
     vs: &[usize],
     factors: &[f64],
     elementwise: bool,
+    less: bool,
     results: &mut [f64],
     work: &mut [f64],
 ) -> bool
-    requires { ⌜ JobPassed n w (now early) (now late) (now us) (now vs) (now factors) (length (now results)) (length (now work)) ⌝ }
+    requires { ⌜ JobPassed (arranged less) n w (now early) (now late) (now us) (now vs) (now factors) (length (now results)) (length (now work)) ⌝ }
     ensures { λ r. ⌜ JobFinished (jobOf nan n w (now (early .entry)) (now (late .entry)) (now (factors .entry)) (cond elementwise perElement block))
-        n (length (now (early .entry))) (now (us .entry)) (now (vs .entry)) r (now (results .exit)) (now (work .entry)) (now (work .exit)) ⌝ }
+        (arranged less) n (length (now (early .entry))) (now (us .entry)) (now (vs .entry)) r (now (results .exit)) (now (work .entry)) (now (work .exit)) ⌝ }
 {
     let mut plan = [0usize; PLAN];
     let mut orders = [0usize; PAIRS];
-    let layout = make_plan(&mut plan, n, w, early, late, us, vs);
+    let layout = make_plan(&mut plan, less, n, w, early, late, us, vs);
     let pairs = us.len();
     let order = &mut orders[..pairs];
     order_pairs(order, n, w, us, vs);
@@ -46,6 +48,7 @@ pub fn answer_job(
         w,
         layout.scales,
         elementwise,
+        less,
         us,
         vs,
         order,

@@ -8,14 +8,13 @@ ghost use Rattle.list_laws.specs.Part.{put};
 ghost use Rattle.transfer_matrix.specs.Job.{Job};
 ghost use Rattle.transfer_matrix.specs.Rounded.{ieee};
 ghost use Rattle.transfer_matrix.specs.Sweep as S;
-ghost use Rattle.plan_layout.specs.Order.{Ordered};
+ghost use Rattle.plan_layout.specs.Order.{InOrder};
 ghost use Rattle.vertex_step.specs.Ready.{Ready, PlanOf};
 ghost use Rattle.pair_correlations.specs.Served.{Served};
 ghost use Rattle.pair_correlations.specs.Sound.{unsound};
 ghost use Rattle.job_run.specs.Zeros.{zeros};
-use pair_correlations::answer_pairs;
 use step_tables::fill;
-use sweeps::sweep;
+use sweeps::sweep_and_answer;
 
 // The factors x to the room, from `at` on.
 pub fn lay_factors(room: &mut [f64], at: usize, x: &[f64])
@@ -37,8 +36,8 @@ pub fn clear(list: &mut [f64])
     fill(list, 0, len, 0.0);
 }
 
-// Sweeps, answers the pairs, and clears the room. Returns whether every pair's Z is finite and above zero; where one is not, all results
-// are +0.0.
+// Sweeps, answers the pairs, and clears the room; `less`: with less room. Returns whether every pair's Z is finite and above zero; where one is
+// not, all results are +0.0.
 pub fn run(
     room: &mut [f64],
     plan: &[usize],
@@ -46,20 +45,33 @@ pub fn run(
     w: usize,
     scales: usize,
     elementwise: bool,
+    less: bool,
     us: &[usize],
     vs: &[usize],
     order: &[usize],
     results: &mut [f64],
 ) -> bool
-    requires { ⌜ (1 ≤ n) × Ready (now plan) (length (now room)) n w scales × Served (now plan) (now us) (now vs) n w
-        × Ordered (now order) (length (now us)) × (length (now results) ≡ length (now us)) ⌝ }
+    requires { ⌜ (1 ≤ n) × Ready (now plan) (length (now room)) n w scales × Served (now plan) (now us) (now vs) n w less
+        × InOrder (now order) (now us) (now vs) w × (length (now results) ≡ length (now us)) ⌝ }
     ensures { λ _. ⌜ now (room .exit) ≡ zeros (length (now (room .entry))) ⌝ }
     ensures { λ r. ⌜ ((J : Job Float) → PlanOf J (now (plan .entry)) (drop (scales + n) (now (room .entry))) n w elementwise
         → (r ≡ not (unsound J (now (us .entry)) (now (vs .entry))))
         × (now (results .exit) ≡ cond r (S.answers ieee J (now (us .entry)) (now (vs .entry))) (zeros (length (now (us .entry)))))) ⌝ }
 {
-    sweep(room, plan, n, w, scales, elementwise, n);
-    let sound = answer_pairs(room, plan, n, w, scales, us, vs, order, results);
+    let sound = sweep_and_answer(
+        room,
+        plan,
+        n,
+        w,
+        scales,
+        elementwise,
+        less,
+        n,
+        us,
+        vs,
+        order,
+        results,
+    );
     clear(room);
     if !sound {
         clear(results);

@@ -9,7 +9,6 @@ use native.Mathlib.Omega.{arith}
 use lib.ListN.{length, getD, drop, set, length-set}
 use lib.Seq.{getD-set-same, getD-set-other}
 use lib.Ieee.{Float, nan, binary64, div}
-use borrow.Author.Tests.{le-ltb}
 use Rattle.list_laws.specs.Search.{some}
 use Rattle.list_laws.specs.Laws.Search.{some-at, none-of}
 use Rattle.list_laws.specs.Tabulate.{tabulate}
@@ -19,7 +18,6 @@ use Rattle.transfer_matrix.specs.Room.{earlier, later}
 use Rattle.transfer_matrix.specs.Rounded.{ieee}
 use Rattle.transfer_matrix.specs.Sweep as S
 use Rattle.plan_layout.specs.Order.{Ordered}
-use Rattle.plan_layout.specs.Laws.Places.{later-inside}
 use Rattle.pair_sums.specs.declared.sums.Source.{Source}
 use Rattle.pair_sums.specs.declared.sums.Sums.{Sums}
 use Rattle.pair_sums.specs.Pair.{SumsOf}
@@ -29,12 +27,11 @@ use Rattle.propagation.specs.declared.current.CurrentVector.{CurrentVector}
 use Rattle.pair_correlations.specs.declared.pairs.AfterTwo.{AfterTwo}
 use Rattle.propagation.specs.declared.together.Pairing.{Pairing}
 use Rattle.pair_correlations.specs.Sound.{soundly, unsound, Outcome}
-use Rattle.pair_correlations.specs.Served.{Served}
 use Rattle.propagation.specs.Current.{PlanSwept, CurrentKnown}
 use Rattle.propagation.specs.Laws.Current.{still-passed}
-use Rattle.pair_correlations.specs.Aim.{PairPlaces, SourceOf, Second}
+use Rattle.pair_correlations.specs.Aim.{SourceOf, Second}
 use Rattle.propagation.specs.Pairing.{Directs, Done, NextPairing}
-use Rattle.pair_correlations.specs.Two.{AnswerOf, Written, AnsweredTwo}
+use Rattle.pair_correlations.specs.Two.{AnswerOf, Answered, Written, AnsweredTwo}
 
 -- ---- the definitions, opened
 
@@ -50,19 +47,7 @@ unsound-is : (J : Job Float) (us vs : List ℕ) → unsound J us vs ≡ some (λ
 unfolding unsound
 unsound-is J us vs = refl
 
--- ---- a pair that is served
-
-pub pair-places : (plan us vs : List ℕ) (n w i : ℕ) → Served plan us vs n w → i < length us
-    → PairPlaces plan n w (earlier us vs i) (later us vs i)
-pair-places plan us vs n w i g b =
-    let apart = g .distinct i b in
-    record {
-      order = omega arith;
-      inside = later-inside us vs n i (g .pairs) b;
-      forward = g .forward i b;
-      backward = g .backward i b;
-      propagated = λ l. g .propagated i b (ap not (le-ltb (later us vs i - earlier us vs i) w l));
-    }
+-- ---- one pair
 
 -- its answer, from its sums
 module _ (J : Job Float) (us vs : List ℕ) (r : List Float) (w p : ℕ) (s : Source) (t : Sums) (of : SourceOf J r w (earlier us vs p) (later us vs p) s)
@@ -78,10 +63,6 @@ module _ (J : Job Float) (us vs : List ℕ) (r : List Float) (w p : ℕ) (s : So
 
 -- ---- pairs that are answered
 
--- pair p has its answer in the results
-abbrev Answered : (J : Job Float) (us vs : List ℕ) (results : List Float) (p : ℕ) → Type 0
-Answered J us vs results p = AnswerOf J us vs p (getD results p nan)
-
 -- one result more
 set-answered : (J : Job Float) (us vs : List ℕ) (results : List Float) (p : ℕ) (x : Float) → p < length results → AnswerOf J us vs p x
     → (i : ℕ) → (Answered J us vs results i ⊎ (i ≡ p)) → Answered J us vs (set results p x) i
@@ -93,7 +74,7 @@ set-answered J us vs results p x inside a i known = go (ℕ-discrete i p) known
     go (no e) (inr k) = absurd (e k)
 
 -- and both
-both-answered : (J : Job Float) (us vs : List ℕ) (results₀ results : List Float) (p q : ℕ) → p < length results₀ → q < length results₀
+pub both-answered : (J : Job Float) (us vs : List ℕ) (results₀ results : List Float) (p q : ℕ) → p < length results₀ → q < length results₀
     → Written J us vs results₀ results p q → (i : ℕ) → (Answered J us vs results₀ i ⊎ ((i ≡ p) ⊎ (i ≡ q))) → Answered J us vs results i
 both-answered J us vs results₀ results p q bp bq g i known =
     subst (λ (l : List Float). Answered J us vs l i) (sym (g .set-both)) (go known)
@@ -111,8 +92,10 @@ both-answered J us vs results₀ results p q bp bq g i known =
 
 -- ---- the loop
 
--- of the order, the first `direct` pairs and those from `directs` to `other` are answered
-pub record Answering (plan us vs order : List ℕ) (r₀ r results : List Float) (n w scales : ℕ) (current : CurrentVector) (directs direct other : ℕ) : Type 0 where
+-- of the order, the first `direct` pairs and those from `directs` to `other` are answered; of these the first `first` were answered before
+pub record Answering (plan us vs order : List ℕ) (r₀ r results₀ results : List Float) (n w scales : ℕ) (current : CurrentVector)
+    (first directs direct other : ℕ) : Type 0 where
+  pub on : first ≤ direct
   pub below : direct ≤ directs
   pub behind : directs ≤ other
   pub inside : other ≤ length order
@@ -120,40 +103,44 @@ pub record Answering (plan us vs order : List ℕ) (r₀ r results : List Float)
   pub moving : current .place < 2
   pub still : Still r₀ r w scales
   pub known : (J : Job Float) (elementwise : Bool) → PlanSwept J plan r₀ n w scales elementwise → CurrentKnown J r n w current
-  pub done : (J : Job Float) (elementwise : Bool) → PlanSwept J plan r₀ n w scales elementwise → (k : ℕ) → Done directs direct other k
+  pub done : (J : Job Float) (elementwise : Bool) → PlanSwept J plan r₀ n w scales elementwise
+      → ((k : ℕ) → k < first → Answered J us vs results₀ (getD order k 0)) → (k : ℕ) → Done directs direct other k
       → Answered J us vs results (getD order k 0)
 
-pub answering-none : (plan us vs order : List ℕ) (r results : List Float) (n w scales : ℕ) (current : CurrentVector) (directs : ℕ) → directs ≤ length order
-    → length results ≡ length us → current .vertex ≡ n → current .place < 2 → Answering plan us vs order r r results n w scales current directs 0 directs
-answering-none plan us vs order r results n w scales current directs d l e low =
+pub answering-none : (plan us vs order : List ℕ) (r results : List Float) (n w scales : ℕ) (current : CurrentVector) (first directs : ℕ) → first ≤ directs
+    → directs ≤ length order → length results ≡ length us → current .vertex ≡ n → current .place < 2
+    → Answering plan us vs order r r results results n w scales current first directs first directs
+answering-none plan us vs order r results n w scales current first directs f d l e low =
     record {
-      below = omega arith;
+      on = omega arith;
+      below = f;
       behind = omega arith;
       inside = d;
       long = l;
       moving = low;
       still = still-none r w scales;
       known = λ J elementwise passed. record { reached = λ b. absurd (omega arith) };
-      done = λ J elementwise passed k b. absurd (nothing k b);
+      done = λ J elementwise passed given k b. start given k b;
     }
   where
-    nothing : (k : ℕ) → Done directs 0 directs k → ⊥
-    nothing k (inl b) = omega arith
-    nothing k (inr b) = omega (arith, b .0, b .1)
+    start : {J : Job Float} → ((k : ℕ) → k < first → Answered J us vs results (getD order k 0)) → (k : ℕ) → Done directs first directs k
+        → Answered J us vs results (getD order k 0)
+    start given k (inl b) = given k b
+    start given k (inr b) = absurd (omega (arith, b .0, b .1))
 
-module _ (plan us vs order : List ℕ) (r₀ r results : List Float) (n w scales : ℕ) (current : CurrentVector) (directs direct other : ℕ)
-    (g : Answering plan us vs order r₀ r results n w scales current directs direct other) (ordered : Ordered order (length us)) where
+module _ (plan us vs order : List ℕ) (r₀ r results₀ results : List Float) (n w scales : ℕ) (current : CurrentVector) (first directs direct other : ℕ)
+    (g : Answering plan us vs order r₀ r results₀ results n w scales current first directs direct other) (ordered : Ordered order (length us)) where
   -- all pairs are answered
   pub all-answered : directs + length us ≤ direct + other → (J : Job Float) (elementwise : Bool) → PlanOf J plan (drop (scales + n) r₀) n w elementwise
-      → BothSwept J plan r₀ n w scales → Outcome J us vs results true
-  all-answered l J elementwise of swept =
+      → BothSwept J plan r₀ n w scales → ((k : ℕ) → k < first → Answered J us vs results₀ (getD order k 0)) → Outcome J us vs results true
+  all-answered l J elementwise of swept given =
       let passed : PlanSwept J plan r₀ n w scales elementwise = record { of = of; swept = swept } in
       let each-number : (k : ℕ) → k < length us → Done directs direct other k =
       λ k b. dite (decLt k directs) (λ c. inl (omega (arith, g .below, g .inside, ordered .long)))
       (λ c. inr (omega arith, omega (arith, g .below, g .inside, ordered .long))) in
       let each-pair : (i : ℕ) → i < length us → Answered J us vs results i =
       λ i b. let o = ordered .onto i b in
-      subst (λ (p : ℕ). Answered J us vs results p) (o .2) (g .done J elementwise passed (o .0) (each-number (o .0) (o .1))) in
+      subst (λ (p : ℕ). Answered J us vs results p) (o .2) (g .done J elementwise passed given (o .0) (each-number (o .0) (o .1))) in
       record {
         told = sym (ap not (unsound-is J us vs ∙ none-of _ (length us) (λ i b. ap not (each-pair i b .sound))));
         values = λ e. tabulated nan results _ (length us) (g .long) (λ i b. each-pair i b .value) ∙ sym (answers-is J us vs);
@@ -170,8 +157,8 @@ module _ (plan us vs order : List ℕ) (r₀ r results : List Float) (n w scales
 
     -- some Z is not sound
     pub two-unsound : s .sound ≡ false → (J : Job Float) (elementwise : Bool) → PlanOf J plan (drop (scales + n) r₀) n w elementwise
-        → BothSwept J plan r₀ n w scales → Outcome J us vs results₂ false
-    two-unsound e J elementwise of swept =
+        → BothSwept J plan r₀ n w scales → ((k : ℕ) → k < first → Answered J us vs results₀ (getD order k 0)) → Outcome J us vs results₂ false
+    two-unsound e J elementwise of swept given =
         let passed : PlanSwept J plan r₀ n w scales elementwise = record { of = of; swept = swept } in
         record {
           told = sym (ap not (two .unanswered J elementwise (now J elementwise passed) (g .known J elementwise passed) e));
@@ -179,9 +166,10 @@ module _ (plan us vs order : List ℕ) (r₀ r results : List Float) (n w scales
         }
 
     -- they are answered
-    pub two-more : s .sound ≡ true → Answering plan us vs order r₀ r₂ results₂ n w scales (s .current) directs (t .direct) (t .other)
+    pub two-more : s .sound ≡ true → Answering plan us vs order r₀ r₂ results₀ results₂ n w scales (s .current) first directs (t .direct) (t .other)
     two-more e =
         record {
+          on = omega (arith, g .on, pairing .on);
           below = pairing .below;
           behind = pairing .behind;
           inside = pairing .inside;
@@ -189,24 +177,26 @@ module _ (plan us vs order : List ℕ) (r₀ r results : List Float) (n w scales
           moving = two .moving;
           still = still-next;
           known = λ J elementwise passed. two .answered J elementwise (now J elementwise passed) (g .known J elementwise passed) e .0;
-          done = λ J elementwise passed k b. more J elementwise passed k (pairing .covered k b);
+          done = λ J elementwise passed given k b. more J elementwise passed given k (pairing .covered k b);
         }
       where
         within : (k : ℕ) → k < length order → getD order k 0 < length results
         within k b = rw (g .long) (ordered .inside k (rw (← ordered .long) b))
 
-        known : (J : Job Float) (elementwise : Bool) → PlanSwept J plan r₀ n w scales elementwise → (k : ℕ)
+        known : (J : Job Float) (elementwise : Bool) → PlanSwept J plan r₀ n w scales elementwise
+            → ((k : ℕ) → k < first → Answered J us vs results₀ (getD order k 0)) → (k : ℕ)
             → (Done directs direct other k ⊎ ((k ≡ t .first) ⊎ (k ≡ t .second)))
             → Answered J us vs results (getD order k 0) ⊎ ((getD order k 0 ≡ getD order (t .first) 0) ⊎ (getD order k 0 ≡ getD order (t .second) 0))
-        known J elementwise passed k (inl b) = inl (g .done J elementwise passed k b)
-        known J elementwise passed k (inr (inl x)) = inr (inl (ap (λ (j : ℕ). getD order j 0) x))
-        known J elementwise passed k (inr (inr x)) = inr (inr (ap (λ (j : ℕ). getD order j 0) x))
+        known J elementwise passed given k (inl b) = inl (g .done J elementwise passed given k b)
+        known J elementwise passed given k (inr (inl x)) = inr (inl (ap (λ (j : ℕ). getD order j 0) x))
+        known J elementwise passed given k (inr (inr x)) = inr (inr (ap (λ (j : ℕ). getD order j 0) x))
 
-        more : (J : Job Float) (elementwise : Bool) → PlanSwept J plan r₀ n w scales elementwise → (k : ℕ)
+        more : (J : Job Float) (elementwise : Bool) → PlanSwept J plan r₀ n w scales elementwise
+            → ((k : ℕ) → k < first → Answered J us vs results₀ (getD order k 0)) → (k : ℕ)
             → (Done directs direct other k ⊎ ((k ≡ t .first) ⊎ (k ≡ t .second))) → Answered J us vs results₂ (getD order k 0)
-        more J elementwise passed k c =
+        more J elementwise passed given k c =
             both-answered J us vs results results₂ _ _ (within (t .first) (pairing .first)) (within (t .second) (pairing .second))
-            (two .answered J elementwise (now J elementwise passed) (g .known J elementwise passed) e .1) _ (known J elementwise passed k c)
+            (two .answered J elementwise (now J elementwise passed) (g .known J elementwise passed) e .1) _ (known J elementwise passed given k c)
 
 -- the second pair of a pairing is the first or a direct one
 pub second-of-pairing : (us vs order : List ℕ) (w directs : ℕ) → Directs us vs order w directs → (i j : ℕ) → ((j ≡ i) ⊎ (j < directs))

@@ -2,3 +2,4 @@
 mod PairLaws
 mod Answering
 mod Two
+mod AtVertex

@@ -1,5 +1,5 @@
 -- What is summed where a pair's sums are read is the definition's N and Z.
-use mathlib.Core.Path.{_≡_, sym, _∙_, subst}
+use mathlib.Core.Path.{_≡_, refl, sym, ap, _∙_, subst}
 use mathlib.Core.Bool.{Bool}
 use mathlib.Core.List.{List}
 use Prim.Native.Nat.{ℕ, _-_, _^_, _≤_, _<_}
@@ -25,7 +25,7 @@ use Rattle.propagation.specs.declared.current.CurrentVector.{CurrentVector}
 use Rattle.pair_correlations.specs.declared.pair.Aim.{Aim}
 use Rattle.propagation.specs.Current.{PlanSwept, Propagated}
 use Rattle.propagation.specs.Laws.Current.{still-passed}
-use Rattle.pair_correlations.specs.Aim.{PairPlaces, SourceOf, DirectSource, Aimed}
+use Rattle.pair_correlations.specs.Aim.{PairPlaces, VertexHalves, SourceOf, DirectSource, Aimed}
 
 -- of the halves at places f and b
 abbrev zAt : List Float → ℕ → ℕ → ℕ → Float
@@ -82,50 +82,68 @@ module _ (plan : List ℕ) (len n w scales u v : ℕ) (ready : Ready plan len n 
       let fits = ready .backward .fits v (pair .inside) (pair .backward) in
       record { wide = ready .wide; narrow = ready .narrow; inside = omega (arith, ready .ends) }
 
-module _ (J : Job Float) (plan : List ℕ) (r : List Float) (n w scales u v : ℕ) (elementwise : Bool) (pair : PairPlaces plan n w u v)
-    (passed : PlanSwept J plan r n w scales elementwise) where
-  forward-half : SymmetricHalf w (halfAt r w (forwardPlace plan v)) (S.forward ieee J v)
-  forward-half = passed .swept .forward .vectors v (pair .inside) (pair .forward)
+  -- there both sweeps left the halves of v
+  pub swept-halves : (J : Job Float) (r : List Float) (elementwise : Bool) → PlanSwept J plan r n w scales elementwise
+      → VertexHalves J r w (forwardPlace plan v) (backwardPlace plan v) v
+  swept-halves J r elementwise passed =
+      record {
+        window = passed .of .window;
+        forward = passed .swept .forward .vectors v (pair .inside) (pair .forward);
+        backward = passed .swept .backward .vectors v (omega arith) (pair .inside) (pair .backward);
+      }
 
-  backward-half : SymmetricHalf w (halfAt r w (backwardPlace plan v)) (S.backward ieee J v)
-  backward-half = passed .swept .backward .vectors v (omega arith) (pair .inside) (pair .backward)
-
-  z-at : 1 ≤ w → zAt r w (forwardPlace plan v) (backwardPlace plan v) ≡ S.Z ieee J v
-  z-at wide = z-sum J w u v (passed .of .window) _ _ wide backward-half forward-half
+z-at : (J : Job Float) (r : List Float) (w f b u v : ℕ) → VertexHalves J r w f b v → 1 ≤ w → zAt r w f b ≡ S.Z ieee J v
+z-at J r w f b u v h wide = z-sum J w u v (h .window) _ _ wide (h .backward) (h .forward)
 
 -- ---- a direct pair
 
-module _ (plan : List ℕ) (r : List Float) (n w scales u v : ℕ) (s : Source) (ready : Ready plan (length r) n w scales) (pair : PairPlaces plan n w u v)
-    (near : v - u < w) (d : DirectSource plan u v s) where
+-- where its sums are read is decided by the vertices and their places
+source-is : (s : Source) {f g b d : ℕ} → s .f ≡ f → s .g ≡ g → s .b ≡ b → s .d ≡ d → s ≡ record { f = f; g = g; b = b; d = d }
+source-is s {f} {g} {b} {d} ef eg eb ed =
+    ap (λ (x : ℕ). record { f = x; g = s .g; b = s .b; d = s .d }) ef
+    ∙ ap (λ (x : ℕ). record { f = f; g = x; b = s .b; d = s .d }) eg
+    ∙ ap (λ (x : ℕ). record { f = f; g = g; b = x; d = s .d }) eb
+    ∙ ap (λ (x : ℕ). record { f = f; g = g; b = b; d = x }) ed
+
+pub direct-same : (f b u v u′ : ℕ) (s t : Source) → DirectSource f b u v s → DirectSource f b u′ v t → u′ ≡ u → t ≡ s
+direct-same f b u v u′ s t d e same =
+    source-is t (e .forward) (e .other) (e .backward) (e .bit ∙ ap (λ (k : ℕ). v - k) same)
+    ∙ sym (source-is s (d .forward) (d .other) (d .backward) (d .bit))
+
+module _ (r : List Float) (w f b u v : ℕ) (s : Source) (at-f : Place (length r) w f) (at-b : Place (length r) w b) (order : u < v) (near : v - u < w)
+    (d : DirectSource f b u v s) where
   pub direct-sourced : Sourced (length r) w s
   direct-sourced = record {
-    forward = rw (d .forward) (forward-at plan (length r) n w scales u v ready pair);
-    other = rw (d .other) (forward-at plan (length r) n w scales u v ready pair);
-    backward = rw (d .backward) (backward-at plan (length r) n w scales u v ready pair);
-    some = rw (d .bit) (omega (arith, pair .order));
-    small = rw (d .bit) (omega (arith, ready .narrow));
+    forward = rw (d .forward) at-f;
+    other = rw (d .other) at-f;
+    backward = rw (d .backward) at-b;
+    some = rw (d .bit) (omega arith);
+    small = rw (d .bit) (omega (arith, at-f .narrow));
   }
 
-  pub direct-of : (J : Job Float) (elementwise : Bool) → PlanSwept J plan r n w scales elementwise → SourceOf J r w u v s
-  direct-of J elementwise passed = record {
-    z-of = λ t g. rw (d .forward, d .backward) at (g .z-is) ∙ z-at J plan r n w scales u v elementwise pair passed (ready .wide);
-    n-of = λ t g. rw (d .other, d .backward, d .bit) at (g .n-is)
-        ∙ direct-sum J w u v (passed .of .window) _ _ (ready .wide) (backward-half J plan r n w scales u v elementwise pair passed) near
-        (forward-half J plan r n w scales u v elementwise pair passed);
+  pub direct-of : (J : Job Float) → VertexHalves J r w f b v → SourceOf J r w u v s
+  direct-of J h = record {
+    z-of = λ t g. rw (d .forward, d .backward) at (g .z-is) ∙ z-at J r w f b u v h (at-f .wide);
+    n-of = λ t g. rw (d .other, d .backward, d .bit) at (g .n-is) ∙ direct-sum J w u v (h .window) _ _ (at-f .wide) (h .backward) near (h .forward);
   }
 
 -- ---- what the code returns
 
 module _ (plan : List ℕ) (r₀ : List Float) (n w scales u v : ℕ) (current : CurrentVector) (s : Source) (ready : Ready plan (length r₀) n w scales)
-    (pair : PairPlaces plan n w u v) (d : DirectSource plan u v s) where
+    (pair : PairPlaces plan n w u v) (d : DirectSource (forwardPlace plan v) (backwardPlace plan v) u v s) where
+  -- with the room r, of r₀'s length
+  halves : (r : List Float) → length r ≡ length r₀ → Place (length r) w (forwardPlace plan v) × Place (length r) w (backwardPlace plan v)
+  halves r e = rw e (forward-at plan (length r₀) n w scales u v ready pair, backward-at plan (length r₀) n w scales u v ready pair)
+
   pub aimed-direct : v - u < w → current .place < 2 → (a : Aim) → a .source ≡ s → a .current ≡ current → Aimed plan r₀ r₀ n w scales u v current a
   aimed-direct l low a es eh =
       record {
         moving = rw eh low;
         still = still-none r₀ w scales;
-        sourced = rw es (direct-sourced plan r₀ n w scales u v s ready pair l d);
+        sourced = rw es (direct-sourced r₀ w _ _ u v s (halves r₀ refl .0) (halves r₀ refl .1) (pair .order) l d);
         known = λ J elementwise passed known. rw eh known;
-        source-of = λ J elementwise passed known. rw es (direct-of plan r₀ n w scales u v s ready pair l d J elementwise passed);
+        source-of = λ J elementwise passed known. rw es
+            (direct-of r₀ w _ _ u v s (halves r₀ refl .0) (halves r₀ refl .1) (pair .order) l d J (swept-halves plan (length r₀) n w scales u v ready pair J r₀ elementwise passed));
       }
 
   -- the propagated vector is read in place of the forward one, with the window's bit
@@ -136,6 +154,9 @@ module _ (plan : List ℕ) (r₀ : List Float) (n w scales u v : ℕ) (current :
       let p = still-ready plan r₀ r n w scales (g .still) ready in
       let now : (J : Job Float) (elementwise : Bool) → PlanSwept J plan r₀ n w scales elementwise → PlanSwept J plan r n w scales elementwise =
       λ J elementwise passed. still-passed J plan r₀ r n w scales elementwise ready (g .still) passed in
+      let halves-now : (J : Job Float) (elementwise : Bool) → PlanSwept J plan r₀ n w scales elementwise
+      → VertexHalves J r w (forwardPlace plan v) (backwardPlace plan v) v =
+      λ J elementwise passed. swept-halves plan (length r) n w scales u v p pair J r elementwise (now J elementwise passed) in
       record {
         moving = rw eh (g .moving);
         still = g .still;
@@ -148,9 +169,10 @@ module _ (plan : List ℕ) (r₀ : List Float) (n w scales u v : ℕ) (current :
         });
         known = λ J elementwise passed known. rw eh (record { reached = λ _. g .reached J elementwise passed known });
         source-of = λ J elementwise passed known. rw es (record {
-          z-of = λ t h. rw (d .forward, d .backward) at (h .z-is) ∙ z-at J plan r n w scales u v elementwise pair (now J elementwise passed) (ready .wide);
+          z-of = λ t h. rw (d .forward, d .backward) at (h .z-is)
+              ∙ z-at J r w _ _ u v (halves-now J elementwise passed) (ready .wide);
           n-of = λ t h. rw (d .backward) at (h .n-is)
               ∙ propagated-sum J w u v (passed .of .window) _ _ (ready .wide)
-              (backward-half J plan r n w scales u v elementwise pair (now J elementwise passed)) l (g .reached J elementwise passed known .vector);
+              (halves-now J elementwise passed .backward) l (g .reached J elementwise passed known .vector);
         });
       }

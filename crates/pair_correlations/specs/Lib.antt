@@ -3,5 +3,6 @@ pub mod Sound
 pub mod Served
 pub mod Aim
 pub mod Two
+pub mod Direct
 -- and the laws of these definitions, which no reader needs to believe.
 pub mod Laws

@@ -1,10 +1,8 @@
-// One pair: where its sums are read, and whether its Z gives an answer.
-ghost use mathlib.Core.Path.{_≡_};
+// Where the sums of a pair are read.
 ghost use Prim.Native.Nat.{_<_};
 ghost use lib.ListN.{length};
-ghost use Rattle.plan_steps.specs.Layout.{Holds};
+ghost use Rattle.plan_steps.specs.Layout.{Holds, forwardPlace, backwardPlace};
 ghost use Rattle.vertex_step.specs.Ready.{Ready};
-ghost use Rattle.pair_correlations.specs.Sound.{soundly};
 ghost use Rattle.pair_correlations.specs.Aim.{PairPlaces, DirectSource, Aimed};
 use pair_sums::Source;
 use plan_steps::backward_place;
@@ -21,7 +19,7 @@ pub struct Aim {
 // Where the sums of the direct pair u < v are read.
 pub fn direct_source(plan: &[usize], n: usize, w: usize, u: usize, v: usize) -> Source
     requires { ⌜ Holds (now plan) n × PairPlaces (now plan) n w u v ⌝ }
-    ensures { λ r. ⌜ DirectSource (now (plan .entry)) u v r ⌝ }
+    ensures { λ r. ⌜ DirectSource (forwardPlace (now (plan .entry)) v) (backwardPlace (now (plan .entry)) v) u v r ⌝ }
 {
     let f = forward_place(plan, v);
     let b = backward_place(plan, v);
@@ -70,14 +68,4 @@ pub fn aim_at(
         source: far,
         current: reached,
     }
-}
-
-// Is z finite and above zero?
-pub fn is_sound(z: f64) -> bool
-    ensures { λ r. ⌜ r ≡ soundly z ⌝ }
-{
-    if z > 0.0 {
-        return z < 1.0 / 0.0;
-    }
-    false
 }

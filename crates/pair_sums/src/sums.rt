@@ -30,7 +30,7 @@ pub struct Both {
 }
 
 // One iteration there: the terms of the indexes i and i + 1. i is even and d is not 0, so both have one bit d.
-fn terms_there(v: &[f64], at: Source, i: usize, s: Sums) -> Sums
+pub fn terms_there(v: &[f64], at: Source, i: usize, s: Sums) -> Sums
     requires { ⌜ Within (length (now v)) (i + 2) at × (i % 2 ≡ 0) ⌝ }
     ensures { λ r. ⌜ ((w : ℕ) → 1 ≤ w → i + 2 ≤ 2 ^ (w - 1) → Summed (now (v .entry)) at w i s → Summed (now (v .entry)) at w (i + 2) r) ⌝ }
 {
@@ -47,7 +47,7 @@ fn terms_there(v: &[f64], at: Source, i: usize, s: Sums) -> Sums
 }
 
 // One iteration back: the terms of the indexes i + 1 and i.
-fn terms_back(v: &[f64], at: Source, i: usize, s: Sums) -> Sums
+pub fn terms_back(v: &[f64], at: Source, i: usize, s: Sums) -> Sums
     requires { ⌜ Within (length (now v)) (i + 2) at × (i % 2 ≡ 0) ⌝ }
     ensures { λ r. ⌜ ((w : ℕ) → 1 ≤ w → i + 2 ≤ 2 ^ (w - 1) → Summed (now (v .entry)) at w (2 ^ w - (i + 2)) s → Summed (now (v .entry)) at w (2 ^ w - i) r) ⌝ }
 {
@@ -64,7 +64,7 @@ fn terms_back(v: &[f64], at: Source, i: usize, s: Sums) -> Sums
 }
 
 // The sums over halves of one entry, which is taken there and back.
-fn sums_of_one(v: &[f64], at: Source) -> Sums
+pub fn sums_of_one(v: &[f64], at: Source) -> Sums
     requires { ⌜ Within (length (now v)) 1 at ⌝ }
     ensures { λ r. ⌜ ((w : ℕ) → w ≡ 1 → Summed (now (v .entry)) at w (2 ^ w) r) ⌝ }
 {
@@ -103,7 +103,7 @@ fn there_and_back(v: &[f64], x: Source, y: Source, w: usize) -> Both
 }
 
 // The same by the numbers at which the places begin.
-fn begins(room: &[f64], w: usize, s: Source) -> Source
+pub fn begins(room: &[f64], w: usize, s: Source) -> Source
     requires { ⌜ Sourced (length (now room)) w s ⌝ }
     ensures { λ r. ⌜ Begun w s r ⌝ }
 {

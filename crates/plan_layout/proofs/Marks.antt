@@ -12,8 +12,8 @@ use lib.ListN.{length, getD, set, replicate, length-replicate, getD-replicate, L
 use lib.Seq.{getD-set-same, getD-set-other}
 use borrow.Author.Tests.{eq-eqb, ne-eqb}
 use Rattle.list_laws.specs.Search.{some}
-use Rattle.transfer_matrix.specs.Room.{earlier, later, isPropagated, keepsForward, keepsBackward}
-use Rattle.plan_layout.specs.Places.{Marked, MarkedToo}
+use Rattle.transfer_matrix.specs.Room.{Arrangement, arranged, waits, earlier, later, isPropagated, keepsForward, keepsBackward}
+use Rattle.plan_layout.specs.Places.{Marked, MarkedToo, waitingPair}
 
 -- no mark is set at first
 pub unmarked : (k : ℕ) → Marked (replicate k false) (λ t. false)
@@ -40,8 +40,12 @@ mark-left marks t = record { at = λ u. rw (and-false (eqb t u)) (sym (or-false 
 abbrev pub asksForward : ℕ → List ℕ → List ℕ → ℕ → ℕ → Bool
 asksForward w us vs t i = eqb (later us vs i) t || (eqb (earlier us vs i) t && isPropagated w us vs i)
 
-abbrev pub asksBackward : List ℕ → List ℕ → ℕ → ℕ → Bool
-asksBackward us vs t i = eqb (later us vs i) t
+abbrev pub asksBackward : Arrangement → ℕ → List ℕ → List ℕ → ℕ → ℕ → Bool
+asksBackward A w us vs t i = eqb (later us vs i) t && waits A w us vs i
+
+waits-is : (less : Bool) (w : ℕ) (us vs : List ℕ) (i : ℕ) → waitingPair less w (getD us i 0) (getD vs i 0) ≡ waits (arranged less) w us vs i
+waits-is true w us vs i = refl
+waits-is false w us vs i = refl
 
 -- what the first i pairs ask for is marked
 abbrev pub Asked : List Bool → (ℕ → ℕ → Bool) → ℕ → Type 0
@@ -61,9 +65,6 @@ module _ (marks marks′ : List Bool) (us vs : List ℕ) (i v : ℕ) (ev : v ≡
   at-later : (t : ℕ) → getD marks′ t false ≡ (getD marks t false || eqb (later us vs i) t)
   at-later t = marked .at t ∙ ap (λ (x : Bool). getD marks t false || x) (and-true (eqb v t) ∙ ap (λ (x : ℕ). eqb x t) ev)
 
-  pub backward-iteration : Asked marks (asksBackward us vs) i → Asked marks′ (asksBackward us vs) (i + 1)
-  backward-iteration h = one-more marks marks′ (asksBackward us vs) i h at-later
-
   pub forward-iteration : (w u : ℕ) (kept : Bool) (marks″ : List Bool) → u ≡ earlier us vs i → kept ≡ isPropagated w us vs i
       → MarkedToo marks′ marks″ u kept → Asked marks (asksForward w us vs) i → Asked marks″ (asksForward w us vs) (i + 1)
   forward-iteration w u kept marks″ eu ek f h =
@@ -76,10 +77,19 @@ module _ (marks marks′ : List Bool) (us vs : List ℕ) (i v : ℕ) (ev : v ≡
       ∙ ap (λ (x : Bool). x || (eqb (earlier us vs i) t && isPropagated w us vs i)) (at-later t)
       ∙ or-assoc a b (eqb (earlier us vs i) t && isPropagated w us vs i))
 
+pub backward-iteration : (marks marks′ : List Bool) (less : Bool) (w : ℕ) (us vs : List ℕ) (i v : ℕ) (kept : Bool) → v ≡ later us vs i
+    → kept ≡ waitingPair less w (getD us i 0) (getD vs i 0) → MarkedToo marks marks′ v kept → Asked marks (asksBackward (arranged less) w us vs) i
+    → Asked marks′ (asksBackward (arranged less) w us vs) (i + 1)
+backward-iteration marks marks′ less w us vs i v kept ev ek m h =
+    one-more marks marks′ (asksBackward (arranged less) w us vs) i h
+    (λ t.
+    let e : (eqb v t && kept) ≡ (eqb (later us vs i) t && waits (arranged less) w us vs i) = rw (ev, ek, waits-is less w us vs i) in
+    m .at t ∙ ap (λ (x : Bool). getD marks t false || x) e)
+
 pub forward-end : (marks : List Bool) (w : ℕ) (us vs : List ℕ) → Asked marks (asksForward w us vs) (length us) → Marked marks (keepsForward w us vs)
 unfolding keepsForward
 forward-end marks w us vs h = record { at = h .at }
 
-pub backward-end : (marks : List Bool) (us vs : List ℕ) → Asked marks (asksBackward us vs) (length us) → Marked marks (keepsBackward us vs)
+pub backward-end : (marks : List Bool) (A : Arrangement) (w : ℕ) (us vs : List ℕ) → Asked marks (asksBackward A w us vs) (length us) → Marked marks (keepsBackward A w us vs)
 unfolding keepsBackward
-backward-end marks us vs h = record { at = h .at }
+backward-end marks A w us vs h = record { at = h .at }

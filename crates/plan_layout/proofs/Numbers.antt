@@ -11,7 +11,7 @@ use lib.ListN.{getD, set}
 use lib.Seq.{getD-set-same, getD-set-other}
 use Rattle.list_laws.specs.Count.{count}
 use Rattle.list_laws.specs.Laws.Count.{count-ext}
-use Rattle.transfer_matrix.specs.Room.{keepsForward, keepsBackward}
+use Rattle.transfer_matrix.specs.Room.{Arrangement, keepsForward, keepsBackward}
 use Rattle.plan_steps.specs.Layout.{numbers, forwardPlaceAt, backwardPlaceAt, indexOf, Holds, SameStep}
 use Rattle.plan_layout.specs.Places.{Marked, placeAt, Numbered, moving, backwardFrom, placesOf, Places, Placed}
 
@@ -49,28 +49,28 @@ module _ (marks : List Bool) (test : ℕ → Bool) (h : Marked marks test) where
   place-marks from t = rw (h .at t, marks-count t)
 
 -- forward places behind those of the moving vectors, then the backward places
-module _ (plan₀ plan₁ plan₂ us vs : List ℕ) (forward backward : List Bool) (n w f b : ℕ)
-    (hf : Marked forward (keepsForward w us vs)) (hb : Marked backward (keepsBackward us vs))
+module _ (A : Arrangement) (plan₀ plan₁ plan₂ us vs : List ℕ) (forward backward : List Bool) (n w f b : ℕ)
+    (hf : Marked forward (keepsForward w us vs)) (hb : Marked backward (keepsBackward A w us vs))
     (gf : Numbered plan₀ plan₁ (λ t. getD forward t false) forwardPlaceAt moving n f)
     (gb : Numbered plan₁ plan₂ (λ t. getD backward t false) backwardPlaceAt f n b) where
   from-is : f ≡ backwardFrom n w us vs
   from-is = gf .free ∙ ap (λ (c : ℕ). moving + c) (marks-count forward (keepsForward w us vs) hf n)
 
-  end-is : b ≡ placesOf n w us vs
-  end-is = omega (arith, gb .free, from-is, marks-count backward (keepsBackward us vs) hb n)
+  end-is : b ≡ placesOf A n w us vs
+  end-is = omega (arith, gb .free, from-is, marks-count backward (keepsBackward A w us vs) hb n)
 
-  places-of : Places plan₂ us vs n w
+  places-of : Places A plan₂ us vs n w
   places-of =
       record {
         forward = λ t l.
             gb .others t forwardPlaceAt (omega arith) (λ e. omega arith) ∙ gf .given t l
             ∙ place-marks forward (keepsForward w us vs) hf moving t;
         backward = λ t l.
-            gb .given t l ∙ place-marks backward (keepsBackward us vs) hb f t ∙ ap (λ (from : ℕ). placeAt (keepsBackward us vs) from t) from-is;
+            gb .given t l ∙ place-marks backward (keepsBackward A w us vs) hb f t ∙ ap (λ (from : ℕ). placeAt (keepsBackward A w us vs) from t) from-is;
       }
 
   same-steps : (t : ℕ) → SameStep plan₀ plan₂ t
   same-steps t k l = gb .others t k (omega arith) (λ e. omega arith) ∙ gf .others t k (omega arith) (λ e. omega arith)
 
-  pub placed : Placed plan₀ plan₂ us vs n w b
+  pub placed : Placed A plan₀ plan₂ us vs n w b
   placed = record { count-is = end-is; places = places-of; same = same-steps }

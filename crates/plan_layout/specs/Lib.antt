@@ -1,4 +1,5 @@
 -- The definitions that the contracts cite.
+pub mod Arrangements
 pub mod Places
 pub mod Work
 pub mod Order

@@ -3,7 +3,7 @@ use mathlib.Core.Path.{_≡_}
 use mathlib.Core.List.{List}
 use Prim.Native.Nat.{ℕ, _+_, _*_, _^_}
 use lib.ListN.{length}
-use Rattle.transfer_matrix.specs.Room.{room}
+use Rattle.transfer_matrix.specs.Room.{Arrangement, room}
 use Rattle.plan_steps.specs.Edges.{Steps}
 use Rattle.plan_layout.specs.Places.{placesOf, Places}
 
@@ -14,9 +14,9 @@ pub record Laid (n w m places scales factors end : ℕ) : Type 0 where
   pub ends : end ≡ factors + m
 
 -- the plan of a job and its pairs, and the layout of the work memory that goes with it
-pub record Planned (plan early late us vs : List ℕ) (n w places scales factors end : ℕ) : Type 0 where
+pub record Planned (arrangement : Arrangement) (plan early late us vs : List ℕ) (n w places scales factors end : ℕ) : Type 0 where
   pub steps : Steps plan early late n w
-  pub kept : Places plan us vs n w
-  pub count-is : places ≡ placesOf n w us vs
+  pub kept : Places arrangement plan us vs n w
+  pub count-is : places ≡ placesOf arrangement n w us vs
   pub laid : Laid n w (length early) places scales factors end
-  pub ends : end ≡ room n w (length early) us vs
+  pub ends : end ≡ room arrangement n w (length early) us vs

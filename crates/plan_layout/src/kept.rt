@@ -5,12 +5,13 @@ ghost use Prim.Native.Nat.{_+_, _*_, _-_, _<_, _≤_};
 ghost use lib.ListN.{length, getD, set};
 ghost use Rattle.limits.specs.Limits.{mostVertices};
 ghost use Rattle.list_laws.specs.Count.{count};
-ghost use Rattle.transfer_matrix.specs.Room.{keepsForward, keepsBackward};
+ghost use Rattle.transfer_matrix.specs.Room.{arranged, keepsForward, keepsBackward};
 ghost use Rattle.plan_steps.specs.Layout.{numbers, indexOf, Holds};
 ghost use Rattle.plan_layout.specs.Places.{Pairs, Marked, MarkedToo, Numbered, placesOf, Placed};
 use crate::pairs::earlier;
 use crate::pairs::is_propagated;
 use crate::pairs::later;
+use crate::pairs::waits;
 use limits::VERTICES;
 use plan_steps::BACKWARD_PLACE;
 use plan_steps::FORWARD_PLACE;
@@ -44,14 +45,16 @@ fn mark_forward(marks: &mut [bool], w: usize, us: &[usize], vs: &[usize])
     }
 }
 
-// Marks the vertices whose backward vector is kept: later ones.
-fn mark_backward(marks: &mut [bool], us: &[usize], vs: &[usize])
+// Marks the vertices whose backward vector is kept: later ones of pairs that wait.
+fn mark_backward(marks: &mut [bool], less: bool, w: usize, us: &[usize], vs: &[usize])
     requires { ⌜ Pairs (now us) (now vs) (length (now marks)) × Marked (now marks) (λ t. false) ⌝ }
-    ensures { λ _. ⌜ Marked (now (marks .exit)) (keepsBackward (now (us .entry)) (now (vs .entry))) ⌝ }
+    ensures { λ _. ⌜ Marked (now (marks .exit)) (keepsBackward (arranged less) w (now (us .entry)) (now (vs .entry))) ⌝ }
 {
     let mut i = 0usize;
     while i < us.len() {
-        mark(marks, later(us[i], vs[i]), true);
+        let u = us[i];
+        let v = vs[i];
+        mark(marks, later(u, v), waits(less, w, u, v));
         i += 1;
     }
 }
@@ -101,26 +104,33 @@ fn count_marks(marks: &[bool], n: usize) -> usize
 }
 
 // The number of places: the moving vectors, the kept forward ones and the kept backward ones.
-pub fn count_places(n: usize, w: usize, us: &[usize], vs: &[usize]) -> usize
+pub fn count_places(less: bool, n: usize, w: usize, us: &[usize], vs: &[usize]) -> usize
     requires { ⌜ Pairs (now us) (now vs) n × (n ≤ mostVertices) ⌝ }
-    ensures { λ r. ⌜ r ≡ placesOf n w (now (us .entry)) (now (vs .entry)) ⌝ }
+    ensures { λ r. ⌜ r ≡ placesOf (arranged less) n w (now (us .entry)) (now (vs .entry)) ⌝ }
 {
     let mut forward = [false; VERTICES];
     mark_forward(&mut forward, w, us, vs);
     let mut backward = [false; VERTICES];
-    mark_backward(&mut backward, us, vs);
+    mark_backward(&mut backward, less, w, us, vs);
     MOVING + count_marks(&forward, n) + count_marks(&backward, n)
 }
 
 // The places of all kept vectors in the plan. Returns the number of places.
-pub fn plan_places(plan: &mut [usize], n: usize, w: usize, us: &[usize], vs: &[usize]) -> usize
+pub fn plan_places(
+    plan: &mut [usize],
+    less: bool,
+    n: usize,
+    w: usize,
+    us: &[usize],
+    vs: &[usize],
+) -> usize
     requires { ⌜ Pairs (now us) (now vs) n × (n ≤ mostVertices) × Holds (now plan) n ⌝ }
-    ensures { λ r. ⌜ Placed (now (plan .entry)) (now (plan .exit)) (now (us .entry)) (now (vs .entry)) n w r ⌝ }
+    ensures { λ r. ⌜ Placed (arranged less) (now (plan .entry)) (now (plan .exit)) (now (us .entry)) (now (vs .entry)) n w r ⌝ }
 {
     let mut forward = [false; VERTICES];
     mark_forward(&mut forward, w, us, vs);
     let mut backward = [false; VERTICES];
-    mark_backward(&mut backward, us, vs);
+    mark_backward(&mut backward, less, w, us, vs);
     let next = number_places(plan, n, FORWARD_PLACE, &forward, MOVING);
     number_places(plan, n, BACKWARD_PLACE, &backward, next)
 }

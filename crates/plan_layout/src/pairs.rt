@@ -1,7 +1,7 @@
 // A pair of vertices, its ends in either order.
 ghost use mathlib.Core.Path.{_≡_};
 ghost use Prim.Native.Nat.{min, max};
-ghost use Rattle.plan_layout.specs.Places.{propagatedPair};
+ghost use Rattle.plan_layout.specs.Places.{propagatedPair, waitingPair};
 
 pub fn earlier(u: usize, v: usize) -> usize
     ensures { λ r. ⌜ r ≡ min u v ⌝ }
@@ -21,6 +21,16 @@ pub fn is_propagated(w: usize, u: usize, v: usize) -> bool
 {
     if later(u, v) - earlier(u, v) < w {
         return false;
+    }
+    true
+}
+
+// Whether a pair waits for both sweeps: every pair, or propagated ones alone where less room is taken.
+pub fn waits(less: bool, w: usize, u: usize, v: usize) -> bool
+    ensures { λ r. ⌜ r ≡ waitingPair less w u v ⌝ }
+{
+    if less {
+        return is_propagated(w, u, v);
     }
     true
 }

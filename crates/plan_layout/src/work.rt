@@ -6,7 +6,7 @@ ghost use lib.ListN.{length};
 ghost use Rattle.limits.specs.Limits.{mostEdges, mostVertices, mostWindow};
 ghost use Rattle.transfer_matrix.specs.Job.{tooManyNear};
 ghost use Rattle.transfer_matrix.specs.Configuration.{numbered};
-ghost use Rattle.transfer_matrix.specs.Room.{room as roomOf};
+ghost use Rattle.transfer_matrix.specs.Room.{arranged, room as roomOf};
 ghost use Rattle.plan_steps.specs.Layout.{Holds};
 ghost use Rattle.plan_steps.specs.Edges.{Edges};
 ghost use Rattle.plan_layout.specs.Places.{Pairs};
@@ -41,11 +41,11 @@ fn work_of(places: usize, n: usize, w: usize, m: usize) -> Work
 }
 
 // The doubles of work memory that a call needs.
-pub fn room_needed(n: usize, w: usize, m: usize, us: &[usize], vs: &[usize]) -> usize
+pub fn room_needed(less: bool, n: usize, w: usize, m: usize, us: &[usize], vs: &[usize]) -> usize
     requires { ⌜ Pairs (now us) (now vs) n × (n ≤ mostVertices) × (w ≤ mostWindow) × (m ≤ mostEdges) ⌝ }
-    ensures { λ r. ⌜ r ≡ roomOf n w m (now (us .entry)) (now (vs .entry)) ⌝ }
+    ensures { λ r. ⌜ r ≡ roomOf (arranged less) n w m (now (us .entry)) (now (vs .entry)) ⌝ }
 {
-    let places = count_places(n, w, us, vs);
+    let places = count_places(less, n, w, us, vs);
     let work = work_of(places, n, w, m);
     work.room
 }
@@ -53,6 +53,7 @@ pub fn room_needed(n: usize, w: usize, m: usize, us: &[usize], vs: &[usize]) -> 
 // The plan of a job: its steps, and the places of the vectors that its pairs need. Returns the layout of the work memory.
 pub fn make_plan(
     plan: &mut [usize],
+    less: bool,
     n: usize,
     w: usize,
     early: &[usize],
@@ -62,10 +63,10 @@ pub fn make_plan(
 ) -> Work
     requires { ⌜ Edges (now early) (now late) n w × (length (now early) ≤ mostEdges) × Pairs (now us) (now vs) n × Holds (now plan) n
         × (tooManyNear n w (numbered (now early) (now late)) ≡ false) ⌝ }
-    ensures { λ r. ⌜ Planned (now (plan .exit)) (now (early .entry)) (now (late .entry)) (now (us .entry)) (now (vs .entry)) n w
+    ensures { λ r. ⌜ Planned (arranged less) (now (plan .exit)) (now (early .entry)) (now (late .entry)) (now (us .entry)) (now (vs .entry)) n w
         (r .places) (r .scales) (r .factors) (r .room) ⌝ }
 {
     plan_edges(plan, n, w, early, late);
-    let places = plan_places(plan, n, w, us, vs);
+    let places = plan_places(plan, less, n, w, us, vs);
     work_of(places, n, w, early.len())
 }

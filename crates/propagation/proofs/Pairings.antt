@@ -20,6 +20,9 @@ module _ (directs all direct other : ℕ) (below : direct ≤ directs) (behind :
       record {
         first = a;
         second = omega arith;
+        first-new = omega arith;
+        second-new = omega arith;
+        on = omega arith;
         paired = inr b;
         below = omega arith;
         behind = omega arith;
@@ -39,6 +42,9 @@ module _ (directs all direct other : ℕ) (below : direct ≤ directs) (behind :
       record {
         first = a;
         second = a;
+        first-new = omega arith;
+        second-new = omega arith;
+        on = omega arith;
         paired = inl refl;
         below = below;
         behind = omega arith;
@@ -57,6 +63,9 @@ module _ (directs all direct other : ℕ) (below : direct ≤ directs) (behind :
       record {
         first = omega arith;
         second = omega arith;
+        first-new = omega arith;
+        second-new = omega arith;
+        on = omega arith;
         paired = inl refl;
         below = omega arith;
         behind = behind;
@@ -76,6 +85,9 @@ module _ (directs all direct other : ℕ) (below : direct ≤ directs) (behind :
       record {
         first = omega arith;
         second = omega arith;
+        first-new = omega arith;
+        second-new = omega arith;
+        on = omega arith;
         paired = inr a;
         below = omega arith;
         behind = behind;

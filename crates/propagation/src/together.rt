@@ -1,8 +1,7 @@
 // Which pairs are answered together. The order has the direct pairs first; a propagated pair is answered with a direct one beside it, and the
 // direct pairs that are left two by two.
 ghost use Prim.Native.Nat.{_+_, _≤_, _<_};
-ghost use lib.ListN.{length};
-ghost use Rattle.plan_layout.specs.Order.{Ordered};
+ghost use Rattle.plan_layout.specs.Order.{InOrder};
 ghost use Rattle.plan_layout.specs.Places.{Pairs};
 ghost use Rattle.propagation.specs.Pairing.{NextPairing, Directs};
 use plan_layout::is_propagated;
@@ -54,9 +53,9 @@ pub fn next_pairing(directs: usize, all: usize, direct: usize, other: usize) -> 
     }
 }
 
-// How many pairs at the front of the order are direct.
+// How many pairs are direct: they stand at the front of the order.
 pub fn direct_pairs(us: &[usize], vs: &[usize], order: &[usize], n: usize, w: usize) -> usize
-    requires { ⌜ Pairs (now us) (now vs) n × Ordered (now order) (length (now us)) ⌝ }
+    requires { ⌜ Pairs (now us) (now vs) n × InOrder (now order) (now us) (now vs) w ⌝ }
     ensures { λ r. ⌜ Directs (now (us .entry)) (now (vs .entry)) (now (order .entry)) w r ⌝ }
 {
     let mut k = 0usize;

@@ -18,13 +18,13 @@ use Rattle.refusals.specs.Accepted.{Accepted}
 -- ---- in parts
 
 -- of the checks 12 and 13 the first that fits a call with this window and so many kept edges
-abbrev pub buffersRefusal : (n w edges : ℕ) → (us vs : List ℕ) → (misfit : Bool) → (work : ℕ) → ℕ
-buffersRefusal n w edges us vs misfit work = cond misfit 12 (cond (ltb work (Room.room n w edges us vs)) 13 0)
+abbrev pub buffersRefusal : Room.Arrangement → (n w edges : ℕ) → (us vs : List ℕ) → (misfit : Bool) → (work : ℕ) → ℕ
+buffersRefusal arrangement n w edges us vs misfit work = cond misfit 12 (cond (ltb work (Room.room arrangement n w edges us vs)) 13 0)
 
 -- of the checks 10, 12 and 13 the first, with one factor for each kept edge and one result for each pair
-abbrev pub listsRefusal : (n w edges : ℕ) → List ℕ → List ℕ → List Float → (results work : ℕ) → ℕ
-listsRefusal n w edges us vs factors results work =
-    cond (badFactorList factors edges) 10 (buffersRefusal n w edges us vs (not (eqb results (length us))) work)
+abbrev pub listsRefusal : Room.Arrangement → (n w edges : ℕ) → List ℕ → List ℕ → List Float → (results work : ℕ) → ℕ
+listsRefusal arrangement n w edges us vs factors results work =
+    cond (badFactorList factors edges) 10 (buffersRefusal arrangement n w edges us vs (not (eqb results (length us))) work)
 
 -- ---- a job that the checks 1 to 8 pass
 
@@ -41,15 +41,15 @@ pub record AcceptedJob (n floor : ℕ) (a b : List ℕ) (m : List Float) (us vs 
 
 -- ---- and lists that 10, 12 and 13 pass
 
-pub record AcceptedLists (n w edges : ℕ) (us vs : List ℕ) (factors : List Float) (results work : ℕ) : Type 0 where
+pub record AcceptedLists (arrangement : Room.Arrangement) (n w edges : ℕ) (us vs : List ℕ) (factors : List Float) (results work : ℕ) : Type 0 where
   pub factor-count : length factors ≡ edges
   pub factors-pass : (e : ℕ) → e < edges → passes (getD factors e nan) ≡ true
   pub fitting : results ≡ length us
-  pub enough : Room.room n w edges us vs ≤ work
+  pub enough : Room.room arrangement n w edges us vs ≤ work
 
 -- ---- A call that is accepted, or refused by 14 alone, has passed all before it.
 
-pub record AcceptedCorrelations (n floor : ℕ) (a b : List ℕ) (m : List Float) (us vs : List ℕ) (factors : List Float) (results work : ℕ)
+pub record AcceptedCorrelations (arrangement : Room.Arrangement) (n floor : ℕ) (a b : List ℕ) (m : List Float) (us vs : List ℕ) (factors : List Float) (results work : ℕ)
     : Type 0 where
   pub job : AcceptedJob n floor a b m us vs
-  pub lists : AcceptedLists n (windowFrom floor a b m) (length (kept a b m)) us vs factors results work
+  pub lists : AcceptedLists arrangement n (windowFrom floor a b m) (length (kept a b m)) us vs factors results work

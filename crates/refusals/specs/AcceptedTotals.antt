@@ -19,16 +19,16 @@ use Rattle.refusals.specs.AcceptedJob.{AcceptedJob, buffersRefusal}
 -- ---- in parts
 
 -- of the checks 9, 22, 10, 12 and 13 the first that fits a caller's call with so many betas
-abbrev pub enumerationLists : Caller → (n w edges : ℕ) → (us vs : List ℕ) → (betas : ℕ) → (factors : List Float) → (free most : ℕ) → Bool → (work : ℕ) → ℕ
-enumerationLists caller n w edges us vs betas factors free most misfit work =
+abbrev pub enumerationLists : Caller → Room.Arrangement → (n w edges : ℕ) → (us vs : List ℕ) → (betas : ℕ) → (factors : List Float) → (free most : ℕ) → Bool → (work : ℕ) → ℕ
+enumerationLists caller arrangement n w edges us vs betas factors free most misfit work =
     cond (ltb most free) 9 (cond (overLimit caller testerFree free) 22
-    (cond (badFactorList factors (signedFactors betas edges)) 10 (buffersRefusal n w edges us vs misfit work)))
+    (cond (badFactorList factors (signedFactors betas edges)) 10 (buffersRefusal arrangement n w edges us vs misfit work)))
 
 -- of the checks 10 to 13 the first
-abbrev pub samplingLists : (n w edges : ℕ) → (us vs : List ℕ) → (betas : ℕ) → (factors : List Float) → (start end samples : ℕ) → Bool → (work : ℕ) → ℕ
-samplingLists n w edges us vs betas factors start end samples misfit work =
+abbrev pub samplingLists : Room.Arrangement → (n w edges : ℕ) → (us vs : List ℕ) → (betas : ℕ) → (factors : List Float) → (start end samples : ℕ) → Bool → (work : ℕ) → ℕ
+samplingLists arrangement n w edges us vs betas factors start end samples misfit work =
     cond (badFactorList factors (signedFactors betas edges)) 10
-    (cond (tooManyChunks start end samples) 11 (buffersRefusal n w edges us vs misfit work))
+    (cond (tooManyChunks start end samples) 11 (buffersRefusal arrangement n w edges us vs misfit work))
 
 -- two result buffers are not both of the length that is wanted; one buffer is the same twice
 abbrev pub misfits : (wanted squares fourths : ℕ) → Bool
@@ -39,11 +39,11 @@ misfits wanted squares fourths = not (eqb squares wanted) || not (eqb fourths wa
 -- ---- what has passed where none refuses
 
 -- a call for totals, behind 9 and 11
-pub record AcceptedTotals (n floor : ℕ) (a b : List ℕ) (m : List Float) (us vs : List ℕ) (betas factors : List Float) (misfit : Bool) (work : ℕ)
+pub record AcceptedTotals (arrangement : Room.Arrangement) (n floor : ℕ) (a b : List ℕ) (m : List Float) (us vs : List ℕ) (betas factors : List Float) (misfit : Bool) (work : ℕ)
     : Type 0 where
   pub job : AcceptedJob n floor a b m us vs
   pub betas-pass : AcceptedBetas betas
   pub factor-count : length factors ≡ signedFactors (length betas) (length (kept a b m))
   pub factors-pass : (e : ℕ) → e < signedFactors (length betas) (length (kept a b m)) → passes (getD factors e nan) ≡ true
   pub fitting : misfit ≡ false
-  pub enough : Room.room n (windowFrom floor a b m) (length (kept a b m)) us vs ≤ work
+  pub enough : Room.room arrangement n (windowFrom floor a b m) (length (kept a b m)) us vs ≤ work

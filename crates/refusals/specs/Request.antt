@@ -57,16 +57,17 @@ pub record Request : Type 0 where
   pub factorCount : ℕ
   -- whether a result buffer is not of its exact length, or too short where that is the rule
   pub misfit : Bool
-  -- the length of the work memory
+  -- how the call is arranged, and the length of its work memory
+  pub arrangement : Room.Arrangement
   pub work : ℕ
   -- whether some pair's Z is not finite and above zero
   pub unsound : Bool
 
 -- The request of a call that sweeps: whose it is and, besides a job, which configurations it sweeps, so many factors, result buffers, and work memory.
 -- Every other request is this one with parts that are empty.
-abbrev pub sweepRequest : Caller → (n floor : ℕ) → (a b : List ℕ) → List Float → (us vs : List ℕ) → List Float → Configurations
+abbrev pub sweepRequest : Caller → Room.Arrangement → (n floor : ℕ) → (a b : List ℕ) → List Float → (us vs : List ℕ) → List Float → Configurations
     → List Float → (count : ℕ) → (misfit : Bool) → (work : ℕ) → Bool → Request
-sweepRequest caller n floor a b m us vs betas configurations factors count misfit work unsound = record {
+sweepRequest caller arrangement n floor a b m us vs betas configurations factors count misfit work unsound = record {
   caller = caller;
   vertices = n;
   ones = a;
@@ -80,13 +81,14 @@ sweepRequest caller n floor a b m us vs betas configurations factors count misfi
   factors = factors;
   factorCount = count;
   misfit = misfit;
+  arrangement = arrangement;
   work = work;
   unsound = unsound;
 }
 
 -- The request of a call that sweeps nothing: a job, and result buffers.
 abbrev pub plainRequest : (n floor : ℕ) → (a b : List ℕ) → List Float → (us vs : List ℕ) → List Float → (misfit : Bool) → Request
-plainRequest n floor a b m us vs betas misfit = sweepRequest Desk n floor a b m us vs betas single [] 0 misfit 0 false
+plainRequest n floor a b m us vs betas misfit = sweepRequest Desk Room.keepAll n floor a b m us vs betas single [] 0 misfit 0 false
 
 -- The request of `couplings`: a graph and betas.
 abbrev pub couplingRequest : ℕ → List ℕ → List ℕ → (m betas : List Float) → Bool → Request
@@ -106,32 +108,32 @@ jobRequest n floor a b m us vs betas = plainRequest n floor a b m us vs betas fa
 
 -- The same, and whose call it is.
 abbrev pub callRequest : Caller → (n floor : ℕ) → (a b : List ℕ) → List Float → (us vs : List ℕ) → List Float → Request
-callRequest caller n floor a b m us vs betas = sweepRequest caller n floor a b m us vs betas single [] 0 false 0 false
+callRequest caller n floor a b m us vs betas = sweepRequest caller Room.keepAll n floor a b m us vs betas single [] 0 false 0 false
 
 -- The request of `room`: a job without betas.
 abbrev pub roomRequest : ℕ → ℕ → List ℕ → List ℕ → List Float → List ℕ → List ℕ → Request
 roomRequest n floor a b m us vs = jobRequest n floor a b m us vs []
 
 -- The request of `correlations`: one factor for each kept edge, one result for each pair.
-abbrev pub correlationRequest : Caller → (n floor : ℕ) → List ℕ → List ℕ → List Float → List ℕ → List ℕ → List Float → (results work : ℕ) → Bool → Request
-correlationRequest caller n floor a b m us vs factors results work unsound =
-    sweepRequest caller n floor a b m us vs [] single factors (length (kept a b m)) (not (eqb results (length us))) work unsound
+abbrev pub correlationRequest : Caller → Room.Arrangement → (n floor : ℕ) → List ℕ → List ℕ → List Float → List ℕ → List ℕ → List Float → (results work : ℕ) → Bool → Request
+correlationRequest caller arrangement n floor a b m us vs factors results work unsound =
+    sweepRequest caller arrangement n floor a b m us vs [] single factors (length (kept a b m)) (not (eqb results (length us))) work unsound
 
 -- the factors of a call for totals: for each beta and kept edge two, one a sign
 abbrev pub signedFactors : (betas edges : ℕ) → ℕ
 signedFactors betas edges = 2 * (betas * edges)
 
 -- The request of a call that goes through every configuration, of so many free edges where so many are the most.
-abbrev pub enumerationRequest : Caller → (n floor : ℕ) → (a b : List ℕ) → List Float → (us vs : List ℕ) → (betas factors : List Float)
+abbrev pub enumerationRequest : Caller → Room.Arrangement → (n floor : ℕ) → (a b : List ℕ) → List Float → (us vs : List ℕ) → (betas factors : List Float)
     → (free most : ℕ) → (misfit : Bool) → (work : ℕ) → Bool → Request
-enumerationRequest caller n floor a b m us vs betas factors free most misfit work unsound =
-    sweepRequest caller n floor a b m us vs betas (enumerated free most) factors (signedFactors (length betas) (length (kept a b m))) misfit work unsound
+enumerationRequest caller arrangement n floor a b m us vs betas factors free most misfit work unsound =
+    sweepRequest caller arrangement n floor a b m us vs betas (enumerated free most) factors (signedFactors (length betas) (length (kept a b m))) misfit work unsound
 
 -- The request of `sample`: chunks of drawn configurations, of as many free edges as there are.
-abbrev pub samplingRequest : Caller → (n floor : ℕ) → (a b : List ℕ) → List Float → (us vs : List ℕ) → (betas factors : List Float)
+abbrev pub samplingRequest : Caller → Room.Arrangement → (n floor : ℕ) → (a b : List ℕ) → List Float → (us vs : List ℕ) → (betas factors : List Float)
     → (free start end samples : ℕ) → (misfit : Bool) → (work : ℕ) → Bool → Request
-samplingRequest caller n floor a b m us vs betas factors free start end samples misfit work unsound =
-    sweepRequest caller n floor a b m us vs betas (sampled free start end samples) factors (signedFactors (length betas) (length (kept a b m))) misfit work
+samplingRequest caller arrangement n floor a b m us vs betas factors free start end samples misfit work unsound =
+    sweepRequest caller arrangement n floor a b m us vs betas (sampled free start end samples) factors (signedFactors (length betas) (length (kept a b m))) misfit work
     unsound
 
 -- 1. The vertex count is 0 or above 1,024.
@@ -238,6 +240,6 @@ tooManyChunks start end samples = ltb start end && ltb mostSamples ((end - start
 abbrev pub manySamples : Request → Bool
 manySamples r = tooManyChunks (r .configurations .start) (r .configurations .end) (r .configurations .samples)
 
--- 13. Work memory is shorter than the room.
+-- 13. Work memory is shorter than the room of the arrangement asked for.
 abbrev pub shortWork : Request → Bool
-shortWork r = ltb (r .work) (Room.room (r .vertices) (windowIn r) (length (keptIn r)) (r .firsts) (r .seconds))
+shortWork r = ltb (r .work) (Room.room (r .arrangement) (r .vertices) (windowIn r) (length (keptIn r)) (r .firsts) (r .seconds))

@@ -1,6 +1,7 @@
-// One job: its lists are loaded, the call is made, and what it answers and leaves in the lent lists is compared.
+// One job: its lists are loaded, the call is made in either arrangement, and what it answers and leaves in the lent lists is compared.
 use entry_correlations::Manner;
 use limits::Caller;
+use plan_layout::Arrangement;
 use refusals::Answer;
 use replay_format::Counted;
 use replay_format::NUMBERS;
@@ -25,6 +26,8 @@ use replay_format::word;
 const EDGES: usize = 4100;
 
 const PAIRS: usize = 260;
+// Refused for short work memory.
+const SHORT: usize = 13;
 // A refusal's number, told from a room.
 const REFUSED: u64 = 0x1_0000_0000;
 // The words that a record begins with, by their place.
@@ -75,6 +78,7 @@ fn room_word(room: Answer) -> u64 {
 fn call(
     list: &[u8],
     start: usize,
+    arrangement: Arrangement,
     a: &[usize],
     b: &[usize],
     m: &[f64],
@@ -99,13 +103,14 @@ fn call(
         vs,
         factors,
         manner,
+        arrangement,
         Caller::Desk,
         results,
         memory,
     )
 }
 
-// Whether the number, the results, which are stored at `place`, and the work memory are what they should be.
+// Whether the number, the results, which are stored at `place`, and the work memory, so much of it cleared, are what they should be.
 fn agrees(
     list: &[u8],
     start: usize,
@@ -113,8 +118,8 @@ fn agrees(
     number: usize,
     results: &[f64],
     memory: &[f64],
+    cleared: usize,
 ) -> bool {
-    let cleared = number_at(list, at(start, CLEARED));
     let before = word(list, at(start, BEFORE));
     (number == number_at(list, at(start, NUMBER)))
         & are_stored(results, list, place)
@@ -132,7 +137,56 @@ fn room_agrees(
 ) -> bool {
     let n = number_at(list, start);
     let floor = number_at(list, at(start, FLOOR));
-    room_word(job_checks::room(n, floor, a, b, m, us, vs)) == word(list, at(start, ROOM))
+    let room = job_checks::room(n, floor, a, b, m, us, vs, Arrangement::KeepAll);
+    room_word(room) == word(list, at(start, ROOM))
+}
+
+// How much is +0.0 after a call in less room: its own room, where the other arrangement's was cleared.
+fn less_cleared(cleared: usize, room: Answer) -> usize {
+    if cleared == 0 {
+        return 0;
+    }
+    match room {
+        Answer::Number(k) => k,
+        Answer::Refused(_) => 0,
+    }
+}
+
+// Whether the call in less room leaves the same. Where the other arrangement has too little work memory this one may have enough: such a job is passed over.
+fn less_agrees(
+    list: &[u8],
+    start: usize,
+    place: usize,
+    a: &[usize],
+    b: &[usize],
+    m: &[f64],
+    us: &[usize],
+    vs: &[usize],
+    factors: &[f64],
+    results: &mut [f64],
+    memory: &mut [f64],
+) -> bool {
+    if number_at(list, at(start, NUMBER)) == SHORT {
+        return true;
+    }
+    let number = call(
+        list,
+        start,
+        Arrangement::LessRoom,
+        a,
+        b,
+        m,
+        us,
+        vs,
+        factors,
+        results,
+        memory,
+    );
+    let n = number_at(list, start);
+    let floor = number_at(list, at(start, FLOOR));
+    let room = job_checks::room(n, floor, a, b, m, us, vs, Arrangement::LessRoom);
+    let cleared = less_cleared(number_at(list, at(start, CLEARED)), room);
+    agrees(list, start, place, number, results, memory, cleared)
 }
 
 // Loads the lists of the record that begins at `start`, lends them to the call, and compares what it leaves.
@@ -167,10 +221,36 @@ fn replay(list: &[u8], start: usize, work: &mut [f64]) -> Replayed {
     load_numbers(list, pairs.other, vs);
     load_doubles(list, pairs.next, factors);
     let place = at(pairs.next, factor_count);
-    let number = call(list, start, a, b, m, us, vs, factors, results, memory);
-    let same = agrees(list, start, place, number, results, memory);
+    let number = call(
+        list,
+        start,
+        Arrangement::KeepAll,
+        a,
+        b,
+        m,
+        us,
+        vs,
+        factors,
+        results,
+        memory,
+    );
+    let cleared = number_at(list, at(start, CLEARED));
+    let same = agrees(list, start, place, number, results, memory, cleared);
+    let less = less_agrees(
+        list,
+        start,
+        place,
+        a,
+        b,
+        m,
+        us,
+        vs,
+        factors,
+        results,
+        memory,
+    );
     Replayed {
-        same: same & room_agrees(list, start, a, b, m, us, vs),
+        same: same & less & room_agrees(list, start, a, b, m, us, vs),
         next: at(place, result_count),
     }
 }

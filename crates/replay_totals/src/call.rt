@@ -1,6 +1,7 @@
-// One call, by its record's first words: it is made, and what it answers and leaves in the lent lists is compared.
+// One call, by its record's first words: it is made in either arrangement, and what it answers and leaves in the lent lists is compared.
 use entry_correlations::Manner;
 use limits::Caller;
+use plan_layout::Arrangement;
 use refusals::Answer;
 use replay_format::are_cleared;
 use replay_format::are_stored;
@@ -9,6 +10,8 @@ use replay_format::fill;
 use replay_format::number_at;
 use replay_format::word;
 
+// Refused for short work memory.
+const SHORT: usize = 13;
 // A refusal's number, told from a count.
 const REFUSED: u64 = 0x100_0000_0000;
 // The words that a record begins with, by their place; the first is the number of vertices.
@@ -63,6 +66,7 @@ pub(crate) fn refusal_at(list: &[u8], start: usize) -> usize {
 fn answer(
     list: &[u8],
     start: usize,
+    arrangement: Arrangement,
     a: &[usize],
     b: &[usize],
     m: &[f64],
@@ -94,6 +98,7 @@ fn answer(
             betas,
             factors,
             manner,
+            arrangement,
             Caller::Desk,
             first,
             second,
@@ -112,6 +117,7 @@ fn answer(
             betas,
             factors,
             manner,
+            arrangement,
             Caller::Desk,
             first,
             memory,
@@ -128,6 +134,7 @@ fn answer(
         betas,
         factors,
         manner,
+        arrangement,
         Caller::Desk,
         seed,
         from,
@@ -139,10 +146,11 @@ fn answer(
     )
 }
 
-// Whether the answer is the stored one.
+// Whether the answer in an arrangement is the stored one.
 pub(crate) fn answers(
     list: &[u8],
     start: usize,
+    arrangement: Arrangement,
     a: &[usize],
     b: &[usize],
     m: &[f64],
@@ -160,6 +168,7 @@ pub(crate) fn answers(
     let answered = answer(
         list,
         start,
+        arrangement,
         a,
         b,
         m,
@@ -174,7 +183,38 @@ pub(crate) fn answers(
     answer_word(answered) == word(list, at(start, ANSWER))
 }
 
-// Whether the results, which are stored at two places, and the work memory are what they should be.
+// How much of the work memory is +0.0 after a call that keeps every vector.
+pub(crate) fn cleared_at(list: &[u8], start: usize) -> usize {
+    number_at(list, at(start, CLEARED))
+}
+
+// And after one in less room: its own room, where the other arrangement's was cleared.
+pub(crate) fn less_cleared_at(
+    list: &[u8],
+    start: usize,
+    a: &[usize],
+    b: &[usize],
+    m: &[f64],
+    us: &[usize],
+    vs: &[usize],
+) -> usize {
+    if cleared_at(list, start) == 0 {
+        return 0;
+    }
+    let n = number_at(list, start);
+    let floor = number_at(list, at(start, FLOOR));
+    match job_checks::room(n, floor, a, b, m, us, vs, Arrangement::LessRoom) {
+        Answer::Number(k) => k,
+        Answer::Refused(_) => 0,
+    }
+}
+
+// Whether work memory was short in the arrangement that keeps every vector: the other may have enough, and is not compared.
+pub(crate) fn is_short(list: &[u8], start: usize) -> bool {
+    refusal_at(list, start) == SHORT
+}
+
+// Whether the results, which are stored at two places, and the work memory, so much of it cleared, are what they should be.
 pub(crate) fn left_as_stored(
     list: &[u8],
     start: usize,
@@ -183,8 +223,8 @@ pub(crate) fn left_as_stored(
     first: &[f64],
     second: &[f64],
     memory: &[f64],
+    cleared: usize,
 ) -> bool {
-    let cleared = number_at(list, at(start, CLEARED));
     let before = word(list, at(start, BEFORE));
     are_stored(first, list, place)
         & are_stored(second, list, other)

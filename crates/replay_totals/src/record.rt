@@ -1,7 +1,11 @@
 // One record: its lists are loaded and lent to the call.
 use crate::call::answers;
+use crate::call::cleared_at;
+use crate::call::is_short;
 use crate::call::left_as_stored;
+use crate::call::less_cleared_at;
 use crate::call::refusal_at;
+use plan_layout::Arrangement;
 use replay_format::Counted;
 use replay_format::NUMBERS;
 use replay_format::Replayed;
@@ -85,6 +89,7 @@ fn replay(list: &[u8], start: usize, work: &mut [f64]) -> Replayed {
     let called = answers(
         list,
         start,
+        Arrangement::KeepAll,
         a,
         b,
         m,
@@ -96,8 +101,43 @@ fn replay(list: &[u8], start: usize, work: &mut [f64]) -> Replayed {
         second,
         memory,
     );
+    let kept = left_as_stored(
+        list,
+        start,
+        lent.next,
+        results.other,
+        first,
+        second,
+        memory,
+        cleared_at(list, start),
+    );
+    let called_less = answers(
+        list,
+        start,
+        Arrangement::LessRoom,
+        a,
+        b,
+        m,
+        us,
+        vs,
+        betas,
+        factors,
+        first,
+        second,
+        memory,
+    );
+    let less = left_as_stored(
+        list,
+        start,
+        lent.next,
+        results.other,
+        first,
+        second,
+        memory,
+        less_cleared_at(list, start, a, b, m, us, vs),
+    );
     Replayed {
-        same: called & left_as_stored(list, start, lent.next, results.other, first, second, memory),
+        same: called & kept & (called_less & less | is_short(list, start)),
         next: results.next,
     }
 }

@@ -1,4 +1,4 @@
--- The backward sweep: its start, and an iteration.
+-- The backward sweep: its start, where it goes on from, and an iteration.
 use mathlib.Core.Path.{_≡_, refl, sym, ap, _∙_, subst}
 use mathlib.Core.Bool.{Bool, cond}
 use mathlib.Core.List.{List}
@@ -28,7 +28,7 @@ use Rattle.vertex_step.specs.Laws.Ready.{tail-factors}
 use Rattle.vertex_step.specs.Laws.Steady.{step-below}
 use Rattle.vertex_step.specs.Through.{Through, backwardBy, through}
 use Rattle.vertex_step.specs.Laws.Through.{through-one, through-two}
-use Rattle.sweep_places.specs.Target.{Target}
+use Rattle.sweep_places.specs.Target.{Target, Free}
 use Rattle.sweep_places.specs.Kept.{Since}
 use Rattle.sweep_places.specs.Steps.{BackwardTwo, BackwardSteps}
 use Rattle.sweep_places.specs.Begun.{Stands, KeptFrom, Begun}
@@ -56,7 +56,7 @@ step-full : (J : Job Float) (i : ℕ) → length (S.afterSteps ieee J (suc i) .0
 unfolding S.afterSteps S.sweepBackward S.backwardStep
 step-full J i = tabulate-length _ (2 ^ J .window)
 
-backward-is : (J : Job Float) (t : ℕ) → S.backward ieee J t ≡ S.afterSteps ieee J (J .last - t) .0
+pub backward-is : (J : Job Float) (t : ℕ) → S.backward ieee J t ≡ S.afterSteps ieee J (J .last - t) .0
 unfolding S.backward
 backward-is J t = refl
 
@@ -142,7 +142,7 @@ module _ {plan : List ℕ} (e : List Float) {r : List Float} {n w scales : ℕ} 
         };
       }
 
-  pub coming-start : (elementwise : Bool) {one : Float} → one ≡ ieee .𝟙 → BackwardInvariant plan r r n w scales elementwise u u dst one
+  pub coming-start : (elementwise : Bool) {one : Float} → one ≡ ieee .𝟙 → BackwardInvariant plan r r n w scales elementwise (λ J. Stands J plan r n w u) u dst one
   coming-start elementwise o =
       record {
         below = first-below;
@@ -170,7 +170,7 @@ module _ {plan : List ℕ} (r : List Float) {n w scales : ℕ} (t : ℕ) {src : 
         kept = given;
       }
 
-  pub coming-resumed : BackwardInvariant plan r r n w scales elementwise t t src most
+  pub coming-resumed : BackwardInvariant plan r r n w scales elementwise (λ J. Stands J plan r n w t) t src most
   coming-resumed =
       record {
         below = omega arith;
@@ -192,7 +192,7 @@ module _ {plan : List ℕ} (e : List Float) {r : List Float} {n w scales : ℕ} 
   begun-since =
       ⊎-elim (λ s. start-since e t g (s .last) target (s .made)) (λ s. rw (s .same) (since-none (forwardPlace plan) e n w scales)) begun
 
-  pub begun-invariant : BackwardInvariant plan r r n w scales elementwise t t src most
+  pub begun-invariant : BackwardInvariant plan r r n w scales elementwise (λ J. Stands J plan r n w t) t src most
   begun-invariant =
       ⊎-elim
       (λ s. coming-start e t g (s .last) target (s .made) elementwise (s .one))
@@ -206,14 +206,36 @@ module _ {plan : List ℕ} (e : List Float) {r : List Float} {n w scales : ℕ} 
       (λ s. let h = from .from early in rw (s .same) (record { vectors = λ u a. given (omega arith) .vectors u (omega arith) }))
       begun
 
+-- one sweep after another
+pub invariant-then : {plan : List ℕ} {r₀ r r₂ : List Float} {n w scales : ℕ} {elementwise : Bool} {Given : Job Float → Type 0} {t src : ℕ} {most : Float}
+    {u dst : ℕ} {most′ : Float} → BackwardInvariant plan r₀ r n w scales elementwise Given t src most
+    → BackwardInvariant plan r r₂ n w scales elementwise (λ J. NewestBackward J plan r n w t src most) u dst most′
+    → BackwardInvariant plan r₀ r₂ n w scales elementwise Given u dst most′
+invariant-then {plan} {r₀} {r} {r₂} {n} {w} {scales} g h =
+    record {
+      below = h .below;
+      ready = h .ready;
+      since = since-then (g .since) (h .since);
+      free = h .free;
+      newest = λ J of given. h .newest J (rw (tail-factors r₀ r scales n (g .since .tail)) of) (g .newest J of given);
+    }
+
 -- ---- an iteration
 
-pub steps-inside : {plan : List ℕ} {w : ℕ} {elementwise : Bool} {t last : ℕ} → BackwardSteps plan w elementwise t last → 1 ≤ t → (last ≤ t) × (1 ≤ last)
+pub steps-inside : {plan : List ℕ} {w : ℕ} {elementwise : Bool} {stop t last : ℕ} → BackwardSteps plan w elementwise stop t last → stop < t
+    → (last ≤ t) × (stop < last)
 steps-inside (inl e) b = omega arith
-steps-inside (inr p) b = omega (arith, p .next, p .some)
+steps-inside (inr p) b = omega (arith, p .next, p .inside)
 
-module _ {plan : List ℕ} {r₀ r : List Float} {n w scales : ℕ} {elementwise : Bool} {c t last : ℕ} (u : ℕ) {src dst : ℕ} {most : Float}
-    (g : BackwardInvariant plan r₀ r n w scales elementwise c t src most) (steps : BackwardSteps plan w elementwise t last) (next : last ≡ u + 1)
+-- where a sweep goes on from: nothing more than the newest vector is asked
+pub going-on : {plan : List ℕ} {r : List Float} {n w scales : ℕ} (elementwise : Bool) {t src : ℕ} {most : Float} → Ready plan (length r) n w scales → t < n
+    → Free (backwardPlace plan) n w scales src (λ u. u < t)
+    → BackwardInvariant plan r r n w scales elementwise (λ J. NewestBackward J plan r n w t src most) t src most
+going-on {plan} {r} {n} {w} {scales} elementwise g b free =
+    record { below = b; ready = g; since = since-none (forwardPlace plan) r n w scales; free = free; newest = λ J of given. given }
+
+module _ {plan : List ℕ} {r₀ r : List Float} {n w scales : ℕ} {elementwise : Bool} {Given : Job Float → Type 0} {stop t last : ℕ} (u : ℕ) {src dst : ℕ} {most : Float}
+    (g : BackwardInvariant plan r₀ r n w scales elementwise Given t src most) (steps : BackwardSteps plan w elementwise stop t last) (next : last ≡ u + 1)
     (target : Target (backwardPlace plan u) src dst) where
   order : last ≤ t
   order = ⊎-elim (λ e. omega arith) (λ p. omega (arith, p .next)) steps
@@ -254,7 +276,7 @@ module _ {plan : List ℕ} {r₀ r : List Float} {n w scales : ℕ} {elementwise
     wrote = record { vector = tabulate half (2 ^ (w - 1)); full = tabulate-length half (2 ^ (w - 1)); done = step }
 
     -- in job J
-    module _ (J : Job Float) (of : PlanOf J plan (drop (scales + n) r₀) n w elementwise) (given : Stands J plan r₀ n w c) where
+    module _ (J : Job Float) (of : PlanOf J plan (drop (scales + n) r₀) n w elementwise) (given : Given J) where
       abbrev after : ℕ → List Float × Float
       after v = S.afterSteps ieee J (J .last - v)
 
@@ -280,7 +302,7 @@ module _ {plan : List ℕ} {r₀ r : List Float} {n w scales : ℕ} {elementwise
           ∙ ap (λ (k : ℕ). S.backwardStep ieee k (stepOf J t) (div binary64 (ieee .𝟙) (after t .1)) (after t .0)) (sym (of .window))
           ∙ sym (vector-at J v (of .vertices) (g .below) e))
 
-      second : BackwardTwo plan w elementwise t last → SymmetricHalf w (by last one (by t scale (halfAt r w src))) (after u .0)
+      second : BackwardTwo plan w elementwise stop t last → SymmetricHalf w (by last one (by t scale (halfAt r w src))) (after u .0)
       second p =
           let one-now : one ≡ div binary64 (ieee .𝟙) (after last .1) =
           unit
@@ -319,7 +341,7 @@ module _ {plan : List ℕ} {r₀ r : List Float} {n w scales : ℕ} {elementwise
           (half-held r r₂ w q (wrote-other r r₂ w dst wrote fits q (λ e. own (sym e)) (place-of (g .ready) q (g .ready .backward .fits v d p) .inside))))
         where
           -- the vector between is not kept
-          new : v < t → BackwardTwo plan w elementwise t last → v ≡ u
+          new : v < t → BackwardTwo plan w elementwise stop t last → v ≡ u
           new x pair =
               dite (decLt u v)
               (λ l. let e : v ≡ last = omega (arith, pair .next) in absurd (omega (arith, pair .passing, rw e at p)))
@@ -335,7 +357,7 @@ module _ {plan : List ℕ} {r₀ r : List Float} {n w scales : ℕ} {elementwise
             kept = record { vectors = kept-vector };
           }
 
-    pub backward-iteration : BackwardInvariant plan r₀ r₂ n w scales elementwise c u dst most′
+    pub backward-iteration : BackwardInvariant plan r₀ r₂ n w scales elementwise Given u dst most′
     backward-iteration =
         let now = written-since r (g .ready) before target wrote in
         record {

@@ -1,1 +1,2 @@
-mod BackwardIteration
+-- Laws that sweeps over these steps share.
+pub mod BackwardIteration

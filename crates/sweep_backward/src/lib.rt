@@ -1,14 +1,13 @@
-// The backward sweep.
+// The backward sweep: where it begins, and how it goes down from vertex to vertex.
 ghost use Prim.Native.Nat.{_+_, _≤_, _<_};
-ghost use lib.ListN.{length, drop};
-ghost use lib.Ieee.{Float};
-ghost use Rattle.transfer_matrix.specs.Job.{Job};
-ghost use Rattle.plan_steps.specs.Layout.{Holds, forwardPlace};
+ghost use lib.ListN.{length};
+ghost use Rattle.plan_steps.specs.Layout.{Holds, backwardPlace};
 ghost use Rattle.step_tables.specs.Place.{Place};
-ghost use Rattle.vertex_step.specs.Ready.{Ready, PlanOf, Backward};
-ghost use Rattle.sweep_places.specs.Begun.{Stands, KeptFrom, Begun};
-ghost use Rattle.sweep_places.specs.Kept.{Since};
+ghost use Rattle.vertex_step.specs.Ready.{Ready};
+ghost use Rattle.sweep_places.specs.Begun.{KeptFrom, Begun};
+ghost use Rattle.sweep_places.specs.Target.{Free};
 ghost use Rattle.sweep_places.specs.Steps.{BackwardSteps};
+ghost use Rattle.sweep_places.specs.BackwardInvariant.{NewestBackward, BackwardInvariant};
 use pair_sums::half_stored;
 use pair_sums::is_due;
 use plan_steps::backward_place;
@@ -16,11 +15,11 @@ use sweep_places::place_for;
 use sweep_places::start_at;
 use vertex_step::backward_through;
 
-// The last vertex of an iteration from t on. Two steps are taken in one pass where no largest entry is due between them and the vector between
-// them is not kept; in a window below 6 one at a time is quicker.
-fn backward_last(plan: &[usize], w: usize, elementwise: bool, t: usize) -> usize
-    requires { ⌜ Holds (now plan) t × (1 ≤ t) ⌝ }
-    ensures { λ r. ⌜ BackwardSteps (now (plan .entry)) w elementwise t r ⌝ }
+// The last vertex of an iteration from t on, in a sweep down to `stop`. Two steps are taken in one pass where no largest entry is due between
+// them and the vector between them is neither kept nor that of `stop`; in a window below 6 one at a time is quicker.
+fn backward_last(plan: &[usize], w: usize, elementwise: bool, stop: usize, t: usize) -> usize
+    requires { ⌜ Holds (now plan) t × (stop < t) ⌝ }
+    ensures { λ r. ⌜ BackwardSteps (now (plan .entry)) w elementwise stop t r ⌝ }
 {
     if elementwise {
         return t;
@@ -28,7 +27,7 @@ fn backward_last(plan: &[usize], w: usize, elementwise: bool, t: usize) -> usize
     if w < 6 {
         return t;
     }
-    if t < 2 {
+    if t - stop < 2 {
         return t;
     }
     if t % 4 == 0 {
@@ -41,7 +40,7 @@ fn backward_last(plan: &[usize], w: usize, elementwise: bool, t: usize) -> usize
 }
 
 // The first vertex from c on whose backward vector has a place, or the last vertex.
-fn kept_from(plan: &[usize], n: usize, c: usize) -> usize
+pub fn kept_from(plan: &[usize], n: usize, c: usize) -> usize
     requires { ⌜ Holds (now plan) n × (1 ≤ n) ⌝ }
     ensures { λ r. ⌜ KeptFrom (now (plan .entry)) n c r ⌝ }
 {
@@ -57,7 +56,14 @@ fn kept_from(plan: &[usize], n: usize, c: usize) -> usize
 }
 
 // The vector of vertex t at place src: written at the last vertex, kept already elsewhere. Returns the largest entry that was stored with it.
-fn begin_at(room: &mut [f64], n: usize, w: usize, elementwise: bool, t: usize, src: usize) -> f64
+pub fn begin_at(
+    room: &mut [f64],
+    n: usize,
+    w: usize,
+    elementwise: bool,
+    t: usize,
+    src: usize,
+) -> f64
     requires { ⌜ Place (length (now room)) w src × (t < n) ⌝ }
     ensures { λ r. ⌜ Begun (now (room .entry)) (now (room .exit)) n w elementwise t src r ⌝ }
 {
@@ -68,22 +74,30 @@ fn begin_at(room: &mut [f64], n: usize, w: usize, elementwise: bool, t: usize, s
     1.0
 }
 
-// Steps from the last vertex to vertex 1, the step at t giving the vector of t - 1: keeps the lower halves of the backward vectors that the
-// plan has a place for. In the block manner the largest entry is taken after steps with t % 4 = 0. The kept vectors from vertex `changed`
-// on stand already, and are not worked out again; none does where `changed` is the last vertex or more.
-pub fn sweep_backward(
+// The newest vector of a sweep: its place, and the largest entry that was stored with it.
+pub struct NewestVector {
+    pub place: usize,
+    pub largest: f64,
+}
+
+// Steps from vertex `from`, whose vector is the newest, down to vertex `stop`, whose vector it returns; the step at t gives the vector of t - 1.
+// Keeps the lower halves of the backward vectors that the plan has a place for. In the block manner the largest entry is taken after steps with
+// t % 4 = 0.
+pub fn sweep_down(
     room: &mut [f64],
     plan: &[usize],
     n: usize,
     w: usize,
     scales: usize,
     elementwise: bool,
-    changed: usize,
-)
-    requires { ⌜ (1 ≤ n) × Ready (now plan) (length (now room)) n w scales ⌝ }
-    ensures { λ _. ⌜ Since (forwardPlace (now (plan .entry))) (now (room .entry)) (now (room .exit)) n w scales ⌝ }
-    ensures { λ _. ⌜ ((J : Job Float) → PlanOf J (now (plan .entry)) (drop (scales + n) (now (room .entry))) n w elementwise
-        → Stands J (now (plan .entry)) (now (room .entry)) n w changed → Backward J (now (plan .entry)) (now (room .exit)) n w 0) ⌝ }
+    from: usize,
+    newest: NewestVector,
+    stop: usize,
+) -> NewestVector
+    requires { ⌜ Ready (now plan) (length (now room)) n w scales × (from < n) × (stop ≤ from)
+        × Free (backwardPlace (now plan)) n w scales (newest .place) (λ u. u < from) ⌝ }
+    ensures { λ r. ⌜ BackwardInvariant (now (plan .entry)) (now (room .entry)) (now (room .exit)) n w scales elementwise
+        (λ J. NewestBackward J (now (plan .entry)) (now (room .entry)) n w from (newest .place) (newest .largest)) stop (r .place) (r .largest) ⌝ }
 {
     let factors = scales + n;
     let mut bits = [0usize; 4];
@@ -92,12 +106,12 @@ pub fn sweep_backward(
     let mut bits2 = [0usize; 4];
     let mut up2 = [0.0f64; 16];
     let mut down2 = [0.0f64; 16];
-    let mut t = kept_from(plan, n, changed);
-    let mut src = place_for(backward_place(plan, t), 1);
-    let mut most = begin_at(room, n, w, elementwise, t, src);
-    while t > 0 {
+    let mut t = from;
+    let mut src = newest.place;
+    let mut most = newest.largest;
+    while t > stop {
         let scale = 1.0 / most;
-        let last = backward_last(plan, w, elementwise, t);
+        let last = backward_last(plan, w, elementwise, stop, t);
         let u = last - 1;
         let dst = place_for(backward_place(plan, u), src);
         let due = is_due(elementwise, 0, last);
@@ -122,5 +136,9 @@ pub fn sweep_backward(
         );
         src = dst;
         t = u;
+    }
+    NewestVector {
+        place: src,
+        largest: most,
     }
 }

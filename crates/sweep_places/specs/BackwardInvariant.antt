@@ -14,7 +14,6 @@ use Rattle.pair_sums.specs.Terms.{halfAt}
 use Rattle.vertex_step.specs.Ready.{Ready, PlanOf, Backward}
 use Rattle.sweep_places.specs.Target.{Free}
 use Rattle.sweep_places.specs.Kept.{Since}
-use Rattle.sweep_places.specs.Begun.{Stands}
 
 -- In job J the newest vector's half lies at place src, and its stored largest entry is `most`.
 pub record NewestBackward (J : Job Float) (plan : List ℕ) (r : List Float) (n w t src : ℕ) (most : Float) : Type 0 where
@@ -22,10 +21,11 @@ pub record NewestBackward (J : Job Float) (plan : List ℕ) (r : List Float) (n 
   pub entry : most ≡ S.afterSteps ieee J (J .last - t) .1
   pub kept : Backward J plan r n w t
 
--- The sweep began at vertex c with the room r₀.
-pub record BackwardInvariant (plan : List ℕ) (r₀ r : List Float) (n w scales : ℕ) (elementwise : Bool) (c t src : ℕ) (most : Float) : Type 0 where
+-- The sweep began with the room r₀; Given is what was known then of a job.
+pub record BackwardInvariant (plan : List ℕ) (r₀ r : List Float) (n w scales : ℕ) (elementwise : Bool) (Given : Job Float → Type 0) (t src : ℕ)
+    (most : Float) : Type 0 where
   pub below : t < n
   pub ready : Ready plan (length r) n w scales
   pub since : Since (forwardPlace plan) r₀ r n w scales
   pub free : Free (backwardPlace plan) n w scales src (λ u. u < t)
-  pub newest : (J : Job Float) → PlanOf J plan (drop (scales + n) r₀) n w elementwise → Stands J plan r₀ n w c → NewestBackward J plan r n w t src most
+  pub newest : (J : Job Float) → PlanOf J plan (drop (scales + n) r₀) n w elementwise → Given J → NewestBackward J plan r n w t src most

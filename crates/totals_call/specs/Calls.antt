@@ -14,6 +14,8 @@ use Rattle.refusals.specs.Refusal.{refusal, ofEnumeration, ofSampling}
 use Rattle.refusals.specs.AcceptedTotals.{misfits}
 use Rattle.refusals.specs.Answers.{answered}
 use Rattle.refusals.specs.declared.Answer.{Answer}
+use Rattle.plan_layout.specs.declared.Arrangement.{Arrangement}
+use Rattle.plan_layout.specs.Arrangements.{arrangementOf}
 use Rattle.entry_correlations.specs.Correlations.{mannerOf, settled, cleared}
 use Rattle.entry_correlations.specs.declared.Manner.{Manner}
 use Rattle.totals_call.specs.Given.{Given, early, late, free, window, end, sums}
@@ -58,13 +60,13 @@ module _ (g : Given) where
   abbrev pub refusedAll : (most : ℕ) → (misfit : Bool) → (work : ℕ) → ℕ
   refusedAll most misfit work =
       refusal ofEnumeration
-      (enumerationRequest (g .caller) (g .n) (g .floor) (g .a) (g .b) (g .m) (g .us) (g .vs) (g .betas) (g .factors) (free g) most misfit work unsoundAll)
+      (enumerationRequest (g .caller) (arrangementOf (g .arrangement)) (g .n) (g .floor) (g .a) (g .b) (g .m) (g .us) (g .vs) (g .betas) (g .factors) (free g) most misfit work unsoundAll)
 
   -- or of the chunks from one number up to another.
   abbrev pub refusedDrawn : (seed from to samples : ℕ) → (misfit : Bool) → (work : ℕ) → ℕ
   refusedDrawn seed from to samples misfit work =
       refusal ofSampling
-      (samplingRequest (g .caller) (g .n) (g .floor) (g .a) (g .b) (g .m) (g .us) (g .vs) (g .betas) (g .factors) (free g) from to samples misfit work
+      (samplingRequest (g .caller) (arrangementOf (g .arrangement)) (g .n) (g .floor) (g .a) (g .b) (g .m) (g .us) (g .vs) (g .betas) (g .factors) (free g) from to samples misfit work
       (unsoundDrawn seed from to samples))
 
   -- The list of stored correlations is not of its exact length.
@@ -73,9 +75,9 @@ module _ (g : Given) where
 
 -- ---- of the entries
 
-module _ (n floor : ℕ) (a b : List ℕ) (m : List Float) (us vs : List ℕ) (betas factors : List Float) (manner : Manner) (caller : Caller) where
+module _ (n floor : ℕ) (a b : List ℕ) (m : List Float) (us vs : List ℕ) (betas factors : List Float) (manner : Manner) (arrangement : Arrangement) (caller : Caller) where
   abbrev given : Given
-  given = record { n = n; floor = floor; a = a; b = b; m = m; us = us; vs = vs; betas = betas; factors = factors; manner = manner; caller = caller }
+  given = record { n = n; floor = floor; a = a; b = b; m = m; us = us; vs = vs; betas = betas; factors = factors; manner = manner; arrangement = arrangement; caller = caller }
 
   -- The refusal of `exhaustive`, whose lists of totals have so many numbers,
   abbrev pub refusedEnumeration : (squares fourths work : ℕ) → ℕ

@@ -8,7 +8,7 @@ use lib.ListN.{length}
 use Rattle.list_laws.specs.Front.{over}
 use Rattle.forest.specs.FreeEdges.{freeCount, bitsOf}
 use Rattle.transfer_matrix.specs.Job.{Manner, block, perElement}
-use Rattle.transfer_matrix.specs.Room.{room}
+use Rattle.transfer_matrix.specs.Room.{Arrangement, room}
 use Rattle.transfer_matrix.specs.Rounded.{ieee}
 use Rattle.transfer_matrix.specs.Totals.{square, fourth}
 use Rattle.plan_layout.specs.Plannable.{Plannable}
@@ -17,8 +17,8 @@ use Rattle.totals_chunks.specs.declared.Chunks.{Chunks}
 use Rattle.totals_call.specs.Jobs.{unsoundEnumeration, unsoundIn, totalsIn, storedCorrelations}
 
 -- a job that a plan can be made of, and two factors for each of its edges at each beta
-pub record Passed (n w : ℕ) (early late us vs : List ℕ) (factors betas work : ℕ) : Type 0 where
-  pub job : Plannable n w early late us vs work
+pub record Passed (arrangement : Arrangement) (n w : ℕ) (early late us vs : List ℕ) (factors betas work : ℕ) : Type 0 where
+  pub job : Plannable arrangement n w early late us vs work
   pub few-betas : betas ≤ 64
   pub factored : factors ≡ 2 * (betas * length early)
 
@@ -46,13 +46,13 @@ stepping elementwise = cond elementwise perElement block
 
 module _ (n w : ℕ) (early late : List ℕ) (factors : List Float) (manner : Manner) (us vs : List ℕ) (betas : ℕ) where
   -- The totals of chunks are finished, with a room of `edges` edges;
-  abbrev pub TotalsAre : Chunks → (edges : ℕ) → Bool → (squares fourths work work′ : List Float) → Type 0
-  TotalsAre k edges =
+  abbrev pub TotalsAre : Chunks → Arrangement → (edges : ℕ) → Bool → (squares fourths work work′ : List Float) → Type 0
+  TotalsAre k arrangement edges =
       Finished (unsoundIn n w early late factors manner us vs betas k) (totalsIn n w early late factors manner us vs betas k (square ieee))
-      (totalsIn n w early late factors manner us vs betas k (fourth ieee)) (betas * length us) (room n w edges us vs)
+      (totalsIn n w early late factors manner us vs betas k (fourth ieee)) (betas * length us) (room arrangement n w edges us vs)
 
   -- and every correlation is stored, of which there are so many.
-  abbrev pub StoredAre : (count edges : ℕ) → Bool → (stored work work′ : List Float) → Type 0
-  StoredAre count edges sound stored =
+  abbrev pub StoredAre : (count : ℕ) → Arrangement → (edges : ℕ) → Bool → (stored work work′ : List Float) → Type 0
+  StoredAre count arrangement edges sound stored =
       Finished (unsoundEnumeration n w early late factors manner us vs betas) (storedCorrelations n w early late factors manner us vs betas)
-      (storedCorrelations n w early late factors manner us vs betas) count (room n w edges us vs) sound stored stored
+      (storedCorrelations n w early late factors manner us vs betas) count (room arrangement n w edges us vs) sound stored stored

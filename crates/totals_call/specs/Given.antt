@@ -5,6 +5,8 @@ use lib.Ieee.{Float}
 use lib.ListN.{length}
 use Rattle.limits.specs.declared.Caller.{Caller}
 use Rattle.transfer_matrix.specs.Room.{room}
+use Rattle.plan_layout.specs.declared.Arrangement.{Arrangement}
+use Rattle.plan_layout.specs.Arrangements.{arrangementOf}
 use Rattle.refusals.specs.Edges.{kept, windowFrom, keptEarly, keptLate}
 use Rattle.forest.specs.FreeEdges.{freeCount}
 use Rattle.entry_correlations.specs.declared.Manner.{Manner}
@@ -22,6 +24,7 @@ pub record Given : Type 0 where
   pub betas : List Float
   pub factors : List Float
   pub manner : Manner
+  pub arrangement : Arrangement
   pub caller : Caller
 
 module _ (g : Given) where
@@ -39,7 +42,7 @@ module _ (g : Given) where
   window = windowFrom (g .floor) (g .a) (g .b) (g .m)
 
   abbrev pub end : ℕ
-  end = room (g .n) window (length (kept (g .a) (g .b) (g .m))) (g .us) (g .vs)
+  end = room (arrangementOf (g .arrangement)) (g .n) window (length (kept (g .a) (g .b) (g .m))) (g .us) (g .vs)
 
   -- How many totals there are: one for each beta and pair.
   abbrev pub sums : ℕ

@@ -1,4 +1,4 @@
--- One configuration at one beta: what the sweeps left and the pairs were answered, of the job whose factors were laid.
+-- One configuration at one beta: what the pairs were told, of the job whose factors were laid.
 use mathlib.Core.Path.{_≡_, sym, ap, _∙_}
 use mathlib.Core.Bool.{Bool}
 use mathlib.Core.List.{List}
@@ -17,10 +17,8 @@ use Rattle.step_tables.specs.Place.{held}
 use Rattle.vertex_step.specs.Laws.Same.{symmetric-ext}
 use Rattle.vertex_step.specs.Frame.{Fits}
 use Rattle.vertex_step.specs.Laws.Frame.{half-held}
-use Rattle.vertex_step.specs.Ready.{Ready, PlanOf, Backward, BothSwept, Still}
-use Rattle.vertex_step.specs.Laws.Ready.{still-swept}
+use Rattle.vertex_step.specs.Ready.{Ready, PlanOf, Backward}
 use Rattle.sweep_places.specs.Begun.{Stands}
-use Rattle.sweep_places.specs.Kept.{SameFrom}
 use Rattle.pair_correlations.specs.Sound.{Outcome}
 use Rattle.totals_configuration.specs.declared.JobShape.{JobShape}
 use Rattle.totals_configuration.specs.Stage.{Stage}
@@ -36,11 +34,10 @@ laid-last d x at e =
     let b′ : i < length x = omega (arith, length-drop at (put d at x)) in
     getD-drop at (put d at x) i nan ∙ sym (part-at (put d at x) at (length x) i nan b′) ∙ ap (λ (y : List Float). getD y i nan) (part-put d at x fits))
 
-module _ (plan us vs : List ℕ) (x r r₁ r₂ r₃ results : List Float) (n w scales c : ℕ) (elementwise sound : Bool) (g : Ready plan (length r) n w scales)
-    (laid : r₁ ≡ put r (scales + n) x) (ends : scales + n + length x ≡ length r) (same : SameFrom r₁ r₂ (scales + n))
-    (swept : (J : Job Float) → PlanOf J plan (drop (scales + n) r₁) n w elementwise → Stands J plan r₁ n w c → BothSwept J plan r₂ n w scales)
-    (still : Still r₂ r₃ w scales)
-    (answered : (J : Job Float) (elementwise : Bool) → PlanOf J plan (drop (scales + n) r₂) n w elementwise → BothSwept J plan r₂ n w scales → Outcome J us vs results sound) where
+module _ (plan us vs : List ℕ) (x r r₁ r₂ results : List Float) (n w scales c : ℕ) (elementwise sound : Bool) (g : Ready plan (length r) n w scales)
+    (laid : r₁ ≡ put r (scales + n) x) (ends : scales + n + length x ≡ length r)
+    (answered : (J : Job Float) → PlanOf J plan (drop (scales + n) r₁) n w elementwise → Stands J plan r₁ n w c
+    → Outcome J us vs results sound × Backward J plan r₂ n w 0) where
   fits : scales + n + length x ≤ length r
   fits = omega arith
 
@@ -57,13 +54,10 @@ module _ (plan us vs : List ℕ) (x r r₁ r₂ r₃ results : List Float) (n w 
             symmetric-ext (given early .vectors u a b p) (half-held r r₁ w (backwardPlace plan u) (laid-held _ (g .backward .fits u b p)));
       }
 
-  pub outcome-of : (J : Job Float) → PlanOf J plan x n w elementwise → Stands J plan r n w c → Outcome J us vs results sound × Backward J plan r₃ n w 0
+  pub outcome-of : (J : Job Float) → PlanOf J plan x n w elementwise → Stands J plan r n w c → Outcome J us vs results sound × Backward J plan r₂ n w 0
   outcome-of J of given =
       let e : drop (scales + n) r₁ ≡ x = ap (drop (scales + n)) laid ∙ laid-last r x (scales + n) ends in
-      let of₁ : PlanOf J plan (drop (scales + n) r₁) n w elementwise = rw e of in
-      let s = swept J of₁ (laid-stands J given) in
-      let l : length r₂ ≡ length r = same .same ∙ ap length laid ∙ put-length r (scales + n) x fits in
-      (answered J elementwise (rw (same .tail) of₁) s, still-swept J plan r₂ r₃ n w scales (rw l g) still s .backward)
+      answered J (rw e of) (laid-stands J given)
 
 -- lists that kept their lengths
 pub stage-keep : {plan us vs order : List ℕ} {m end results end′ results′ : ℕ} {s : JobShape} → Stage plan us vs order m s end results

@@ -4,7 +4,7 @@ use mathlib.Core.List.{List}
 use Prim.Native.Nat.{ℕ, _+_, _*_, _≤_}
 use lib.ListN.{length}
 use Rattle.limits.specs.Limits.{mostBetas, mostEdges}
-use Rattle.plan_layout.specs.Order.{Ordered}
+use Rattle.plan_layout.specs.Order.{InOrder}
 use Rattle.vertex_step.specs.Ready.{Ready}
 use Rattle.pair_correlations.specs.Served.{Served}
 use Rattle.totals_configuration.specs.declared.JobShape.{JobShape}
@@ -14,8 +14,8 @@ pub record Stage (plan us vs order : List ℕ) (m : ℕ) (s : JobShape) (end res
   pub some : 1 ≤ s .n
   pub ready : Ready plan end (s .n) (s .w) (s .scales)
   pub ends : s .scales + s .n + m ≡ end
-  pub served : Served plan us vs (s .n) (s .w)
-  pub ordered : Ordered order (length us)
+  pub served : Served plan us vs (s .n) (s .w) (s .less)
+  pub ordered : InOrder order us vs (s .w)
   pub fitting : results ≡ length us
 
 -- Two factors are lent for each of m edges at each of the first betas.

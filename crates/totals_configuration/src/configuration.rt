@@ -12,8 +12,7 @@ ghost use Rattle.totals_configuration.specs.Signed.{PlanOfSigns, PlanOfA
 ghost use Rattle.totals_configuration.specs.Powers.{correlationAt, unsoundBetas, AddedPowers, AddedBeta};
 ghost use Rattle.totals_configuration.specs.Stage.{Stage, EnoughFactors};
 use crate::JobShape;
-use pair_correlations::answer_pairs;
-use sweeps::sweep;
+use sweeps::sweep_and_answer;
 use totals_signs::lay_signed;
 use totals_sums::add_powers;
 
@@ -39,16 +38,20 @@ pub fn answer_signed(
         → Outcome J (now (us .entry)) (now (vs .entry)) (now (c .exit)) r × Backward J (now (plan .entry)) (now (room .exit)) (shape .n) (shape .w) 0) ⌝ }
 {
     lay_signed(room, shape.scales + shape.n, factors, b, signs);
-    sweep(
+    sweep_and_answer(
         room,
         plan,
         shape.n,
         shape.w,
         shape.scales,
         shape.elementwise,
+        shape.less,
         changed,
-    );
-    answer_pairs(room, plan, shape.n, shape.w, shape.scales, us, vs, order, c)
+        us,
+        vs,
+        order,
+        c,
+    )
 }
 
 // Adds the powers of a configuration's correlations at beta b to two lists of a number a pair. Returns whether every Z was finite and above

@@ -5,11 +5,13 @@ pub use configuration::add_beta;
 pub use configuration::add_configuration;
 pub use configuration::answer_signed;
 
-// The numbers of a planned job: its vertices, its window, where the scales lie, whether steps go element by element, and its betas.
+// The numbers of a planned job: its vertices, its window, where the scales lie, whether steps go element by element, whether it has less room, and
+// its betas.
 pub struct JobShape {
     pub n: usize,
     pub w: usize,
     pub scales: usize,
     pub elementwise: bool,
+    pub less: bool,
     pub betas: usize,
 }

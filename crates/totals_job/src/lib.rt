@@ -2,6 +2,7 @@
 ghost use mathlib.Core.Path.{_≡_};
 ghost use Prim.Native.Nat.{_*_};
 ghost use lib.ListN.{length};
+ghost use Rattle.transfer_matrix.specs.Room.{arranged};
 ghost use Rattle.totals_call.specs.Finished.{Passed, Numbered, stepping, TotalsAre};
 use job_run::clear;
 use plan_layout::make_plan;
@@ -21,6 +22,7 @@ pub fn total_job(
     n: usize,
     w: usize,
     elementwise: bool,
+    less: bool,
     early: &[usize],
     late: &[usize],
     bits: &[usize],
@@ -33,11 +35,11 @@ pub fn total_job(
     fourths: &mut [f64],
     work: &mut [f64],
 ) -> bool
-    requires { ⌜ Passed n w (now early) (now late) (now us) (now vs) (length (now factors)) betas (length (now work))
+    requires { ⌜ Passed (arranged less) n w (now early) (now late) (now us) (now vs) (length (now factors)) betas (length (now work))
         × Numbered chunks (now early) (now late) (now bits)
         × (length (now squares) ≡ betas * length (now us)) × (length (now fourths) ≡ betas * length (now us)) ⌝ }
     ensures { λ r. ⌜ TotalsAre n w (now (early .entry)) (now (late .entry)) (now (factors .entry)) (stepping elementwise) (now (us .entry))
-        (now (vs .entry)) betas chunks (length (now (early .entry))) r (now (squares .exit)) (now (fourths .exit)) (now (work .entry)) (now (work .exit)) ⌝ }
+        (now (vs .entry)) betas chunks (arranged less) (length (now (early .entry))) r (now (squares .exit)) (now (fourths .exit)) (now (work .entry)) (now (work .exit)) ⌝ }
 {
     let mut plan = [0usize; PLAN];
     let mut orders = [0usize; PAIRS];
@@ -49,13 +51,14 @@ pub fn total_job(
     let edges = early.len();
     let sums = squares.len();
     let order = &mut orders[..pairs];
-    let layout = make_plan(&mut plan, n, w, early, late, us, vs);
+    let layout = make_plan(&mut plan, less, n, w, early, late, us, vs);
     order_pairs(order, n, w, us, vs);
     let shape = JobShape {
         n,
         w,
         scales: layout.scales,
         elementwise,
+        less,
         betas,
     };
     let end = layout.room;

@@ -13,7 +13,7 @@ use std::hint::black_box;
 use std::ops::RangeInclusive;
 
 /// About how many entries a sweep steps over: a call then takes up to some hundred milliseconds.
-const ENTRIES: usize = 40_000_000;
+pub const ENTRIES: usize = 40_000_000;
 
 /// A strip with pairs and couplings of either sign, as each side takes it.
 pub struct Job {

@@ -1,10 +1,11 @@
 //! Copperhook's time beside the original's: the same jobs, in one run, both built for release.
 //!
-//!     rust/bench/run [--quick | --width N | --checks | --totals [--width N] | --growth | --limits | --accuracy]
+//!     rust/bench/run [--quick | --width N | --checks | --totals [--width N] | --arrangements [--width N] | --memory | --growth | --limits | --accuracy]
 //!
 //! proves what is needed, builds the archive and runs this. Without an option, widths 4 to 20, the checks and the totals are measured. `--quick`
 //! stops at width 10, and for the totals at 8; `--width N` measures one width alone, from 1 to 24, and prints how much memory a job's room is;
-//! `--checks` measures what a call costs before its sweeps, and the counting of components, `--totals` the totals alone, of one width from 4 to 20 where it is told; `--growth`
+//! `--checks` measures what a call costs before its sweeps, and the counting of components, `--totals` the totals alone, of one width from 4 to 20 where it is told;
+//! `--arrangements` calls with less room beside those that keep all, `--memory` how much of it the widest window with forty near pairs takes with less room (6 GB, a minute); `--growth`
 //! how the time grows with the window, the vertices, the pairs and the betas; `--limits` how far the sweeps are from a copy of as much memory,
 //! and the sums from the adder's latency; `--accuracy` how large errors are beside their proved bound.
 //!
@@ -12,12 +13,14 @@
 //! clears its room. The original takes the exponentials of the couplings inside, ours is lent factors: the last column adds to ours the time
 //! of these exponentials. Each job's bits are compared first. A time is the least of several rounds, in which the sides take turns.
 mod accuracy;
+mod arrangements;
 mod checks;
 mod clock;
 mod correlations;
 mod growth;
 mod limits;
 mod manner;
+mod memory;
 mod ours;
 mod ratios;
 mod strips;
@@ -49,6 +52,9 @@ fn main() {
         ["--checks"] => checks::print_checks(),
         ["--totals"] => totals::print_totals(totals::WIDTHS),
         ["--totals", "--width", w] => totals::print_totals(one_of(totals::WIDTHS, w)),
+        ["--arrangements"] => arrangements::print_arrangements(&arrangements::WIDTHS),
+        ["--arrangements", "--width", w] => arrangements::print_arrangements(&one_of(totals::WIDTHS, w).collect::<Vec<_>>()),
+        ["--memory"] => memory::print_memory(),
         ["--growth"] => growth::print_growth(),
         ["--limits"] => limits::print_limits(),
         ["--accuracy"] => accuracy::print_accuracy(),
@@ -66,7 +72,7 @@ fn one_of(widths: RangeInclusive<usize>, word: &str) -> RangeInclusive<usize> {
 }
 
 fn usage() -> ! {
-    eprintln!("usage: rust/bench/run [--quick | --width N | --checks | --totals [--width N] | --growth | --limits | --accuracy]");
-    eprintln!("N is from 1 to 24, of totals from 4 to 20");
+    eprintln!("usage: rust/bench/run [--quick | --width N | --checks | --totals [--width N] | --arrangements [--width N] | --memory | --growth | --limits | --accuracy]");
+    eprintln!("N is from 1 to 24, of totals and arrangements from 4 to 20");
     std::process::exit(2);
 }

@@ -1,6 +1,6 @@
 //! A graph and its pairs as the library takes them.
 
-use copperhook::{Graph, Job, Manner, Refusal};
+use copperhook::{Arrangement, Graph, Job, Options, Refusal};
 use oracle::rules::lists::{Edges, Pairs};
 
 /// A graph and its pairs, as lists of numbers.
@@ -24,12 +24,17 @@ impl Lists {
         Job { graph: Graph::new(*n, a, b, m).with_floor(*floor), us: &self.pairs.us, vs: &self.pairs.vs }
     }
 
-    pub fn correlations(&self, factors: &[f64], manner: Manner, results: &mut [f64], work: &mut [f64]) -> Result<(), Refusal> {
-        self.job().correlations(factors, manner, results, work)
+    pub fn correlations(&self, factors: &[f64], options: impl Into<Options>, results: &mut [f64], work: &mut [f64]) -> Result<(), Refusal> {
+        self.job().correlations(factors, options, results, work)
     }
 
-    /// Returns the doubles of work memory.
+    /// Returns the doubles of work memory of a call that keeps all.
     pub fn room(&self) -> Result<usize, Refusal> {
         self.job().room()
+    }
+
+    /// Returns those of a call of this arrangement.
+    pub fn room_in(&self, arrangement: Arrangement) -> Result<usize, Refusal> {
+        self.job().room_in(arrangement)
     }
 }

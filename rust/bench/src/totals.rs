@@ -9,7 +9,7 @@ use crate::ours::Lists;
 use crate::ratios::Ratios;
 use crate::strips::{cells, strip_of_entries, KINDS};
 use crate::times::Times;
-use copperhook::{Refusal, Sampling};
+use copperhook::{Options, Refusal, Sampling};
 use oracle::glass::{exhaustive, sample, Acc, Plan};
 use oracle::lattice::{Graph, Strip};
 use std::hint::black_box;
@@ -21,26 +21,26 @@ const BETAS: [f64; 2] = [0.3, 0.7];
 /// The most free edges of a sparse strip: 32 configurations, and as many are drawn.
 const SPARSE: usize = 5;
 /// About how many entries the sweep of a configuration of a long strip steps over.
-const ENTRIES: usize = 400_000;
+pub const ENTRIES: usize = 400_000;
 
 #[derive(Clone, Copy, PartialEq)]
-enum Entry {
+pub enum Entry {
     Exhaustive,
     /// Of a long strip with few free edges.
     Sparse,
     Sample,
 }
 
-const ENTRIES_NAMED: [(Entry, &str); 3] =
+pub const ENTRIES_NAMED: [(Entry, &str); 3] =
     [(Entry::Exhaustive, "exhaustive"), (Entry::Sparse, "exhaustive, sparse"), (Entry::Sample, "sample")];
 
 /// A strip with its standard pairs and its betas, as each side takes it.
 pub struct Job {
     entry: Entry,
-    strip: Strip,
-    graph: Graph,
+    pub strip: Strip,
+    pub graph: Graph,
     pairs: Vec<(usize, usize)>,
-    lists: Lists,
+    pub lists: Lists,
     betas: Vec<f64>,
     /// Of a sampling alone.
     by: Sampling,
@@ -106,7 +106,7 @@ fn edges_of(strip: &Strip, entry: Entry) -> Vec<(usize, usize, f64)> {
 }
 
 impl Job {
-    fn new(strip: &Strip, entry: Entry) -> Job {
+    pub fn new(strip: &Strip, entry: Entry) -> Job {
         let strip = if entry == Entry::Exhaustive { enumerated(strip) } else { with_free_edges(strip.clone()) };
         let (betas, by) = (betas_of(strip.graph().win), drawn(strip.w));
         Job::of(strip, entry, betas, by)
@@ -127,6 +127,11 @@ impl Job {
         Job { entry, strip, graph, pairs, lists, betas, by, couplings, factors }
     }
 
+    /// How many sums there are of a kind.
+    pub fn sums(&self) -> usize {
+        self.betas.len() * self.pairs.len()
+    }
+
     fn configurations(&self) -> usize {
         match self.entry {
             Entry::Exhaustive | Entry::Sparse => 1 << self.graph.cyclomatic(),
@@ -141,11 +146,11 @@ impl Job {
         }
     }
 
-    fn ours(&self, manner: Manner, squares: &mut [f64], fourths: &mut [f64], work: &mut [f64]) -> Result<usize, Refusal> {
+    pub fn ours(&self, options: impl Into<Options>, squares: &mut [f64], fourths: &mut [f64], work: &mut [f64]) -> Result<usize, Refusal> {
         let (job, factors) = (self.lists.job(), black_box(&self.factors[..]));
         match self.entry {
-            Entry::Exhaustive | Entry::Sparse => job.exhaustive(&self.betas, factors, manner.ours, squares, fourths, work),
-            Entry::Sample => job.sample(&self.betas, factors, manner.ours, &self.by, squares, fourths, work),
+            Entry::Exhaustive | Entry::Sparse => job.exhaustive(&self.betas, factors, options, squares, fourths, work),
+            Entry::Sample => job.sample(&self.betas, factors, options, &self.by, squares, fourths, work),
         }
     }
 }
@@ -155,11 +160,11 @@ pub fn measure(job: &Job, manner: Manner) -> Times {
     std::env::set_var("FDK_SLOW", manner.slow);
     let plan = Plan::new(&job.graph, &job.pairs);
     let mut work = vec![0.0; job.lists.room().expect("the room of this strip is refused")];
-    let totals = job.betas.len() * job.pairs.len();
+    let totals = job.sums();
     let (mut squares, mut fourths) = (vec![0.0; totals], vec![0.0; totals]);
 
     let theirs = job.original(&plan);
-    let count = job.ours(manner, &mut squares, &mut fourths, &mut work).expect("this strip is refused");
+    let count = job.ours(manner.ours, &mut squares, &mut fourths, &mut work).expect("this strip is refused");
     assert_eq!(count as f64, theirs.count);
     for (x, y) in theirs.s1.iter().chain(&theirs.s2).zip(squares.iter().chain(&fourths)) {
         assert_eq!(x.to_bits(), y.to_bits(), "a total differs: the original has {x}, ours is {y}");
@@ -171,7 +176,7 @@ pub fn measure(job: &Job, manner: Manner) -> Times {
         &mut [
             &mut || drop(black_box(job.original(black_box(&plan)))),
             &mut || {
-                let _ = black_box(job.ours(manner, &mut squares, &mut fourths, &mut work));
+                let _ = black_box(job.ours(manner.ours, &mut squares, &mut fourths, &mut work));
             },
             &mut || {
                 for (pair, coupling) in factors.chunks_mut(2).zip(black_box(&job.couplings)) {

@@ -12,7 +12,6 @@ use drawing::{factors, sound, spoil};
 use expected::{outcome, Before, Outcome};
 use jobs::{work_length, Job};
 use lent::Lent;
-use oracle::rules::lists::room;
 use oracle::rules::refusals::job_refusal;
 
 pub fn try_one(draw: &mut Draw) -> Result<usize, String> {
@@ -34,30 +33,46 @@ pub fn try_wide(draw: &mut Draw) -> Result<usize, String> {
     let pairs = pairs(draw, edges.n, window, count);
     let (couplings, factors) = factors(draw, &edges, 0);
     let results = pairs.us.len();
-    let job = Job { edges, pairs, couplings, factors, options: draw.below(2), results, spare: 1, gentle: true, wide: true };
+    let job = Job { edges, pairs, couplings, factors, options: draw.below(4), results, spare: 1, gentle: true, wide: true };
     compare_room(&job).and_then(|()| compare(draw, &job)).map_err(|why| format!("{}: {why}", job.told()))
 }
 
-/// Compares what `room` returns with document 01.
+/// Compares what `room` returns with documents 01 and 02.
 fn compare_room(job: &Job) -> Result<(), String> {
     let mut answered = 99;
     let lent = Lent::new(job);
     let number = lent.room(&mut answered);
     let expected = job_refusal(&job.edges, &job.pairs, &[]);
     equal("answer of the room", number, expected)?;
-    equal("room", answered, if expected == 0 { room(&job.edges, &job.pairs) } else { 99 })?;
+    equal("room", answered, if expected == 0 { job.room() } else { 99 })?;
     lent.unchanged()
 }
 
-/// Compares the call with two lists of ends, and where these are of one length that with records.
+/// Compares the calls of a job, and where it was swept those in the other arrangement: they return and leave the same but for the room.
 fn compare(draw: &mut Draw, job: &Job) -> Result<usize, String> {
     let before = Before { results: draw.held(job.results), work: draw.held(work_length(job)) };
     let outcome = outcome(job, &before)?;
+    let number = compare_calls(job, &outcome, &before)?;
+    drop(before);
+    if number == 0 || number == 14 {
+        let other = job.rearranged();
+        let outcome = Outcome { cleared: other.room(), ..outcome };
+        let lent = draw.of(&[other.room(), job.room().max(other.room())]).saturating_add_signed(job.spare);
+        let before = Before { results: draw.held(job.results), work: draw.held(lent) };
+        compare_room(&other)
+            .and_then(|()| compare_calls(&other, &outcome, &before))
+            .map_err(|why| format!("in the other arrangement: {why}"))?;
+    }
+    Ok(number)
+}
+
+/// Compares the call with two lists of ends, and where these are of one length that with records.
+fn compare_calls(job: &Job, outcome: &Outcome, before: &Before) -> Result<usize, String> {
     let lent = Lent::new(job);
     if job.pairs.us.len() == job.pairs.vs.len() {
-        compare_call(&lent, &outcome, &before, Lent::correlations_of).map_err(|why| format!("pair records: {why}"))?;
+        compare_call(&lent, outcome, before, Lent::correlations_of).map_err(|why| format!("pair records: {why}"))?;
     }
-    compare_call(&lent, &outcome, &before, Lent::correlations)
+    compare_call(&lent, outcome, before, Lent::correlations)
 }
 
 type Call<'a> = fn(&Lent<'a>, &mut Guarded<f64>, &mut Guarded<f64>) -> usize;
@@ -71,4 +86,23 @@ fn compare_call<'a>(lent: &Lent<'a>, outcome: &Outcome, before: &Before, call: C
     work.is_cleared("work", outcome.cleared, &before.work)?;
     lent.unchanged()?;
     Ok(number)
+}
+
+#[cfg(test)]
+mod tests {
+    use super::drawing::sound;
+    use super::jobs::Job;
+    use crate::draw::Draw;
+
+    /// How many of some drawn jobs are such.
+    fn drawn_jobs(such: fn(&Job) -> bool) -> usize {
+        (0..4000).map(|job| sound(&mut Draw::new(3, 4, job))).filter(such).count()
+    }
+
+    #[test]
+    fn both_arrangements_are_drawn() {
+        assert!(drawn_jobs(|job| job.less()) > 1500 && drawn_jobs(|job| !job.less()) > 1500);
+        let smaller = |job: &Job| job.room().abs_diff(job.rearranged().room()) > 0;
+        assert!(drawn_jobs(smaller) > 800);
+    }
 }

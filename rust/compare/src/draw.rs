@@ -41,10 +41,10 @@ impl Draw {
         }
     }
 
-    /// The options of a call, any number: mostly block or per element alone, or the tester's, or with bits that are not read.
+    /// The options of a call, any number: either manner, either arrangement, now and then the tester's, or with bits that are not read.
     pub fn options(&mut self) -> usize {
-        let bits = self.below(2) + if self.once_in(3) { 4 } else { 0 };
-        let unread = (self.word() as usize) & !5;
+        let bits = self.below(4) + if self.once_in(3) { 4 } else { 0 };
+        let unread = (self.word() as usize) & !7;
         bits + if self.once_in(4) { unread } else { 0 }
     }
 

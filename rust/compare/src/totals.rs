@@ -10,7 +10,7 @@ use crate::draw::Draw;
 use crate::guarded::{equal, Guarded};
 use calls::Call;
 use drawing::{lend_factors, small, spoil_job, spoil_lists, vast};
-use expected::{outcome, Before, COUNT_BEFORE};
+use expected::{outcome, Before, Outcome, COUNT_BEFORE};
 use lent::Lent;
 
 pub fn try_one(draw: &mut Draw) -> Result<usize, String> {
@@ -26,11 +26,24 @@ pub fn try_one(draw: &mut Draw) -> Result<usize, String> {
     compare(draw, &call).map_err(|why| format!("{}: {why}", call.told()))
 }
 
-/// Makes the call, and compares what it returns and leaves.
+/// Compares the call, and where it was swept that in the other arrangement: it returns and leaves the same but for the room.
 fn compare(draw: &mut Draw, call: &Call) -> Result<usize, String> {
     let (lengths, work) = call.lent();
     let before = Before { lists: lengths.iter().map(|&length| draw.held(length)).collect(), work: draw.held(work) };
     let outcome = outcome(call, &before)?;
+    let number = compare_call(call, &outcome, &before)?;
+    if number == 0 || number == 14 {
+        let other = call.rearranged();
+        let outcome = Outcome { cleared: other.room(), ..outcome };
+        let lent = draw.of(&[other.room(), call.room().max(other.room())]).saturating_add_signed(call.spare);
+        let before = Before { work: draw.held(lent), ..before };
+        compare_call(&other, &outcome, &before).map_err(|why| format!("in the other arrangement: {why}"))?;
+    }
+    Ok(number)
+}
+
+/// Makes the call, and compares what it returns and leaves.
+fn compare_call(call: &Call, outcome: &Outcome, before: &Before) -> Result<usize, String> {
     let lent = Lent::new(call);
     let mut results: Vec<Guarded<f64>> = before.lists.iter().map(|list| Guarded::new(list)).collect();
     let (mut memory, mut count) = (Guarded::new(&before.work), COUNT_BEFORE);

@@ -2,7 +2,7 @@
 
 use crate::call::call_of_graph;
 use crate::graph::Graph;
-use crate::options::Options;
+use crate::options::{Arrangement, Options};
 use crate::refusal::Refusal;
 
 /// Two vertices whose correlation is asked for, in either order.
@@ -41,16 +41,21 @@ pub struct Sampling {
 }
 
 impl Job<'_> {
-    /// Returns how many doubles of work memory the pairs need.
+    /// Returns how many doubles of work memory the pairs need in a call that keeps all.
     pub fn room(&self) -> Result<usize, Refusal> {
+        self.room_in(Arrangement::KeepAll)
+    }
+
+    /// Returns how many doubles of work memory the pairs need in a call of this arrangement.
+    pub fn room_in(&self, arrangement: Arrangement) -> Result<usize, Refusal> {
         let mut room = 0;
-        let number = call_of_graph!(copperhook_room(&self.graph, floor; read self.us, self.vs; tell room));
+        let number = call_of_graph!(copperhook_room(&self.graph, floor; read self.us, self.vs; with arrangement as usize; tell room));
         Refusal::told(number).map(|()| room)
     }
 
     /// Writes the correlation of each pair to `results`, from one factor for each kept edge, the exponential of its signed coupling. `work`
-    /// has at least the room's doubles; the room is +0.0 afterwards, and what lies behind it is not touched. `options` may be a
-    /// [`Manner`](crate::Manner) alone.
+    /// has at least the doubles of the room in the options' arrangement; the room is +0.0 afterwards, and what lies behind it is not touched.
+    /// `options` may be a [`Manner`](crate::Manner) alone, which takes [`Job::room`].
     pub fn correlations(&self, factors: &[f64], options: impl Into<Options>, results: &mut [f64], work: &mut [f64]) -> Result<(), Refusal> {
         Refusal::told(call_of_graph!(copperhook_correlations(&self.graph, floor;
             read self.us, self.vs, factors; with options.into().number(); write results, work)))

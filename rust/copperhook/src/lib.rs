@@ -71,7 +71,7 @@ pub use graph::{Components, ForestEdge, Graph, Kept};
 pub use job::{Job, Pair, Sampling};
 pub use kind::Kind;
 pub use lists::{EdgeList, Factors, KeptList, LabelledPair};
-pub use options::{Caller, Manner, Options};
+pub use options::{Arrangement, Caller, Manner, Options};
 pub use refusal::Refusal;
 pub use rng::Rng;
 pub use strip::{Dilution, Strip};

@@ -9,6 +9,15 @@ pub enum Manner {
     Block = 1,
 }
 
+/// Which backward vectors a call keeps. Its room depends on it ([`Job::room_in`](crate::Job::room_in)), and no bit of an answer.
+#[derive(Clone, Copy, Debug, PartialEq, Eq)]
+pub enum Arrangement {
+    /// Those of every pair's later vertex: pairs are answered when both sweeps have passed.
+    KeepAll = 0,
+    /// Those of propagated pairs' later vertices: a pair nearer than the window is answered as the backward sweep passes it.
+    LessRoom = 2,
+}
+
 /// Who calls. The tester has smaller limits ([`limits::TESTER_WINDOW`](crate::limits::TESTER_WINDOW),
 /// [`limits::TESTER_FREE`](crate::limits::TESTER_FREE)); what it is answered within them is what the desk is answered, bit for bit.
 #[derive(Clone, Copy, Debug, PartialEq, Eq)]
@@ -19,11 +28,13 @@ pub enum Caller {
     Tester = 4,
 }
 
-/// The options of a call. A [`Manner`] alone stands for a call of the desk's in that manner.
+/// The options of a call. A [`Manner`] alone stands for a call of the desk's in that manner, which keeps all.
 #[derive(Clone, Copy, Debug, PartialEq, Eq)]
 pub struct Options {
     /// How often a sweep is rescaled.
     pub manner: Manner,
+    /// Which backward vectors are kept.
+    pub arrangement: Arrangement,
     /// Who calls.
     pub caller: Caller,
 }
@@ -31,7 +42,12 @@ pub struct Options {
 impl Options {
     /// Returns the number that they are over C.
     pub const fn number(self) -> usize {
-        self.manner as usize + self.caller as usize
+        self.manner as usize + self.arrangement as usize + self.caller as usize
+    }
+
+    /// Returns these options in another arrangement.
+    pub const fn arranged(self, arrangement: Arrangement) -> Options {
+        Options { arrangement, ..self }
     }
 
     /// Returns these options for another caller.
@@ -42,6 +58,6 @@ impl Options {
 
 impl From<Manner> for Options {
     fn from(manner: Manner) -> Options {
-        Options { manner, caller: Caller::Desk }
+        Options { manner, arrangement: Arrangement::KeepAll, caller: Caller::Desk }
     }
 }

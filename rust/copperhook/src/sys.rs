@@ -9,7 +9,7 @@ use crate::job::Pair;
 pub const COPPERHOOK_TREE: usize = usize::MAX;
 
 extern "C" {
-    /// The doubles of work memory that a job needs.
+    /// The doubles of work memory that a job needs with these options.
     pub fn copperhook_room(
         n: usize,
         floor: usize,
@@ -23,6 +23,7 @@ extern "C" {
         us_len: usize,
         vs: *const usize,
         vs_len: usize,
+        options: usize,
         room: *mut usize,
     ) -> usize;
 

@@ -1,7 +1,7 @@
 //! The C header: it compiles as C11 and as C++17 without a warning, it declares what the bindings declare, and a C program that uses it
 //! prints what the bindings return.
 
-use copperhook::{limits, Caller, Job, Kind, Manner, Refusal, Strip};
+use copperhook::{limits, Arrangement, Caller, Job, Kind, Manner, Refusal, Strip};
 use std::collections::BTreeMap;
 use std::path::{Path, PathBuf};
 use std::process::{Command, Output};
@@ -122,8 +122,9 @@ fn header_and_bindings_number_the_same() {
     assert_eq!(enumerated("refusal"), ["COPPERHOOK_ACCEPTED = 0".to_string()].into_iter().chain(refusals).collect::<Vec<_>>());
     assert_eq!(enumerated("kind"), Kind::ALL.iter().map(|k| format!("{} = {}", constant(k), k.number())).collect::<Vec<_>>());
     let manners = [Manner::PerElement, Manner::Block].map(|m| format!("{} = {}", constant(m), m as usize));
+    let less_room = format!("{} = {}", constant(Arrangement::LessRoom), Arrangement::LessRoom as usize);
     let tester = format!("{} = {}", constant(Caller::Tester), Caller::Tester as usize);
-    assert_eq!(enumerated("option"), manners.into_iter().chain([tester]).collect::<Vec<_>>());
+    assert_eq!(enumerated("option"), manners.into_iter().chain([less_room, tester]).collect::<Vec<_>>());
 }
 
 #[test]

@@ -2,11 +2,12 @@
 
 use copperhook::ForestEdge::{Bit, Tree};
 use copperhook::{
-    estimate, estimates, mean_error_bound, Caller, Dilution, EdgeList, Estimate, Graph, Job, Kind, Manner, Options, Pair, Refusal, Rng,
-    Sampling, Strip,
+    estimate, estimates, mean_error_bound, sys, Arrangement, Caller, Dilution, EdgeList, Estimate, Graph, Job, Kind, Manner, Options, Pair,
+    Refusal, Rng, Sampling, Strip,
 };
 
 const MANNERS: [Manner; 2] = [Manner::PerElement, Manner::Block];
+const ARRANGEMENTS: [Arrangement; 2] = [Arrangement::KeepAll, Arrangement::LessRoom];
 
 fn alone(n: usize, floor: usize, factor: f64, pair: (usize, usize), manner: Manner) -> (usize, f64) {
     let graph = Graph::new(n, &[0], &[1], &[1.0]).with_floor(floor);
@@ -175,38 +176,106 @@ fn the_tester_has_fewer_free_edges() {
 }
 
 #[test]
+#[rustfmt::skip]
 fn options_are_a_sum() {
-    let graph = Graph::new(2, &[0], &[1], &[1.0]).with_floor(13);
-    let job = Job { graph, us: &[0], vs: &[1] };
-    let mut work = vec![0.0; job.room().unwrap()];
-    // 2 and 8 are not read
-    for (options, number) in [(0, 0), (1, 0), (2, 0), (3, 0), (4, 22), (5, 22), (8, 0), (12, 22), (usize::MAX - 4, 0), (usize::MAX, 22)] {
-        let mut results = [9.0];
-        let (us, vs, work) = (job.us, job.vs, &mut work);
+    let (a, b, m, us, vs, factors) = ([0], [1], [1.0], [0], [1], [2.0]);
+    // bits from 8 on are not read, and of the room's options 2 alone is
+    for (options, number) in [(0, 0), (1, 0), (2, 0), (3, 0), (4, 22), (5, 22), (6, 22), (8, 0), (12, 22), (!4, 0), (!6, 0), (!2, 22), (!0, 22)] {
+        let (mut results, mut work, mut room) = ([9.0], vec![9.0; 50_000], 0);
+        let room_told = unsafe {
+            sys::copperhook_room(
+                2, 13, a.as_ptr(), 1, b.as_ptr(), 1, m.as_ptr(), 1, us.as_ptr(), 1, vs.as_ptr(), 1, options, &mut room,
+            )
+        };
+        assert_eq!((room_told, room), (0, (if options & 2 == 0 { 4 } else { 3 } << 13) + 3));
         let answer = unsafe {
-            copperhook::sys::copperhook_correlations(
-                2,
-                13,
-                [0].as_ptr(),
-                1,
-                [1].as_ptr(),
-                1,
-                [1.0].as_ptr(),
-                1,
-                us.as_ptr(),
-                1,
-                vs.as_ptr(),
-                1,
-                [2.0].as_ptr(),
-                1,
-                options,
-                results.as_mut_ptr(),
-                1,
-                work.as_mut_ptr(),
-                work.len(),
+            sys::copperhook_correlations(
+                2, 13, a.as_ptr(), 1, b.as_ptr(), 1, m.as_ptr(), 1, us.as_ptr(), 1, vs.as_ptr(), 1, factors.as_ptr(), 1,
+                options, results.as_mut_ptr(), 1, work.as_mut_ptr(), room,
             )
         };
         assert_eq!((answer, results[0]), (number, if number == 0 { 0.6 } else { 9.0 }));
+        assert!(work[..room].iter().all(|x| *x == if number == 0 { 0.0 } else { 9.0 }) && work[room..].iter().all(|x| *x == 9.0));
+    }
+}
+
+/// The room of a graph of one edge in either arrangement.
+fn rooms(n: usize, floor: usize, us: &[usize], vs: &[usize]) -> [usize; 2] {
+    let job = Job { graph: Graph::new(n, &[0], &[1], &[1.0]).with_floor(floor), us, vs };
+    ARRANGEMENTS.map(|arrangement| job.room_in(arrangement).unwrap())
+}
+
+#[test]
+fn backward_vectors_of_propagated_pairs_alone_take_room() {
+    assert_eq!(rooms(2, 2, &[0], &[1]), [19, 15]);
+    // at the window every pair is propagated
+    assert_eq!((rooms(2, 1, &[0], &[1]), rooms(3, 2, &[0], &[2])), ([13; 2], [24; 2]));
+    // vertex 2 ends a pair of either kind; vertices 1 and 3 end direct ones, and their forward vectors are kept
+    assert_eq!(rooms(3, 2, &[0, 1], &[2, 2]), [24; 2]);
+    assert_eq!(rooms(4, 2, &[0, 2, 1, 0], &[2, 3, 0, 1]), [4 * (2 + 4 + 3) + 5, 4 * (2 + 4 + 1) + 5]);
+    assert_eq!(rooms(4, 2, &[], &[]), [13; 2]);
+}
+
+/// The room of the arrangement that is asked for is needed and cleared, and no more.
+#[test]
+fn memory_past_the_smaller_room_stays() {
+    let job = Job { graph: Graph::new(2, &[0], &[1], &[1.0]).with_floor(2), us: &[0], vs: &[1] };
+    for manner in MANNERS {
+        for (arrangement, room) in ARRANGEMENTS.into_iter().zip([19, 15]) {
+            let options = Options::from(manner).arranged(arrangement);
+            let (mut results, mut work) = ([7.0], [7.0; 19]);
+            assert_eq!(job.correlations(&[2.0], options, &mut results, &mut work[..room - 1]), Err(Refusal::WorkMemory));
+            assert_eq!((results, work), ([7.0], [7.0; 19]));
+            for (factor, answer, result) in [(2.0, Ok(()), 0.6), (1e308, Err(Refusal::PartitionSum), 0.0)] {
+                let (mut results, mut work) = ([7.0], [7.0; 19]);
+                assert_eq!((job.correlations(&[factor], options, &mut results, &mut work), results), (answer, [result]));
+                assert!(work[..room].iter().all(|x| x.to_bits() == 0) && work[room..].iter().all(|x| *x == 7.0));
+            }
+        }
+    }
+}
+
+/// What a call leaves in lists of these lengths, in one arrangement and in the other, is the same, bit for bit.
+fn as_in_the_other(manner: Manner, lengths: [usize; 2], job: &Job, mut call: impl FnMut(Options, &mut [f64], &mut [f64], &mut [f64])) {
+    let [one, other] = ARRANGEMENTS.map(|arrangement| {
+        let (mut first, mut second) = (vec![9.0; lengths[0]], vec![9.0; lengths[1]]);
+        let mut work = vec![9.0; job.room_in(arrangement).unwrap()];
+        call(Options::from(manner).arranged(arrangement), &mut first, &mut second, &mut work);
+        assert!(work.iter().all(|x| x.to_bits() == 0));
+        first.into_iter().chain(second).map(f64::to_bits).collect::<Vec<_>>()
+    });
+    assert_eq!(one, other);
+}
+
+#[test]
+fn every_entry_gives_the_same_bits_in_either_arrangement() {
+    for (kind, width, length, periodic) in [(Kind::Square, 3, 4, false), (Kind::Triangular, 3, 3, true), (Kind::Eight, 2, 4, false)] {
+        let strip = Strip { kind, width, length, periodic };
+        let (edges, pairs) = (strip.edge_list().unwrap(), strip.labelled_pairs().unwrap());
+        let (us, vs): (Vec<usize>, Vec<usize>) = pairs.iter().map(|p| (p.u, p.v)).unzip();
+        let records: Vec<Pair> = pairs.iter().map(|p| Pair { u: p.u, v: p.v }).collect();
+        let graph = edges.graph(strip.n().unwrap());
+        let (job, betas, pairs) = (Job { graph, us: &us, vs: &vs }, [0.3, 0.9], us.len());
+        assert!(job.room_in(Arrangement::LessRoom) < job.room());
+        let factors = graph.factors(&betas).unwrap();
+        let (one, count) = (factors.of_signs(1, &vec![false; factors.kept]), 1 << graph.cyclomatic().unwrap());
+        let by = Sampling { seed: 3, from: 1, to: 4, samples: 5 };
+        for manner in MANNERS {
+            as_in_the_other(manner, [pairs, pairs], &job, |options, ends, ends_listed, work| {
+                job.correlations(&one, options, ends, work).unwrap();
+                graph.correlations_of(&records, &one, options, ends_listed, work).unwrap();
+                assert_eq!(ends, ends_listed);
+            });
+            as_in_the_other(manner, [2 * pairs; 2], &job, |options, squares, fourths, work| {
+                assert_eq!(job.exhaustive(&betas, &factors.all, options, squares, fourths, work), Ok(count));
+            });
+            as_in_the_other(manner, [2 * pairs * count, 0], &job, |options, stored, _, work| {
+                assert_eq!(job.exhaustive_c(&betas, &factors.all, options, stored, work), Ok(count));
+            });
+            as_in_the_other(manner, [2 * pairs; 2], &job, |options, squares, fourths, work| {
+                assert_eq!(job.sample(&betas, &factors.all, options, &by, squares, fourths, work), Ok(15));
+            });
+        }
     }
 }
 
@@ -323,7 +392,7 @@ fn small_strips_of_eight_neighbours() {
     assert_eq!(eight(3, 2, true).labelled_pairs(), Strip { kind: Kind::Square, ..eight(3, 2, true) }.labelled_pairs());
     // no other number is this kind
     let mut name = [0; 6];
-    let named = |kind, name: &mut [u8; 6]| unsafe { copperhook::sys::copperhook_kind_name(kind, name.as_mut_ptr()) };
+    let named = |kind, name: &mut [u8; 6]| unsafe { sys::copperhook_kind_name(kind, name.as_mut_ptr()) };
     assert!(named(3, &mut name) == 5 && name == *b"eight\0");
     assert!([2, 4, 259, usize::MAX].iter().all(|&kind| named(kind, &mut name) == 5 && name == *b"honey\0"));
 }

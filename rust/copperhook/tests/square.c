@@ -63,7 +63,8 @@ int main(void) {
     double *work;
     size_t room, refused = make(&s);
     if (!refused)
-        refused = copperhook_room(s.n, 0, s.a, s.edges, s.b, s.edges, s.m, s.edges, s.us, s.pairs, s.vs, s.pairs, &room);
+        refused = copperhook_room(s.n, 0, s.a, s.edges, s.b, s.edges, s.m, s.edges, s.us, s.pairs, s.vs, s.pairs, COPPERHOOK_BLOCK,
+                                  &room);
     if (refused) {
         fprintf(stderr, "refused by %zu\n", refused);
         return 1;

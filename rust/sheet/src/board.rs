@@ -4,12 +4,12 @@ use crate::explained;
 use crate::options::Options;
 use crate::trouble::Trouble;
 use crate::values::spelled;
-use copperhook::{limits, Caller, Dilution, EdgeList, Factors, Graph, Job, Kind, LabelledPair, Manner, Refusal, Strip};
+use copperhook::{limits, Arrangement, Caller, Dilution, EdgeList, Factors, Graph, Job, Kind, LabelledPair, Manner, Refusal, Strip};
 
 pub struct Board {
     pub strip: Strip,
     pub betas: Vec<f64>,
-    /// The manner, and who calls.
+    /// The manner, the arrangement, and who calls.
     pub options: copperhook::Options,
     pub pairs: Vec<LabelledPair>,
     /// The least number of kept edges on a walk that joins a pair, `None` where there is none.
@@ -18,8 +18,8 @@ pub struct Board {
     pub kept: usize,
     pub free: usize,
     pub window: usize,
-    /// The work memory of one call, in doubles.
-    pub room: usize,
+    /// The work memory of one call in each arrangement, in doubles.
+    rooms: [usize; 2],
     /// Of both signs, at each beta and kept edge.
     pub factors: Factors,
     diluted: Option<String>,
@@ -79,15 +79,41 @@ impl Board {
         };
         let graph = edges.graph(n).with_floor(window);
         let (us, vs): (Vec<usize>, Vec<usize>) = pairs.iter().map(|p| (p.u, p.v)).unzip();
-        let room = Job { graph, us: &us, vs: &vs }.room().map_err(named)?;
+        let job = Job { graph, us: &us, vs: &vs };
+        let rooms = [job.room().map_err(named)?, job.room_in(Arrangement::LessRoom).map_err(named)?];
         let factors = graph.factors(&options.betas).map_err(|refusal| explained::of_betas(&options.betas, refusal))?;
         let free = graph.cyclomatic().map_err(named)?;
         let distances = pairs.iter().map(|p| graph.distance(p.u, p.v)).collect::<Result<_, _>>().map_err(named)?;
         let (betas, kept) = (options.betas.clone(), factors.kept);
         let manner = if options.per_element { Manner::PerElement } else { Manner::Block };
+        let arrangement = if options.less_room { Arrangement::LessRoom } else { Arrangement::KeepAll };
         let caller = if options.tester { Caller::Tester } else { Caller::Desk };
-        let (of_calls, diluted) = (copperhook::Options { manner, caller }, diluted(options));
-        Ok(Board { strip, betas, options: of_calls, pairs, distances, n, kept, free, window, room, factors, diluted, edges, us, vs })
+        let (of_calls, diluted) = (copperhook::Options { manner, arrangement, caller }, diluted(options));
+        Ok(Board { strip, betas, options: of_calls, pairs, distances, n, kept, free, window, rooms, factors, diluted, edges, us, vs })
+    }
+
+    /// The work memory of one call that keeps all, in doubles.
+    pub fn most_room(&self) -> usize {
+        self.rooms[0]
+    }
+
+    /// The work memory of one call as it is arranged.
+    pub fn room(&self) -> usize {
+        self.rooms[usize::from(self.has_less_room())]
+    }
+
+    /// Whether no backward vector is kept for pairs nearer than the window.
+    pub fn has_less_room(&self) -> bool {
+        self.options.arrangement == Arrangement::LessRoom
+    }
+
+    /// Arranges the calls so that they take less room, where that is less than now; returns whether it is.
+    pub fn take_less_room(&mut self) -> bool {
+        let is_less = self.rooms[1] < self.room();
+        if is_less {
+            self.options = self.options.arranged(Arrangement::LessRoom);
+        }
+        is_less
     }
 
     /// Whether the calls are the bench tester's.

@@ -24,7 +24,7 @@ impl Cost {
         // nothing need be measured for what is short at any rate
         let (least, most) = if calls * board.entries() < 2e7 { (0.0, 0.0) } else { seconds_of_a_call(board) };
         let seconds = (source.least_share() * calls * least / source.threads() as f64, calls * most / cores as f64);
-        Cost { seconds, bytes: 8.0 * board.room as f64 * source.threads() as f64 }
+        Cost { seconds, bytes: bytes(board.room(), source.threads()) }
     }
 
     pub fn middle(&self) -> f64 {
@@ -52,7 +52,7 @@ pub fn seconds_of_a_call(board: &Board) -> (f64, f64) {
     let trial = |samples: usize| -> Result<f64, copperhook::Refusal> {
         let factors = board.graph().factors(&[0.5])?.all;
         let (mut squares, mut fourths) = (vec![0.0; board.pairs.len()], vec![0.0; board.pairs.len()]);
-        let (by, mut work) = (Sampling { seed: 1, from: 0, to: 1, samples }, vec![0.0; board.room]);
+        let (by, mut work) = (Sampling { seed: 1, from: 0, to: 1, samples }, vec![0.0; board.room()]);
         let start = Instant::now();
         board.job().sample(&[0.5], &factors, board.options, &by, &mut squares, &mut fourths, &mut work)?;
         Ok(start.elapsed().as_secs_f64() / samples as f64)
@@ -89,20 +89,43 @@ fn entries_in_a_second() -> f64 {
     trial().unwrap_or(5e8)
 }
 
-/// Work memory of so many threads, all +0.0; a sentence where this machine has too little.
-pub fn work_memory(board: &Board, threads: usize) -> Result<Vec<f64>, Trouble> {
-    let (room, bytes) = (board.room.saturating_mul(threads), 8.0 * board.room as f64 * threads as f64);
-    let lacking = |free: String| {
-        let strip = &board.strip;
-        Trouble::Machine(format!("--width {} --length {}: the work memory is {}, {free}", strip.width, strip.length, size(bytes)))
-    };
-    if let Some(free) = free_memory().filter(|&free| free < bytes) {
-        return Err(lacking(format!("and {} are free", size(free))));
+/// Work memory of so many threads, all +0.0. Where it does not fit this machine's memory the calls take less room, and a line on standard
+/// error says so; a sentence where that does not fit either.
+pub fn work_memory(board: &mut Board, threads: usize) -> Result<Vec<f64>, Trouble> {
+    let most = size(bytes(board.room(), threads));
+    let work = allocated(board.room(), threads).or_else(|lacking| {
+        if !board.take_less_room() {
+            return Err(lacking);
+        }
+        let (work, less) = (allocated(board.room(), threads)?, size(bytes(board.room(), threads)));
+        tell(&format!("sheet: the work memory is {most}, {lacking}; with less room it is {less}, no number depends on it\n"));
+        Ok(work)
+    });
+    work.map_err(|lacking| {
+        let (strip, needed) = (&board.strip, size(bytes(board.room(), threads)));
+        let less = if board.has_less_room() { " with less room" } else { "" };
+        Trouble::Machine(format!("--width {} --length {}: the work memory is {needed}{less}, {lacking}", strip.width, strip.length))
+    })
+}
+
+fn bytes(room: usize, threads: usize) -> f64 {
+    8.0 * room as f64 * threads as f64
+}
+
+/// So many rooms, all +0.0; why not, where they do not fit the memory.
+fn allocated(room: usize, threads: usize) -> Result<Vec<f64>, String> {
+    if let Some(free) = free_memory().filter(|&free| free < bytes(room, threads)) {
+        return Err(format!("and {} are free", size(free)));
     }
-    let mut work = Vec::new();
-    work.try_reserve_exact(room).map_err(|_| lacking("which cannot be had".to_string()))?;
-    work.resize(room, 0.0);
+    let (mut work, doubles) = (Vec::new(), room.saturating_mul(threads));
+    work.try_reserve_exact(doubles).map_err(|_| "which cannot be had".to_string())?;
+    work.resize(doubles, 0.0);
     Ok(work)
+}
+
+/// The work memory of so many threads as the calls are arranged, and that of calls that keep all, where that is more.
+pub fn less_room(board: &Board, threads: usize) -> Option<[String; 2]> {
+    (board.room() < board.most_room()).then(|| [board.room(), board.most_room()].map(|room| size(bytes(room, threads))))
 }
 
 /// What the system says, if it says it.

@@ -27,6 +27,9 @@ what is asked of it
                              or free, with its bit of a configuration's number; as text or csv. With --bits the bits
                              of the magnitude too
     --manner M               block (the default) or element: how often a sweep is rescaled; the last bits depend on it
+    --less-room              with less work memory: of pairs nearer than the window no backward vector is kept. Where
+                             the memory is too little without it, it is taken by itself, and standard error says so.
+                             No number depends on it, nor the record; a text's foot has both sizes
     --tester                 by the limits of the tester on the bench: a window up to 12 and, with --enumerate, up to 16
                              free edges. No number depends on it, nor the record
 of which configurations: one of these; without any, all, where at most 20 edges are free

@@ -39,14 +39,14 @@ fn make(options: &Options) -> Result<String, Trouble> {
     if options.edges {
         return edges::listed(options);
     }
-    let board = Board::new(options)?;
+    let mut board = Board::new(options)?;
     for warning in explained::warnings(options) {
         tell(&format!("sheet: warning: {warning}\n"));
     }
     let source = source::chosen(options, &board)?;
     let bounds = source.bounds(&board)?;
+    let mut work = work_memory(&mut board, source.threads())?;
     let cost = Cost::of(&board, source.as_ref());
-    let mut work = work_memory(&board, source.threads())?;
     cost.say();
     if cost.is_long() {
         source.tried(&board, &mut work)?;

@@ -57,6 +57,8 @@ pub struct Options {
     /// The strip's edges are asked for, and no pairs.
     pub edges: bool,
     pub per_element: bool,
+    /// No backward vector is kept for pairs nearer than the window.
+    pub less_room: bool,
     /// The calls are the bench tester's.
     pub tester: bool,
     pub format: Format,
@@ -92,6 +94,7 @@ struct Written {
     chunks: Option<(u64, u64)>,
     threads: Option<usize>,
     per_element: Option<bool>,
+    less_room: bool,
     tester: bool,
     format: Option<Format>,
     bits: bool,
@@ -174,6 +177,7 @@ impl Written {
             "--linear" => &mut self.linear,
             "--enumerate" => &mut self.enumerate,
             "--edges" => &mut self.edges,
+            "--less-room" => &mut self.less_room,
             "--tester" => &mut self.tester,
             _ => return Ok(false),
         };
@@ -249,6 +253,7 @@ impl Written {
             ("--enumerate", self.enumerate),
             ("--seed", self.seed.is_some()),
             ("--manner", self.per_element.is_some()),
+            ("--less-room", self.less_room),
             ("--tester", self.tester),
         ];
         if let Some((name, _)) = given.iter().find(|g| g.1) {
@@ -282,6 +287,7 @@ impl Written {
             pairs: self.pairs,
             edges: self.edges,
             per_element: self.per_element.unwrap_or(false),
+            less_room: self.less_room,
             tester: self.tester,
             format: self.format.unwrap_or(Format::Text),
             bits: self.bits,
@@ -348,6 +354,7 @@ mod tests {
             ("--linear", "--linear is for a plot; give --format svg too"),
             ("--edges", "--edges and --beta cannot be combined: the edges do not depend on it"),
             ("--bits=1", "--bits takes no value"),
+            ("--less-room=yes", "--less-room takes no value"),
             ("--manner", "--manner needs a value; sheet --help tells which"),
             ("--colour red", "there is no option --colour; sheet --help tells them"),
             ("3", "there is no option 3; sheet --help tells them"),
@@ -358,6 +365,7 @@ mod tests {
         let edges = "--kind sq --width 2 --length 3 --edges";
         for (more, told) in [
             ("--seed 3", "--edges and --seed cannot be combined: the edges do not depend on it"),
+            ("--less-room", "--edges and --less-room cannot be combined: the edges do not depend on it"),
             ("--format json", "--edges is told as text or csv"),
             ("--threads 2", "--threads is for drawn configurations; give --sample too"),
         ] {

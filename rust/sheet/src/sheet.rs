@@ -1,6 +1,7 @@
 //! A sheet: a table of values with what they are of.
 
 use crate::board::Board;
+use crate::cost::less_room;
 use crate::options::{Options, Wanted};
 use crate::record::Record;
 use crate::source::{Bounds, Source, Values};
@@ -30,6 +31,8 @@ pub struct Sheet {
     /// How far the first column's values can be from the exact ones, by beta, where that is proved.
     pub bounds: Bounds,
     pub rows: Vec<Row>,
+    /// The work memory that was taken, and that of calls that keep all, where these take more.
+    pub less_room: Option<[String; 2]>,
     pub bits: bool,
     drawn: bool,
     /// Whether the pairs are the standard ones, by their labels.
@@ -56,6 +59,7 @@ impl Sheet {
             columns: source.columns(),
             bounds,
             rows: (0..board.pairs.len()).map(row).collect(),
+            less_room: less_room(board, source.threads()),
             bits: options.bits,
             drawn: matches!(options.wanted, Wanted::Sampled(_)),
             standard: options.pairs.is_none(),

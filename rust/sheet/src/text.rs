@@ -32,6 +32,9 @@ pub fn text(sheet: &Sheet) -> String {
     let mut text = format!("{}\n{}; manner {}\n\n", sheet.title, sheet.source, sheet.manner);
     text += &aligned(&table(sheet));
     text += &foot(sheet);
+    if let Some([less, most]) = &sheet.less_room {
+        text += &format!("worked out with less room: {less} of work memory, without --less-room {most}; no number depends on it\n");
+    }
     if sheet.standard {
         text += LABELS;
     }

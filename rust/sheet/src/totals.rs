@@ -269,7 +269,7 @@ impl Source for Sampled {
             done(joined.next - self.by.from, self.chunks(), "chunks");
         };
         std::thread::scope(|scope| {
-            for work in work.chunks_exact_mut(board.room).take(self.threads) {
+            for work in work.chunks_exact_mut(board.room()).take(self.threads) {
                 scope.spawn(|| sweep(work));
             }
         });

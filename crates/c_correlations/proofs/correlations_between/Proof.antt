@@ -32,7 +32,7 @@ slice-aggregate-correlations-2 c = search (needs, front-length)
 returns : tie.Need-returns
 returns c =
     let asked = c .before .before .before .before .before .before .before .before .before .options-numbered .ensures in
-    rw (← (ap (λ (o : Options). o .manner) asked), ← (ap (λ (o : Options). o .caller) asked)) (c .before .before .before .before .correlations .ensures)
+    rw (← (ap (λ (o : Options). o .manner) asked), ← (ap (λ (o : Options). o .arrangement) asked), ← (ap (λ (o : Options). o .caller) asked)) (c .before .before .before .before .correlations .ensures)
 
 pub correlations-between-spec : {M : Type 1} → statement M
 correlations-between-spec =

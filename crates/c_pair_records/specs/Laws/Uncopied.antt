@@ -13,6 +13,8 @@ use borrow.Author.Tests.{lt-ltb}
 use Rattle.limits.specs.declared.Caller.{Caller}
 use Rattle.refusals.specs.Request.{Request, badVertices, badLists, correlationRequest}
 use Rattle.refusals.specs.Refusal.{refusal, ofCorrelations}
+use Rattle.plan_layout.specs.declared.Arrangement.{Arrangement}
+use Rattle.plan_layout.specs.Arrangements.{arrangementOf}
 use Rattle.pair_correlations.specs.Sound.{unsound}
 use Rattle.entry_correlations.specs.declared.Manner.{Manner}
 use Rattle.entry_correlations.specs.Correlations.{Correlated, jobGiven}
@@ -34,14 +36,14 @@ not-kept : (t : Bool) (r : ℕ) → r ≡ cond t 1 2 → (r ≡ 0 → ⊥) × (r
 not-kept true r e = (λ z. omega arith, λ z. omega arith)
 not-kept false r e = (λ z. omega arith, λ z. omega arith)
 
-module _ (n floor : ℕ) (a b : List ℕ) (m factors : List Float) (manner : Manner) (caller : Caller) (r : ℕ) (results results′ work work′ : List Float) where
+module _ (n floor : ℕ) (a b : List ℕ) (m factors : List Float) (manner : Manner) (arrangement : Arrangement) (caller : Caller) (r : ℕ) (results results′ work work′ : List Float) where
   -- the answer and the lists are those of a call with these pairs
   abbrev Answered : List ℕ → List ℕ → Type 0
-  Answered us vs = Correlated n floor a b m us vs factors manner caller r results results′ work work′
+  Answered us vs = Correlated n floor a b m us vs factors manner arrangement caller r results results′ work work′
 
   abbrev request : List ℕ → List ℕ → Request
   request us vs =
-      correlationRequest caller n floor a b m us vs factors (length results) (length work) (unsound (jobGiven n floor a b m factors manner) us vs)
+      correlationRequest caller (arrangementOf arrangement) n floor a b m us vs factors (length results) (length work) (unsound (jobGiven n floor a b m factors manner) us vs)
 
   -- too many pairs are refused alike, whatever they are
   alike : (us vs us′ vs′ : List ℕ) → 256 < length us → 256 < length us′ → Answered us vs → Answered us′ vs′

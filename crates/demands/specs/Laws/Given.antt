@@ -10,6 +10,7 @@ use lib.Ieee.{Float, nan}
 use lib.Ieee.Positive.{positive}
 use lib.ListN.{length, getD, length-map}
 use borrow.Author.Tests.{eq-eqb}
+use Rattle.transfer_matrix.specs.Room as Room
 use Rattle.list_laws.specs.Search.{some}
 use Rattle.list_laws.specs.Laws.Search.{none-at}
 use Rattle.list_laws.specs.Laws.Most.{most-above}
@@ -72,13 +73,13 @@ module _ (n floor : ℕ) (a b : List ℕ) (m : List Float) (us vs : List ℕ) (m
 
 -- of `correlations`: one factor for each kept edge
 pub checked-given : (n floor : ℕ) (a b : List ℕ) (m : List Float) (us vs : List ℕ) (factors : List Float) (results work : ℕ) (manner : Given.Manner)
-    → AcceptedCorrelations n floor a b m us vs factors results work → Checked (λ x. T (positive x)) (jobGiven n floor a b m factors manner)
+    → {A : Room.Arrangement} → AcceptedCorrelations A n floor a b m us vs factors results work → Checked (λ x. T (positive x)) (jobGiven n floor a b m factors manner)
 checked-given n floor a b m us vs factors results work manner ok =
     checked-made n floor a b m us vs (mannerOf manner) (ok .job) (λ e. getD factors e nan) (λ e l. passes-positive (getD factors e nan) (ok .lists .factors-pass e l))
 
 -- of totals: two factors for each beta and kept edge
 module _ (n floor : ℕ) (a b : List ℕ) (m : List Float) (us vs : List ℕ) (betas factors : List Float) (misfit : Bool) (work : ℕ) (manner : Given.Manner)
-    (ok : AcceptedTotals n floor a b m us vs betas factors misfit work) where
+    {A : Room.Arrangement} (ok : AcceptedTotals A n floor a b m us vs betas factors misfit work) where
   pub lent-inside : (edges b e : ℕ) (minus : Bool) → e < edges → b < length betas → lentAt edges b e minus < signedFactors (length betas) edges
   lent-inside edges b e minus l k =
       let h : (b + 1) * edges ≤ length betas * edges = mul-le-mul-right edges (omega arith) in

@@ -5,7 +5,7 @@ use Prim.Native.Nat.{ℕ, _≤_}
 use native.Mathlib.Omega.{arith}
 use lib.Ieee.{Float}
 use lib.ListN.{length, take, length-map}
-use Rattle.transfer_matrix.specs.Room.{room}
+use Rattle.transfer_matrix.specs.Room.{Arrangement, room}
 use Rattle.refusals.specs.Edges.{kept, keptEarly}
 use Rattle.kept_edges.specs.Laws.Fronts.{front-early, front-late}
 use Rattle.plan_layout.specs.Plannable.{Plannable}
@@ -18,8 +18,8 @@ module _ {n floor : ℕ} {a b : List ℕ} {m : List Float} {us vs : List ℕ} {k
   edge-count = length-map (kept a b m) (λ x. x .early)
 
   -- the fronts of the lists are the kept edges
-  pub plannable : (work : ℕ) → room n w k us vs ≤ work → Plannable n w (take k early′) (take k late′) us vs work
-  plannable work h =
+  pub plannable : (A : Arrangement) (work : ℕ) → room A n w k us vs ≤ work → Plannable A n w (take k early′) (take k late′) us vs work
+  plannable A work h =
       let p = g .passed in
       let c = edge-count ∙ sym (g .written .edges) in
       rw (front-early (g .written), front-late (g .written))

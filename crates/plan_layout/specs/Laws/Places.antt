@@ -13,7 +13,7 @@ use borrow.Author.Tests.{ltb-true, lt-ltb, eq-eqb}
 use Rattle.list_laws.specs.Count.{count}
 use Rattle.list_laws.specs.Laws.Count.{count-hit, count-most}
 use Rattle.list_laws.specs.Laws.Search.{some-at}
-use Rattle.transfer_matrix.specs.Room.{earlier, later, isPropagated, keepsForward, keepsBackward}
+use Rattle.transfer_matrix.specs.Room.{Arrangement, waits, earlier, later, isPropagated, keepsForward, keepsBackward}
 use Rattle.plan_steps.specs.Layout.{number, forwardPlace, backwardPlace}
 use Rattle.plan_layout.specs.Places.{Pairs, placeAt, moving, backwardFrom, placesOf, Places}
 
@@ -28,8 +28,8 @@ earlier-inside us vs n i g b = omega (arith, g .first i b, min-le-left (getD us 
 
 -- ---- what follows
 
-pub places-most : (n w : ℕ) (us vs : List ℕ) → placesOf n w us vs ≤ moving + n + n
-places-most n w us vs = omega (arith, count-most (keepsForward w us vs) n, count-most (keepsBackward us vs) n)
+pub places-most : (A : Arrangement) (n w : ℕ) (us vs : List ℕ) → placesOf A n w us vs ≤ moving + n + n
+places-most A n w us vs = omega (arith, count-most (keepsForward w us vs) n, count-most (keepsBackward A w us vs) n)
 
 module _ (test : ℕ → Bool) where
   count-rises : (t u : ℕ) → t ≤ u → count test t ≤ count test u
@@ -68,13 +68,13 @@ module _ (test : ℕ → Bool) where
         (λ l. absurd (omega (arith, a .1, b .1, count-passes t u l (a .0))))
         (λ l. dite (decLt u t) (λ m. absurd (omega (arith, a .1, b .1, count-passes u t m (b .0)))) (λ m. omega arith))
 
-module _ (plan us vs : List ℕ) (n w : ℕ) (g : Places plan us vs n w) where
+module _ (A : Arrangement) (plan us vs : List ℕ) (n w : ℕ) (g : Places A plan us vs n w) where
   -- a vertex has a forward place exactly where its forward vector is kept, a backward place exactly where its backward vector is
   pub forward-kept : (t : ℕ) → t < n → ltb 0 (forwardPlace plan t) ≡ keepsForward w us vs t
   forward-kept t b = ap (ltb 0) (g .forward t b) ∙ place-there (keepsForward w us vs) moving (omega arith) t
 
-  pub backward-kept : (t : ℕ) → t < n → ltb 0 (backwardPlace plan t) ≡ keepsBackward us vs t
-  backward-kept t b = ap (ltb 0) (g .backward t b) ∙ place-there (keepsBackward us vs) (backwardFrom n w us vs) (omega arith) t
+  pub backward-kept : (t : ℕ) → t < n → ltb 0 (backwardPlace plan t) ≡ keepsBackward A w us vs t
+  backward-kept t b = ap (ltb 0) (g .backward t b) ∙ place-there (keepsBackward A w us vs) (backwardFrom n w us vs) (omega arith) t
 
   -- forward places lie behind the moving ones, backward places behind these, and all are below the number of places
   pub forward-inside : (t : ℕ) → t < n → 0 < forwardPlace plan t → (moving ≤ forwardPlace plan t) × (forwardPlace plan t < backwardFrom n w us vs)
@@ -84,10 +84,10 @@ module _ (plan us vs : List ℕ) (n w : ℕ) (g : Places plan us vs n w) where
       (omega (arith, i .0), omega (arith, i .1))
 
   pub backward-inside : (t : ℕ) → t < n → 0 < backwardPlace plan t
-      → (backwardFrom n w us vs ≤ backwardPlace plan t) × (backwardPlace plan t < placesOf n w us vs)
+      → (backwardFrom n w us vs ≤ backwardPlace plan t) × (backwardPlace plan t < placesOf A n w us vs)
   backward-inside t b p =
       let e = g .backward t b in
-      let i = place-inside (keepsBackward us vs) (backwardFrom n w us vs) (omega arith) n t b (rw e at p) in
+      let i = place-inside (keepsBackward A w us vs) (backwardFrom n w us vs) (omega arith) n t b (rw e at p) in
       (omega (arith, i .0), omega (arith, i .1))
 
   -- no place is handed to two vectors
@@ -97,13 +97,13 @@ module _ (plan us vs : List ℕ) (n w : ℕ) (g : Places plan us vs n w) where
 
   pub backward-apart : (t u : ℕ) → t < n → u < n → 0 < backwardPlace plan t → backwardPlace plan t ≡ backwardPlace plan u → t ≡ u
   backward-apart t u b c p e =
-      place-apart (keepsBackward us vs) (backwardFrom n w us vs) (omega arith) t u (rw (g .backward t b) at p)
+      place-apart (keepsBackward A w us vs) (backwardFrom n w us vs) (omega arith) t u (rw (g .backward t b) at p)
       (sym (g .backward t b) ∙ e ∙ g .backward u c)
 
   pub kinds-apart : (t u : ℕ) → t < n → u < n → 0 < forwardPlace plan t → forwardPlace plan t ≡ backwardPlace plan u → ⊥
   kinds-apart t u b c p e = omega (arith, forward-inside t b p .1, backward-inside u c (rw e at p) .0)
 
-  -- a pair finds what it needs: both vectors of its later vertex, and if it is propagated the forward vector of its earlier one
+  -- a pair finds what it needs: the forward vector of its later vertex, the backward one if it waits, and if it is propagated the forward vector of its earlier one
   module _ (i : ℕ) (pairs : Pairs us vs n) (b : i < length us) where
     placed : (place : ℕ) (test : Bool) → ltb 0 place ≡ test → test ≡ true → 0 < place
     placed place test e p = ltb-true 0 place (e ∙ p)
@@ -114,11 +114,11 @@ module _ (plan us vs : List ℕ) (n w : ℕ) (g : Places plan us vs n w) where
         placed _ _ (forward-kept (later us vs i) (later-inside us vs n i pairs b))
         (some-at _ (length us) i b (rw (eq-eqb (later us vs i) (later us vs i) refl)))
 
-    pub later-backward : 0 < backwardPlace plan (later us vs i)
+    pub later-backward : waits A w us vs i ≡ true → 0 < backwardPlace plan (later us vs i)
     unfolding keepsBackward
-    later-backward =
+    later-backward p =
         placed _ _ (backward-kept (later us vs i) (later-inside us vs n i pairs b))
-        (some-at _ (length us) i b (eq-eqb (later us vs i) (later us vs i) refl))
+        (some-at _ (length us) i b (rw (eq-eqb (later us vs i) (later us vs i) refl, p)))
 
     pub earlier-forward : isPropagated w us vs i ≡ true → 0 < forwardPlace plan (earlier us vs i)
     unfolding keepsForward

@@ -37,12 +37,12 @@ module _ (caller : Caller) (n floor : ℕ) (a b : List ℕ) (m : List Float) (us
   job-in-parts betas = refusal-in-parts ofGraph (ofKept ++ (Key.testerWindow ∷ [])) (callRequest caller n floor a b m us vs betas) refl
 
   -- `correlations` asks the checks of a job, then of the lists that it is lent, then of every Z
-  pub correlations-in-parts : (factors : List Float) (results work : ℕ) (unsound : Bool)
-      → refusal ofCorrelations (correlationRequest caller n floor a b m us vs factors results work unsound)
+  pub correlations-in-parts : (A : Room.Arrangement) (factors : List Float) (results work : ℕ) (unsound : Bool)
+      → refusal ofCorrelations (correlationRequest caller A n floor a b m us vs factors results work unsound)
       ≡ orElse (refusal ofJob (callRequest caller n floor a b m us vs []))
-      (orElse (listsRefusal n (windowFrom floor a b m) (length (kept a b m)) us vs factors results work) (cond unsound 14 0))
-  correlations-in-parts factors results work unsound =
-      let r = correlationRequest caller n floor a b m us vs factors results work unsound in
+      (orElse (listsRefusal A n (windowFrom floor a b m) (length (kept a b m)) us vs factors results work) (cond unsound 14 0))
+  correlations-in-parts A factors results work unsound =
+      let r = correlationRequest caller A n floor a b m us vs factors results work unsound in
       refusal-in-parts ofJob (ofLists ++ ofSweeps) r refl
       ∙ ap (orElse (refusal ofJob (callRequest caller n floor a b m us vs []))) (refusal-in-parts ofLists ofSweeps r refl)
 
@@ -98,19 +98,19 @@ accepted-factors factors count h =
     (all, λ e l. not-false _ (none-at (λ i. not (passes (getD factors i nan))) (length factors) e (omega (arith, all)) (f .1)))
 
 -- what 12 and 13 pass
-pub accepted-buffers : (n w edges : ℕ) (us vs : List ℕ) (misfit : Bool) (work : ℕ) → buffersRefusal n w edges us vs misfit work ≡ 0
-    → (misfit ≡ false) × (Room.room n w edges us vs ≤ work)
-accepted-buffers n w edges us vs misfit work h =
+pub accepted-buffers : (A : Room.Arrangement) (n w edges : ℕ) (us vs : List ℕ) (misfit : Bool) (work : ℕ) → buffersRefusal A n w edges us vs misfit work ≡ 0
+    → (misfit ≡ false) × (Room.room A n w edges us vs ≤ work)
+accepted-buffers A n w edges us vs misfit work h =
     let t12 = unless misfit (omega arith) h in
-    let t13 = unless (ltb work (Room.room n w edges us vs)) (omega arith) (t12 .1) in
+    let t13 = unless (ltb work (Room.room A n w edges us vs)) (omega arith) (t12 .1) in
     (t12 .0, ltb-false _ _ (t13 .0))
 
-pub accepted-lists : (n w edges : ℕ) (us vs : List ℕ) (factors : List Float) (results work : ℕ)
-    → listsRefusal n w edges us vs factors results work ≡ 0 → AcceptedLists n w edges us vs factors results work
-accepted-lists n w edges us vs factors results work h =
+pub accepted-lists : (A : Room.Arrangement) (n w edges : ℕ) (us vs : List ℕ) (factors : List Float) (results work : ℕ)
+    → listsRefusal A n w edges us vs factors results work ≡ 0 → AcceptedLists A n w edges us vs factors results work
+accepted-lists A n w edges us vs factors results work h =
     let t10 = unless (badFactorList factors edges) (omega arith) h in
     let f = accepted-factors factors edges (t10 .0) in
-    let buffers = accepted-buffers n w edges us vs (not (eqb results (length us))) work (t10 .1) in
+    let buffers = accepted-buffers A n w edges us vs (not (eqb results (length us))) work (t10 .1) in
     record {
       factor-count = f .0;
       factors-pass = f .1;
@@ -132,11 +132,11 @@ before-14 front q r o a e h = go (refusal front q) (is-among front q checks) (sy
         let v : true ≡ false = sym (t (λ p. omega arith)) ∙ ap (answerable checks front) (e ∙ z) ∙ a in
         absurd (let z : _≡_ {A = ℕ} 0 1 = cc in omega arith)
 
-pub accepted-correlations : (caller : Caller) (n floor : ℕ) (a b : List ℕ) (m : List Float) (us vs : List ℕ) (factors : List Float) (results work : ℕ)
-    (unsound : Bool) (r : ℕ) → refusal ofCorrelations (correlationRequest caller n floor a b m us vs factors results work unsound) ≡ r → (r ≡ 0) ⊎ (r ≡ 14)
-    → AcceptedCorrelations n floor a b m us vs factors results work
-accepted-correlations caller n floor a b m us vs factors results work unsound r e h =
-    let q = correlationRequest caller n floor a b m us vs factors results work unsound in
+pub accepted-correlations : (caller : Caller) (A : Room.Arrangement) (n floor : ℕ) (a b : List ℕ) (m : List Float) (us vs : List ℕ) (factors : List Float) (results work : ℕ)
+    (unsound : Bool) (r : ℕ) → refusal ofCorrelations (correlationRequest caller A n floor a b m us vs factors results work unsound) ≡ r → (r ≡ 0) ⊎ (r ≡ 14)
+    → AcceptedCorrelations A n floor a b m us vs factors results work
+accepted-correlations caller A n floor a b m us vs factors results work unsound r e h =
+    let q = correlationRequest caller A n floor a b m us vs factors results work unsound in
     let z = before-14 (ofJob ++ ofLists) q r refl refl e h in
     let parts = both-passed _ _ (sym (refusal-in-parts ofJob ofLists q refl) ∙ z) in
-    record { job = accepted-with caller n floor a b m us vs [] (parts .0) .0; lists = accepted-lists n _ _ us vs factors results work (parts .1) }
+    record { job = accepted-with caller n floor a b m us vs [] (parts .0) .0; lists = accepted-lists A n _ _ us vs factors results work (parts .1) }

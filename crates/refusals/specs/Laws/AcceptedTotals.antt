@@ -22,6 +22,7 @@ use Rattle.refusals.specs.Refusal.{refusal, ofGraph, ofJob, ofCouplings,
 use Rattle.refusals.specs.Laws.First.{unless}
 use Rattle.refusals.specs.Laws.Later.{orElse, both-passed, refusal-in-parts, Then}
 use Rattle.refusals.specs.Accepted.{Accepted, AcceptedBetas}
+use Rattle.transfer_matrix.specs.Room as Room
 use Rattle.refusals.specs.Laws.Accepted.{accepted-graph}
 use Rattle.refusals.specs.AcceptedJob.{buffersRefusal}
 use Rattle.refusals.specs.Laws.AcceptedJob.{before-14, accepted-with, accepted-factors, accepted-buffers}
@@ -41,25 +42,25 @@ pub couplings-in-parts : (n : ℕ) (a b : List ℕ) (m betas : List Float) (misf
     → Then (refusal ofCouplings (couplingRequest n a b m betas misfit)) (refusal ofGraph (jobRequest n 0 a b m [] [] betas)) misfit 12
 couplings-in-parts n a b m betas misfit = record { is = refusal-in-parts ofGraph (Key.buffers ∷ []) (couplingRequest n a b m betas misfit) refl }
 
-module _ (caller : Caller) (n floor : ℕ) (a b : List ℕ) (m : List Float) (us vs : List ℕ) (betas factors : List Float) where
+module _ (caller : Caller) (A : Room.Arrangement) (n floor : ℕ) (a b : List ℕ) (m : List Float) (us vs : List ℕ) (betas factors : List Float) where
   -- totals ask a job's checks, then of the configurations and the lists that they are lent, then of every Z
   pub enumeration-in-parts : (free most : ℕ) (misfit : Bool) (work : ℕ) (unsound : Bool)
-      → refusal ofEnumeration (enumerationRequest caller n floor a b m us vs betas factors free most misfit work unsound)
+      → refusal ofEnumeration (enumerationRequest caller A n floor a b m us vs betas factors free most misfit work unsound)
       ≡ orElse (refusal ofJob (callRequest caller n floor a b m us vs betas))
-      (orElse (enumerationLists caller n (windowFrom floor a b m) (length (kept a b m)) us vs (length betas) factors free most misfit work)
+      (orElse (enumerationLists caller A n (windowFrom floor a b m) (length (kept a b m)) us vs (length betas) factors free most misfit work)
       (cond unsound 14 0))
   enumeration-in-parts free most misfit work unsound =
-      let r = enumerationRequest caller n floor a b m us vs betas factors free most misfit work unsound in
+      let r = enumerationRequest caller A n floor a b m us vs betas factors free most misfit work unsound in
       refusal-in-parts ofJob (ofEnumerationLists ++ ofSweeps) r refl
       ∙ ap (orElse (refusal ofJob (callRequest caller n floor a b m us vs betas))) (refusal-in-parts ofEnumerationLists ofSweeps r refl)
 
   pub sampling-in-parts : (free start end samples : ℕ) (misfit : Bool) (work : ℕ) (unsound : Bool)
-      → refusal ofSampling (samplingRequest caller n floor a b m us vs betas factors free start end samples misfit work unsound)
+      → refusal ofSampling (samplingRequest caller A n floor a b m us vs betas factors free start end samples misfit work unsound)
       ≡ orElse (refusal ofJob (callRequest caller n floor a b m us vs betas))
-      (orElse (samplingLists n (windowFrom floor a b m) (length (kept a b m)) us vs (length betas) factors start end samples misfit work)
+      (orElse (samplingLists A n (windowFrom floor a b m) (length (kept a b m)) us vs (length betas) factors start end samples misfit work)
       (cond unsound 14 0))
   sampling-in-parts free start end samples misfit work unsound =
-      let r = samplingRequest caller n floor a b m us vs betas factors free start end samples misfit work unsound in
+      let r = samplingRequest caller A n floor a b m us vs betas factors free start end samples misfit work unsound in
       refusal-in-parts ofJob (ofSamplingLists ++ ofSweeps) r refl
       ∙ ap (orElse (refusal ofJob (callRequest caller n floor a b m us vs betas))) (refusal-in-parts ofSamplingLists ofSweeps r refl)
 
@@ -107,15 +108,15 @@ accepted-couplings n a b m betas misfit h =
     let graph = accepted-graph n 0 a b m [] [] betas (parts .0) in
     (graph .0, graph .1 .betas-pass, unless misfit {k = 12} (omega arith) (parts .1) .0)
 
-module _ (caller : Caller) (n floor : ℕ) (a b : List ℕ) (m : List Float) (us vs : List ℕ) (betas factors : List Float) where
+module _ (caller : Caller) (A : Room.Arrangement) (n floor : ℕ) (a b : List ℕ) (m : List Float) (us vs : List ℕ) (betas factors : List Float) where
   accepted-totals : (misfit : Bool) (work : ℕ) → refusal ofJob (callRequest caller n floor a b m us vs betas) ≡ 0
       → badFactorList factors (signedFactors (length betas) (length (kept a b m))) ≡ false
-      → buffersRefusal n (windowFrom floor a b m) (length (kept a b m)) us vs misfit work ≡ 0
-      → AcceptedTotals n floor a b m us vs betas factors misfit work
+      → buffersRefusal A n (windowFrom floor a b m) (length (kept a b m)) us vs misfit work ≡ 0
+      → AcceptedTotals A n floor a b m us vs betas factors misfit work
   accepted-totals misfit work j f h =
       let job = accepted-with caller n floor a b m us vs betas j in
       let all = accepted-factors factors _ f in
-      let buffers = accepted-buffers n (windowFrom floor a b m) (length (kept a b m)) us vs misfit work h in
+      let buffers = accepted-buffers A n (windowFrom floor a b m) (length (kept a b m)) us vs misfit work h in
       record {
         job = job .0;
         betas-pass = job .1;
@@ -127,12 +128,12 @@ module _ (caller : Caller) (n floor : ℕ) (a b : List ℕ) (m : List Float) (us
 
   -- A call that is accepted, or refused by 14 alone, has passed all before it: and the free edges are few enough,
   pub accepted-enumeration : (free most : ℕ) (misfit : Bool) (work : ℕ) (unsound : Bool) (r : ℕ)
-      → refusal ofEnumeration (enumerationRequest caller n floor a b m us vs betas factors free most misfit work unsound) ≡ r → (r ≡ 0) ⊎ (r ≡ 14)
-      → AcceptedTotals n floor a b m us vs betas factors misfit work × (free ≤ most)
+      → refusal ofEnumeration (enumerationRequest caller A n floor a b m us vs betas factors free most misfit work unsound) ≡ r → (r ≡ 0) ⊎ (r ≡ 14)
+      → AcceptedTotals A n floor a b m us vs betas factors misfit work × (free ≤ most)
   accepted-enumeration free most misfit work unsound r e h =
-      let q = enumerationRequest caller n floor a b m us vs betas factors free most misfit work unsound in
+      let q = enumerationRequest caller A n floor a b m us vs betas factors free most misfit work unsound in
       let z = before-14 (ofJob ++ ofEnumerationLists) q r refl refl e h in
-      let lists = enumerationLists caller n (windowFrom floor a b m) (length (kept a b m)) us vs (length betas) factors free most misfit work in
+      let lists = enumerationLists caller A n (windowFrom floor a b m) (length (kept a b m)) us vs (length betas) factors free most misfit work in
       let parts = both-passed (refusal ofJob (callRequest caller n floor a b m us vs betas)) lists
       (sym (refusal-in-parts ofJob ofEnumerationLists q refl) ∙ z) in
       let t9 = unless (ltb most free) (omega arith) (parts .1) in
@@ -142,12 +143,12 @@ module _ (caller : Caller) (n floor : ℕ) (a b : List ℕ) (m : List Float) (us
 
   -- or the samples.
   pub accepted-sampling : (free start end samples : ℕ) (misfit : Bool) (work : ℕ) (unsound : Bool) (r : ℕ)
-      → refusal ofSampling (samplingRequest caller n floor a b m us vs betas factors free start end samples misfit work unsound) ≡ r → (r ≡ 0) ⊎ (r ≡ 14)
-      → AcceptedTotals n floor a b m us vs betas factors misfit work × ((end - start) * samples ≤ mostSamples)
+      → refusal ofSampling (samplingRequest caller A n floor a b m us vs betas factors free start end samples misfit work unsound) ≡ r → (r ≡ 0) ⊎ (r ≡ 14)
+      → AcceptedTotals A n floor a b m us vs betas factors misfit work × ((end - start) * samples ≤ mostSamples)
   accepted-sampling free start end samples misfit work unsound r e h =
-      let q = samplingRequest caller n floor a b m us vs betas factors free start end samples misfit work unsound in
+      let q = samplingRequest caller A n floor a b m us vs betas factors free start end samples misfit work unsound in
       let z = before-14 (ofJob ++ ofSamplingLists) q r refl refl e h in
-      let lists = samplingLists n (windowFrom floor a b m) (length (kept a b m)) us vs (length betas) factors start end samples misfit work in
+      let lists = samplingLists A n (windowFrom floor a b m) (length (kept a b m)) us vs (length betas) factors start end samples misfit work in
       let parts = both-passed (refusal ofJob (callRequest caller n floor a b m us vs betas)) lists
       (sym (refusal-in-parts ofJob ofSamplingLists q refl) ∙ z) in
       let t10 = unless (badFactorList factors (signedFactors (length betas) (length (kept a b m)))) (omega arith) (parts .1) in

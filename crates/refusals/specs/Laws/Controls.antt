@@ -11,7 +11,7 @@ use Rattle.limits.specs.declared.Caller.the-variants.{Desk, Tester}
 use Rattle.list_laws.specs.Search.{some}
 use Rattle.transfer_matrix.specs.Job.{windowOf, tooManyNear}
 use Rattle.transfer_matrix.specs.Configuration.{edgesWith}
-use Rattle.transfer_matrix.specs.Room.{room}
+use Rattle.transfer_matrix.specs.Room.{Arrangement, keepAll, lessRoom, room}
 use Rattle.refusals.specs.Edges.{keptOf}
 use Rattle.refusals.specs.Request.{graphRequest, distanceRequest, roomRequest, correlationRequest}
 use Rattle.refusals.specs.Request.{couplingRequest, enumerationRequest, samplingRequest, mostCounted, mostStored}
@@ -84,7 +84,7 @@ four-near = refl
 -- two vertices, the edge 0-1, the pair u-v: a room of 13
 abbrev single : ℕ → ℕ → List Float → (results work : ℕ) → Bool → ℕ
 single u v factors results work unsound =
-    refusal ofCorrelations (correlationRequest Desk 2 0 (0 ∷ []) (1 ∷ []) (one ∷ []) (u ∷ []) (v ∷ []) factors results work unsound)
+    refusal ofCorrelations (correlationRequest Desk keepAll 2 0 (0 ∷ []) (1 ∷ []) (one ∷ []) (u ∷ []) (v ∷ []) factors results work unsound)
 
 -- a pair with equal ends, and a factor that is no number
 pub first-8 : single 0 0 (nan ∷ []) 1 13 false ≡ 8
@@ -115,6 +115,15 @@ first-13 = refl
 pub last-14 : (single 0 1 (one ∷ []) 1 13 true ≡ 14) × (single 0 1 (one ∷ []) 1 13 false ≡ 0)
 unfolding some keptOf eq le lt neg ofBits windowOf tooManyNear edgesWith room
 last-14 = (refl, refl)
+
+-- the same with floor 2, in either arrangement: a room of 19, and of 15
+abbrev arrangedIn : Arrangement → (work : ℕ) → ℕ
+arrangedIn arrangement work =
+    refusal ofCorrelations (correlationRequest Desk arrangement 2 2 (0 ∷ []) (1 ∷ []) (one ∷ []) (0 ∷ []) (1 ∷ []) (one ∷ []) 1 work false)
+
+pub room-asked-for : (arrangedIn keepAll 18 ≡ 13) × (arrangedIn keepAll 19 ≡ 0) × (arrangedIn lessRoom 14 ≡ 13) × (arrangedIn lessRoom 15 ≡ 0)
+unfolding some keptOf eq le lt neg ofBits windowOf tooManyNear edgesWith room
+room-asked-for = (refl, refl, refl, refl)
 
 -- ---- betas
 
@@ -162,7 +171,7 @@ equal-betas = (refl, refl, refl, refl, refl)
 abbrev countedBy : Caller → (free most : ℕ) → List Float → (misfit : Bool) → (work : ℕ) → ℕ
 countedBy caller free most factors misfit work =
     refusal ofEnumeration
-    (enumerationRequest caller 2 0 (0 ∷ []) (1 ∷ []) (one ∷ []) (0 ∷ []) (1 ∷ []) (one ∷ []) factors free most misfit work false)
+    (enumerationRequest caller keepAll 2 0 (0 ∷ []) (1 ∷ []) (one ∷ []) (0 ∷ []) (1 ∷ []) (one ∷ []) factors free most misfit work false)
 
 abbrev counted : (free most : ℕ) → List Float → (misfit : Bool) → (work : ℕ) → ℕ
 counted = countedBy Desk
@@ -184,7 +193,7 @@ factor-signs = refl
 abbrev drawn : (start end samples : ℕ) → List Float → (misfit : Bool) → (work : ℕ) → ℕ
 drawn start end samples factors misfit work =
     refusal ofSampling
-    (samplingRequest Desk 2 0 (0 ∷ []) (1 ∷ []) (one ∷ []) (0 ∷ []) (1 ∷ []) (one ∷ []) factors 0 start end samples misfit work false)
+    (samplingRequest Desk keepAll 2 0 (0 ∷ []) (1 ∷ []) (one ∷ []) (0 ∷ []) (1 ∷ []) (one ∷ []) factors 0 start end samples misfit work false)
 
 -- a bad factor, and too many samples; these, and a buffer that does not fit; such a buffer, and short work memory
 pub first-11 : (drawn 0 65537 65536 (one ∷ nan ∷ []) true 0 ≡ 10) × (drawn 0 65537 65536 (one ∷ one ∷ []) true 0 ≡ 11)
@@ -215,7 +224,7 @@ no-chunk = (refl, refl, refl)
 abbrev widened : Caller → (floor : ℕ) → (us vs : List ℕ) → List Float → ℕ
 widened caller floor us vs factors =
     refusal ofCorrelations
-    (correlationRequest caller 6 floor (0 ∷ 1 ∷ 2 ∷ 3 ∷ 4 ∷ []) (5 ∷ 5 ∷ 5 ∷ 5 ∷ 5 ∷ []) (one ∷ one ∷ one ∷ one ∷ one ∷ []) us vs factors 0 0 false)
+    (correlationRequest caller keepAll 6 floor (0 ∷ 1 ∷ 2 ∷ 3 ∷ 4 ∷ []) (5 ∷ 5 ∷ 5 ∷ 5 ∷ 5 ∷ []) (one ∷ one ∷ one ∷ one ∷ one ∷ []) us vs factors 0 0 false)
 
 pub tester-window : (widened Tester 25 (0 ∷ []) (6 ∷ []) [] ≡ 6) × (widened Tester 13 (0 ∷ []) (6 ∷ []) [] ≡ 22) × (widened Tester 12 (0 ∷ []) (6 ∷ []) [] ≡ 7)
     × (widened Desk 13 (0 ∷ []) (6 ∷ []) [] ≡ 7)
@@ -237,6 +246,6 @@ tester-free = (refl, refl, refl, refl, refl, refl)
 
 -- a sampling has no limit of free edges, whoever calls
 pub tester-sampling : refusal ofSampling
-    (samplingRequest Tester 2 0 (0 ∷ []) (1 ∷ []) (one ∷ []) (0 ∷ []) (1 ∷ []) (one ∷ []) (one ∷ one ∷ []) 17 0 1 1 false 13 false) ≡ 0
+    (samplingRequest Tester keepAll 2 0 (0 ∷ []) (1 ∷ []) (one ∷ []) (0 ∷ []) (1 ∷ []) (one ∷ []) (one ∷ one ∷ []) 17 0 1 1 false 13 false) ≡ 0
 unfolding some keptOf eq le lt neg ofBits windowOf tooManyNear edgesWith room
 tester-sampling = refl

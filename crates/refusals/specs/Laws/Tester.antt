@@ -27,6 +27,7 @@ atDesk r = record {
   factors = r .factors;
   factorCount = r .factorCount;
   misfit = r .misfit;
+  arrangement = r .arrangement;
   work = r .work;
   unsound = r .unsound;
 }

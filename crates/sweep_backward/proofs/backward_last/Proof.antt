@@ -26,7 +26,7 @@ returns-6 c =
     inr
     (record {
       next = omega arith;
-      some = omega arith;
+      inside = omega arith;
       wide = omega arith;
       blocks = c .before .before .before .before .before .if1 .left;
       due = c .before .before .if4 .left;
@@ -37,4 +37,4 @@ pub backward-last-spec : {M : Type 1} → statement M
 backward-last-spec =
     tie.close
     (tie.spec
-    returns returns-2 returns-3 returns-4 (λ c. search needs) (λ c κs. search needs) returns-5 (λ c. search needs) returns-6)
+    returns returns-2 (λ c. omega arith) returns-3 returns-4 (λ c. search needs) (λ c κs. search needs) returns-5 (λ c. search needs) returns-6)

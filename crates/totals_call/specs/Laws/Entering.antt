@@ -18,7 +18,7 @@ use Rattle.list_laws.specs.Laws.Search.{or-false}
 use Rattle.forest.specs.FreeEdges.{freeCount, bitsOf}
 use Rattle.forest.specs.Paths as Paths
 use Rattle.transfer_matrix.specs.Job as Job
-use Rattle.transfer_matrix.specs.Room.{room}
+use Rattle.transfer_matrix.specs.Room.{Arrangement, room}
 use Rattle.transfer_matrix.specs.Rounded.{ieee}
 use Rattle.transfer_matrix.specs.Totals.{square, fourth}
 use Rattle.refusals.specs.Edges.{kept, windowFrom, keptEarly, keptLate}
@@ -67,12 +67,12 @@ fits-both wanted squares fourths h =
 
 module _ {n floor : ℕ} {a b : List ℕ} {m : List Float} {us vs : List ℕ} {k w : ℕ} {early early′ late late′ : List ℕ} {mag mag′ : List Float}
     (g : ReadyJob n floor a b m us vs k w early early′ late late′ mag mag′) where
-  passed-lists : (factors : List Float) (betas : ℕ) (misfit : Bool) (work : ℕ) → betas ≤ 64 → badFactorList factors (signedFactors betas k) ≡ false
-      → buffersRefusal n w k us vs misfit work ≡ 0 → Passed n w (take k early′) (take k late′) us vs (length factors) betas work × (misfit ≡ false)
-  passed-lists factors betas misfit work few f z =
-      let buffers = accepted-buffers n w k us vs misfit work z in (
+  passed-lists : (A : Arrangement) (factors : List Float) (betas : ℕ) (misfit : Bool) (work : ℕ) → betas ≤ 64 → badFactorList factors (signedFactors betas k) ≡ false
+      → buffersRefusal A n w k us vs misfit work ≡ 0 → Passed A n w (take k early′) (take k late′) us vs (length factors) betas work × (misfit ≡ false)
+  passed-lists A factors betas misfit work few f z =
+      let buffers = accepted-buffers A n w k us vs misfit work z in (
         record {
-          job = plannable g work (buffers .1);
+          job = plannable g A work (buffers .1);
           few-betas = few;
           factored = accepted-factors factors (signedFactors betas k) f .0 ∙ ap (signedFactors betas) (early-part (g .written));
         },
@@ -99,19 +99,19 @@ module _ {n floor : ℕ} {a b : List ℕ} {m : List Float} {us vs : List ℕ} {k
   pub joined : Paths.Edges n (take k early′) (take k late′)
   joined = rw (front-early (g .written), front-late (g .written)) (joins (g .edges))
 
-  pub all-lists : (caller : Caller) (betas : ℕ) (factors : List Float) (free free′ most : ℕ) (misfit : Bool) (work r : ℕ) → free ≡ free′
-      → r ≡ enumerationLists caller n w k us vs betas factors free most misfit work
-      → r ≡ enumerationLists caller n (windowFrom floor a b m) (length (kept a b m)) us vs betas factors free′ most misfit work
-  all-lists caller betas factors free free′ most misfit work r e h = rw (g .window, g .written .edges, e) at h
+  pub all-lists : (caller : Caller) (A B : Arrangement) → A ≡ B → (betas : ℕ) (factors : List Float) (free free′ most : ℕ) (misfit : Bool) (work r : ℕ) → free ≡ free′
+      → r ≡ enumerationLists caller A n w k us vs betas factors free most misfit work
+      → r ≡ enumerationLists caller B n (windowFrom floor a b m) (length (kept a b m)) us vs betas factors free′ most misfit work
+  all-lists caller A B eA betas factors free free′ most misfit work r e h = rw (eA, g .window, g .written .edges, e) at h
 
-  pub all-passed : (caller : Caller) (betas : ℕ) (factors : List Float) (free most : ℕ) (misfit : Bool) (work r : ℕ) → betas ≤ 64
-      → r ≡ enumerationLists caller n w k us vs betas factors free most misfit work → r ≡ 0
-      → Passed n w (take k early′) (take k late′) us vs (length factors) betas work × (misfit ≡ false) × (free ≤ most)
-  all-passed caller betas factors free most misfit work r few h z =
+  pub all-passed : (caller : Caller) (A : Arrangement) (betas : ℕ) (factors : List Float) (free most : ℕ) (misfit : Bool) (work r : ℕ) → betas ≤ 64
+      → r ≡ enumerationLists caller A n w k us vs betas factors free most misfit work → r ≡ 0
+      → Passed A n w (take k early′) (take k late′) us vs (length factors) betas work × (misfit ≡ false) × (free ≤ most)
+  all-passed caller A betas factors free most misfit work r few h z =
       let t9 = unless (ltb most free) {k = 9} (omega arith) (sym h ∙ z) in
       let t22 = unless (overLimit caller testerFree free) {k = 22} (omega arith) (t9 .1) in
       let t10 = unless (badFactorList factors (signedFactors betas k)) {k = 10} (omega arith) (t22 .1) in
-      let p = passed-lists factors betas misfit work few (t10 .0) (t10 .1) in
+      let p = passed-lists A factors betas misfit work few (t10 .0) (t10 .1) in
       (p .0, p .1, ltb-false most free (t9 .0))
 
   -- the free edges of the fronts are those of the kept edges
@@ -120,51 +120,52 @@ module _ {n floor : ℕ} {a b : List ℕ} {m : List Float} {us vs : List ℕ} {k
 
   -- ---- of an enumeration that stores each correlation
 
-  pub stored-lists : (caller : Caller) (betas : ℕ) (factors : List Float) (free free′ wanted wanted′ stored work r : ℕ) → free ≡ free′ → (free ≤ 24 → wanted ≡ wanted′)
-      → r ≡ enumerationLists caller n w k us vs betas factors free 24 (misfits wanted stored stored) work
-      → r ≡ enumerationLists caller n (windowFrom floor a b m) (length (kept a b m)) us vs betas factors free′ 24 (not (eqb stored wanted′)) work
-  stored-lists caller betas factors free free′ wanted wanted′ stored work r e h q =
-      all-lists caller betas factors free free′ 24 (not (eqb stored wanted′)) work r e (q ∙ go (decLt 24 free))
+  pub stored-lists : (caller : Caller) (A B : Arrangement) → A ≡ B → (betas : ℕ) (factors : List Float) (free free′ wanted wanted′ stored work r : ℕ) → free ≡ free′ → (free ≤ 24 → wanted ≡ wanted′)
+      → r ≡ enumerationLists caller A n w k us vs betas factors free 24 (misfits wanted stored stored) work
+      → r ≡ enumerationLists caller B n (windowFrom floor a b m) (length (kept a b m)) us vs betas factors free′ 24 (not (eqb stored wanted′)) work
+  stored-lists caller A B eA betas factors free free′ wanted wanted′ stored work r e h q =
+      all-lists caller A B eA betas factors free free′ 24 (not (eqb stored wanted′)) work r e (q ∙ go (decLt 24 free))
     where
-      go : Dec (24 < free) → enumerationLists caller n w k us vs betas factors free 24 (misfits wanted stored stored) work
-          ≡ enumerationLists caller n w k us vs betas factors free 24 (not (eqb stored wanted′)) work
+      go : Dec (24 < free) → enumerationLists caller A n w k us vs betas factors free 24 (misfits wanted stored stored) work
+          ≡ enumerationLists caller A n w k us vs betas factors free 24 (not (eqb stored wanted′)) work
       go (yes l) = rw (lt-ltb 24 free l)
       go (no l) =
-          ap (λ (t : Bool). enumerationLists caller n w k us vs betas factors free 24 t work)
+          ap (λ (t : Bool). enumerationLists caller A n w k us vs betas factors free 24 t work)
           (misfits-alone wanted stored ∙ ap (λ (j : ℕ). not (eqb stored j)) (h (omega arith)))
 
   -- ---- of a sampling
 
-  pub drawn-lists : (betas : ℕ) (factors : List Float) (from to samples : ℕ) (misfit : Bool) (work r : ℕ)
-      → r ≡ samplingLists n w k us vs betas factors from to samples misfit work
-      → r ≡ samplingLists n (windowFrom floor a b m) (length (kept a b m)) us vs betas factors from to samples misfit work
-  drawn-lists betas factors from to samples misfit work r h = rw (g .window, g .written .edges) at h
+  pub drawn-lists : (A B : Arrangement) → A ≡ B → (betas : ℕ) (factors : List Float) (from to samples : ℕ) (misfit : Bool) (work r : ℕ)
+      → r ≡ samplingLists A n w k us vs betas factors from to samples misfit work
+      → r ≡ samplingLists B n (windowFrom floor a b m) (length (kept a b m)) us vs betas factors from to samples misfit work
+  drawn-lists A B eA betas factors from to samples misfit work r h = rw (eA, g .window, g .written .edges) at h
 
-  pub drawn-passed : (betas : ℕ) (factors : List Float) (from to samples : ℕ) (misfit : Bool) (work r : ℕ) → betas ≤ 64
-      → r ≡ samplingLists n w k us vs betas factors from to samples misfit work → r ≡ 0
-      → Passed n w (take k early′) (take k late′) us vs (length factors) betas work × (misfit ≡ false) × ((to - from) * samples ≤ 4294967296)
-  drawn-passed betas factors from to samples misfit work r few h z =
+  pub drawn-passed : (A : Arrangement) (betas : ℕ) (factors : List Float) (from to samples : ℕ) (misfit : Bool) (work r : ℕ) → betas ≤ 64
+      → r ≡ samplingLists A n w k us vs betas factors from to samples misfit work → r ≡ 0
+      → Passed A n w (take k early′) (take k late′) us vs (length factors) betas work × (misfit ≡ false) × ((to - from) * samples ≤ 4294967296)
+  drawn-passed A betas factors from to samples misfit work r few h z =
       let t10 = unless (badFactorList factors (signedFactors betas k)) {k = 10} (omega arith) (sym h ∙ z) in
       let t11 = unless (tooManyChunks from to samples) {k = 11} (omega arith) (t10 .1) in
-      let p = passed-lists factors betas misfit work few (t10 .0) (t11 .1) in
+      let p = passed-lists A factors betas misfit work few (t10 .0) (t11 .1) in
       (p .0, p .1, few-samples from to samples (t11 .0))
 
   -- ---- what is finished
 
-  module _ (betas : ℕ) (factors : List Float) {sound : Bool} {work work′ : List Float} {manner manner′ : Job.Manner} (e : manner ≡ manner′) where
+  module _ (betas : ℕ) (factors : List Float) {sound : Bool} {work work′ : List Float} {manner manner′ : Job.Manner} (e : manner ≡ manner′)
+      {A B : Arrangement} (eA : A ≡ B) where
     pub totals-kept : (c : Chunks) {squares fourths : List Float}
-        → TotalsAre n w (take k early′) (take k late′) factors manner us vs betas c (length (take k early′)) sound squares fourths work work′
-        → TotalsAre n (windowFrom floor a b m) (keptEarly a b m) (keptLate a b m) factors manner′ us vs betas c (length (kept a b m)) sound
+        → TotalsAre n w (take k early′) (take k late′) factors manner us vs betas c A (length (take k early′)) sound squares fourths work work′
+        → TotalsAre n (windowFrom floor a b m) (keptEarly a b m) (keptLate a b m) factors manner′ us vs betas c B (length (kept a b m)) sound
         squares fourths work work′
-    totals-kept c {squares} {fourths} =
-        to-kept (λ E L v x edges. TotalsAre n v E L factors x us vs betas c edges sound squares fourths work work′) manner manner′ e
+    totals-kept c {squares} {fourths} h =
+        rw (← eA) (to-kept (λ E L v x edges. TotalsAre n v E L factors x us vs betas c A edges sound squares fourths work work′) manner manner′ e h)
 
     pub stored-kept : {count : ℕ} {stored : List Float}
-        → StoredAre n w (take k early′) (take k late′) factors manner us vs betas count (length (take k early′)) sound stored work work′
-        → StoredAre n (windowFrom floor a b m) (keptEarly a b m) (keptLate a b m) factors manner′ us vs betas count (length (kept a b m)) sound
+        → StoredAre n w (take k early′) (take k late′) factors manner us vs betas count A (length (take k early′)) sound stored work work′
+        → StoredAre n (windowFrom floor a b m) (keptEarly a b m) (keptLate a b m) factors manner′ us vs betas count B (length (kept a b m)) sound
         stored work work′
-    stored-kept {count} {stored} =
-        to-kept (λ E L v x edges. StoredAre n v E L factors x us vs betas count edges sound stored work work′) manner manner′ e
+    stored-kept {count} {stored} h =
+        rw (← eA) (to-kept (λ E L v x edges. StoredAre n v E L factors x us vs betas count A edges sound stored work work′) manner manner′ e h)
 
 -- ---- chunks
 
@@ -186,23 +187,23 @@ drawn-numbered seed from to samples early late bits l = record { long = l; given
     no z = let z′ : _≡_ {A = ℕ} 0 1 = cc in omega arith
 
 -- the chunks of all configurations are all of them
-module _ (n w : ℕ) (early late : List ℕ) (factors : List Float) (manner : Job.Manner) (us vs : List ℕ) (betas edges : ℕ) {sound : Bool}
+module _ (n w : ℕ) (early late : List ℕ) (factors : List Float) (manner : Job.Manner) (us vs : List ℕ) (betas : ℕ) (A : Arrangement) (edges : ℕ) {sound : Bool}
     {squares fourths work work′ : List Float} where
   pub all-are : (free : ℕ) → free ≡ freeCount early late → (k : Chunks) → k ≡ allChunks free
-      → TotalsAre n w early late factors manner us vs betas k edges sound squares fourths work work′
+      → TotalsAre n w early late factors manner us vs betas k A edges sound squares fourths work work′
       → Finished (unsoundEnumeration n w early late factors manner us vs betas) (enumeratedTotals n w early late factors manner us vs betas (square ieee))
-      (enumeratedTotals n w early late factors manner us vs betas (fourth ieee)) (betas * length us) (room n w edges us vs) sound squares fourths work work′
+      (enumeratedTotals n w early late factors manner us vs betas (fourth ieee)) (betas * length us) (room A n w edges us vs) sound squares fourths work work′
   all-are free e k c g =
       let J = jobEnumerated n w early late factors manner in
       let F = freeCount early late in
-      let h = subst (λ (x : Chunks). TotalsAre n w early late factors manner us vs betas x edges sound squares fourths work work′) (c ∙ ap allChunks e) g in
+      let h = subst (λ (x : Chunks). TotalsAre n w early late factors manner us vs betas x A edges sound squares fourths work work′) (c ∙ ap allChunks e) g in
       let sums = all-totals (λ x. correlationAt (J x) us vs) F (betas * length us) in
       subst (λ (x : Bool). Finished x (enumeratedTotals n w early late factors manner us vs betas (square ieee))
-      (enumeratedTotals n w early late factors manner us vs betas (fourth ieee)) (betas * length us) (room n w edges us vs) sound squares fourths work work′)
+      (enumeratedTotals n w early late factors manner us vs betas (fourth ieee)) (betas * length us) (room A n w edges us vs) sound squares fourths work work′)
       (all-unsound J us vs betas F)
       (subst (λ (l : List Float). Finished (unsoundIn n w early late factors manner us vs betas (allChunks F)) l
-      (enumeratedTotals n w early late factors manner us vs betas (fourth ieee)) (betas * length us) (room n w edges us vs) sound squares fourths work work′)
+      (enumeratedTotals n w early late factors manner us vs betas (fourth ieee)) (betas * length us) (room A n w edges us vs) sound squares fourths work work′)
       (sums (square ieee))
       (subst (λ (l : List Float). Finished (unsoundIn n w early late factors manner us vs betas (allChunks F))
-      (totalsIn n w early late factors manner us vs betas (allChunks F) (square ieee)) l (betas * length us) (room n w edges us vs) sound squares fourths work work′)
+      (totalsIn n w early late factors manner us vs betas (allChunks F) (square ieee)) l (betas * length us) (room A n w edges us vs) sound squares fourths work work′)
       (sums (fourth ieee)) h))

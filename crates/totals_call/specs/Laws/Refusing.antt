@@ -9,6 +9,7 @@ use Rattle.refusals.specs.Refusal.{checks, refusal, ofJob, ofEnumerationLists, 
 use Rattle.refusals.specs.Laws.Later.{orElse, is-among}
 use Rattle.refusals.specs.AcceptedTotals.{enumerationLists, samplingLists}
 use Rattle.refusals.specs.Laws.AcceptedTotals.{enumeration-in-parts, sampling-in-parts}
+use Rattle.plan_layout.specs.Arrangements.{arrangementOf}
 use Rattle.entry_correlations.specs.Laws.Settling.{not-14}
 use Rattle.totals_call.specs.Given.{Given, free, window}
 use Rattle.totals_call.specs.Calls.{unsoundAll, unsoundDrawn, refusedAll, refusedDrawn}
@@ -34,20 +35,20 @@ module _ (g : Given) where
     -- all configurations, of so many free edges at most
     abbrev pub listsOfAll : (most : ℕ) → ℕ
     listsOfAll most =
-        enumerationLists (g .caller) (g .n) (window g) (length (kept (g .a) (g .b) (g .m))) (g .us) (g .vs) (length (g .betas)) (g .factors) (free g) most misfit work
+        enumerationLists (g .caller) (arrangementOf (g .arrangement)) (g .n) (window g) (length (kept (g .a) (g .b) (g .m))) (g .us) (g .vs) (length (g .betas)) (g .factors) (free g) most misfit work
 
     pub all-not-14 : (most : ℕ) → listsOfAll most ≡ 14 → ⊥
     all-not-14 most =
         not-14 ofEnumerationLists (listsOfAll most) refl
         (is-among ofEnumerationLists
-        (enumerationRequest (g .caller) (g .n) (g .floor) (g .a) (g .b) (g .m) (g .us) (g .vs) (g .betas) (g .factors) (free g) most misfit work false) checks)
+        (enumerationRequest (g .caller) (arrangementOf (g .arrangement)) (g .n) (g .floor) (g .a) (g .b) (g .m) (g .us) (g .vs) (g .betas) (g .factors) (free g) most misfit work false) checks)
 
     abbrev pub allParts : (most : ℕ) → Parts (refusedAll g most misfit work)
     allParts most = record {
       early = refusedEarly;
       lists = listsOfAll most;
       bad = unsoundAll g;
-      whole = enumeration-in-parts (g .caller) (g .n) (g .floor) (g .a) (g .b) (g .m) (g .us) (g .vs) (g .betas) (g .factors) (free g) most misfit work (unsoundAll g);
+      whole = enumeration-in-parts (g .caller) (arrangementOf (g .arrangement)) (g .n) (g .floor) (g .a) (g .b) (g .m) (g .us) (g .vs) (g .betas) (g .factors) (free g) most misfit work (unsoundAll g);
       early-other = early-not-14;
       lists-other = all-not-14 most;
     }
@@ -56,20 +57,20 @@ module _ (g : Given) where
     module _ (seed from to samples : ℕ) where
       abbrev pub listsOfDrawn : ℕ
       listsOfDrawn =
-          samplingLists (g .n) (window g) (length (kept (g .a) (g .b) (g .m))) (g .us) (g .vs) (length (g .betas)) (g .factors) from to samples misfit work
+          samplingLists (arrangementOf (g .arrangement)) (g .n) (window g) (length (kept (g .a) (g .b) (g .m))) (g .us) (g .vs) (length (g .betas)) (g .factors) from to samples misfit work
 
       pub drawn-not-14 : listsOfDrawn ≡ 14 → ⊥
       drawn-not-14 =
           not-14 ofSamplingLists listsOfDrawn refl
           (is-among ofSamplingLists
-          (samplingRequest (g .caller) (g .n) (g .floor) (g .a) (g .b) (g .m) (g .us) (g .vs) (g .betas) (g .factors) (free g) from to samples misfit work false) checks)
+          (samplingRequest (g .caller) (arrangementOf (g .arrangement)) (g .n) (g .floor) (g .a) (g .b) (g .m) (g .us) (g .vs) (g .betas) (g .factors) (free g) from to samples misfit work false) checks)
 
       abbrev pub drawnParts : Parts (refusedDrawn g seed from to samples misfit work)
       drawnParts = record {
         early = refusedEarly;
         lists = listsOfDrawn;
         bad = unsoundDrawn g seed from to samples;
-        whole = sampling-in-parts (g .caller) (g .n) (g .floor) (g .a) (g .b) (g .m) (g .us) (g .vs) (g .betas) (g .factors) (free g) from to samples misfit work
+        whole = sampling-in-parts (g .caller) (arrangementOf (g .arrangement)) (g .n) (g .floor) (g .a) (g .b) (g .m) (g .us) (g .vs) (g .betas) (g .factors) (free g) from to samples misfit work
             (unsoundDrawn g seed from to samples);
         early-other = early-not-14;
         lists-other = drawn-not-14;

@@ -13,6 +13,7 @@ use Rattle.edge_bits.specs.Having.{hasBit}
 use Rattle.forest.specs.FreeEdges.{freeCount, bitOf, bitsOf}
 use Rattle.forest.specs.Laws.FreeEdges.{bits-long, bits-at, bit-below}
 use Rattle.transfer_matrix.specs.Job.{Edge}
+use Rattle.transfer_matrix.specs.Room.{Arrangement}
 use Rattle.transfer_matrix.specs.Configuration.{enumeratedMinus, sampledMinus, lentAt, edgesWith, configured}
 use Rattle.plan_layout.specs.Work.{Planned}
 use Rattle.vertex_step.specs.Ready.{PlanOf}
@@ -54,8 +55,8 @@ module _ (early late bits : List ℕ) (given : bits ≡ bitsOf early late) where
 
 -- ---- the plan
 
-module _ (plan early late us vs : List ℕ) (n w places scales at end : ℕ) (g : Planned plan early late us vs n w places scales at end) (some : 1 ≤ n)
-    (factors : List Float) (elementwise : Bool) (betas : ℕ) where
+module _ (A : Arrangement) (plan early late us vs : List ℕ) (n w places scales at end : ℕ) (g : Planned A plan early late us vs n w places scales at end) (some : 1 ≤ n)
+    (factors : List Float) (elementwise less : Bool) (betas : ℕ) where
   -- the factors in use, by the signs as a list and as a rule
   signed-edges : (b : ℕ) (minus : ℕ → Bool)
       → edgesWith early late (λ e. getD (factorsInUse factors (length early) b (tabulate minus (length early))) e nan) ≡ configured nan early late factors b minus
@@ -68,14 +69,14 @@ module _ (plan early late us vs : List ℕ) (n w places scales at end : ℕ) (g 
 
   -- what every sweep reads
   abbrev shape : JobShape
-  shape = record { n = n; w = w; scales = scales; elementwise = elementwise; betas = betas }
+  shape = record { n = n; w = w; scales = scales; elementwise = elementwise; less = less; betas = betas }
 
   signed-plan : (minus : ℕ → Bool)
       → PlanOfAll (jobSigned n w early late factors (stepping elementwise) minus) plan factors (length early) (tabulate minus (length early)) shape
   signed-plan minus b l =
       let x = factorsInUse factors (length early) b (tabulate minus (length early)) in
       subst (λ (es : List (Edge Float)). PlanOf (record { last = n - 1; window = w; edges = es; manner = stepping elementwise }) plan x n w elementwise)
-      (signed-edges b minus) (plan-of plan early late us vs n w places scales at end g some x elementwise)
+      (signed-edges b minus) (plan-of A plan early late us vs n w places scales at end g some x elementwise)
 
   -- the same with the signs of a list that a rule gives, of so many edges
   listed-plan : (minus : ℕ → Bool) (m : ℕ) (signs : List Bool) → m ≡ length early → signs ≡ tabulate minus (length early)

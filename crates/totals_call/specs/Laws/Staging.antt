@@ -12,10 +12,10 @@ use lib.Seq.{length-take-le}
 use Rattle.list_laws.specs.Search.{some}
 use Rattle.list_laws.specs.Tabulate.{tabulate}
 use Rattle.forest.specs.FreeEdges.{freeCount, bitsOf}
-use Rattle.transfer_matrix.specs.Room.{room}
+use Rattle.transfer_matrix.specs.Room.{Arrangement, arranged, room}
 use Rattle.transfer_matrix.specs.Job.{Job}
 use Rattle.plan_steps.specs.Layout.{Holds}
-use Rattle.plan_layout.specs.Order.{Ordered}
+use Rattle.plan_layout.specs.Order.{InOrder}
 use Rattle.plan_layout.specs.Work.{Planned}
 use Rattle.pair_correlations.specs.Laws.Planning.{ready, serves, end-fits}
 use Rattle.totals_configuration.specs.Powers.{correlationAt, unsoundBetas}
@@ -28,7 +28,7 @@ use Rattle.totals_call.specs.Finished.{Passed, Numbered, Finished, Answe
 use Rattle.totals_call.specs.Laws.Entering.{few-products}
 use Rattle.totals_call.specs.Laws.Signing.{as-long, few-bits}
 
-module _ {n w : ℕ} {early late us vs : List ℕ} {factors betas work : ℕ} (p : Passed n w early late us vs factors betas work) where
+module _ {A : Arrangement} {n w : ℕ} {early late us vs : List ℕ} {factors betas work : ℕ} (p : Passed A n w early late us vs factors betas work) where
   pub enough-factors : (m : ℕ) → m ≡ length early → EnoughFactors factors m betas
   enough-factors m e =
       let l = p .job .few-edges in
@@ -40,35 +40,35 @@ module _ {n w : ℕ} {early late us vs : List ℕ} {factors betas work : ℕ} (p
   pub few-sums : betas * length us ≤ 16384
   few-sums = few-products betas (length us) (p .few-betas) (p .job .few-pairs)
 
-  module _ {plan : List ℕ} {places scales at end : ℕ} (g : Planned plan early late us vs n w places scales at end) where
-    pub staged : (order : List ℕ) (m end′ results : ℕ) (elementwise : Bool) → Holds plan n → Ordered order (length us) → m ≡ length early → end′ ≡ end → results ≡ length us
-        → Stage plan us vs order m (record { n = n; w = w; scales = scales; elementwise = elementwise; betas = betas }) end′ results
-    staged order m end′ results elementwise holds ordered e f r = rw (e, f) (record {
+  module _ {plan : List ℕ} {places scales at end : ℕ} (g : Planned A plan early late us vs n w places scales at end) where
+    pub staged : (order : List ℕ) (m end′ results : ℕ) (elementwise less : Bool) → A ≡ arranged less → Holds plan n → InOrder order us vs w → m ≡ length early → end′ ≡ end → results ≡ length us
+        → Stage plan us vs order m (record { n = n; w = w; scales = scales; elementwise = elementwise; less = less; betas = betas }) end′ results
+    staged order m end′ results elementwise less arrangement holds ordered e f r = rw (e, f) (record {
       some = p .job .some;
-      ready = ready plan early late us vs n w places scales at end work (p .job) g holds;
+      ready = ready A plan early late us vs n w places scales at end work (p .job) g holds;
       ends = omega (arith, g .laid .factors-at, g .laid .ends);
-      served = serves plan early late us vs n w places scales at end work (p .job) g;
+      served = serves A plan early late us vs n w places scales at end work (p .job) g less arrangement;
       ordered = ordered;
       fitting = r;
     })
 
     -- the room lies in the work memory
     pub room-fits : end ≤ work
-    room-fits = end-fits plan early late us vs n w places scales at end work (p .job) g
+    room-fits = end-fits A plan early late us vs n w places scales at end work (p .job) g
 
     -- the room is +0.0, and what lies past it stayed
     pub finished : (bad : Bool) (squared fourthed : List Float) (sums : ℕ) (sound : Bool) (squares fourths memory room′ : List Float) → length memory ≡ work
         → room′ ≡ zeros (length (take end memory)) → Answered bad squared sums sound squares → Answered bad fourthed sums sound fourths
-        → Finished bad squared fourthed sums (room n w (length early) us vs) sound squares fourths memory (room′ ++ drop end memory)
+        → Finished bad squared fourthed sums (room A n w (length early) us vs) sound squares fourths memory (room′ ++ drop end memory)
     finished bad squared fourthed sums sound squares fourths memory room′ long cleared s f =
-        let t = length-take-le end memory (omega (arith, end-fits plan early late us vs n w places scales at end work (p .job) g)) in
-        let z : room′ ≡ zeros (room n w (length early) us vs) = cleared ∙ ap zeros (t ∙ g .ends) in
-        let k : length (zeros (room n w (length early) us vs)) ≡ end = length-replicate _ _ ∙ sym (g .ends) in
+        let t = length-take-le end memory (omega (arith, end-fits A plan early late us vs n w places scales at end work (p .job) g)) in
+        let z : room′ ≡ zeros (room A n w (length early) us vs) = cleared ∙ ap zeros (t ∙ g .ends) in
+        let k : length (zeros (room A n w (length early) us vs)) ≡ end = length-replicate _ _ ∙ sym (g .ends) in
         record {
           squares-are = s;
           fourths-are = f;
           memory = ap (λ (r : List Float). r ++ drop end memory) z
-              ∙ ap (λ (j : ℕ). zeros (room n w (length early) us vs) ++ drop j memory) (sym k);
+              ∙ ap (λ (j : ℕ). zeros (room A n w (length early) us vs) ++ drop j memory) (sym k);
         }
 
 pub enumerates : (early late bits : List ℕ) (signs free : ℕ) → bits ≡ bitsOf early late → signs ≡ length early → free ≡ freeCount early late → free ≤ 34

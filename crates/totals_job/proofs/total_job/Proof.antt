@@ -82,7 +82,7 @@ chunked-totals-requires c κs =
     let f = few-sums (p .0) in
     let e = p .2 in
     let long = p .1 .long in (
-      staged (p .0) (m .ensures) (o .last .0) _ _ _ (s .args .elementwise) holds (o .ensures) long (length-take-le _ (s .args .work .now) (fits (c .before .before .before .before .before .before .before .before .before .before .before .before .before .before .before))) (length-take-le _ _ (omega (arith, k))),
+      staged (p .0) (m .ensures) (o .last .0) _ _ _ (s .args .elementwise) (s .args .less) refl holds (o .ensures) long (length-take-le _ (s .args .work .now) (fits (c .before .before .before .before .before .before .before .before .before .before .before .before .before .before .before))) (length-take-le _ _ (omega (arith, k))),
       enough-factors (p .0) _ long,
       summable (s .args .early .now) (s .args .late .now) (s .args .chunks) (s .args .bits .now) _ (p .1) (length-take-le _ _ (omega (arith, l))),
       record { part-squared = length-take-le _ _ (omega (arith, f, e)) ∙ e; part-fourthed = length-take-le _ _ (omega (arith, f, e)) ∙ e; squared = e; fourthed = p .3 },
@@ -104,7 +104,7 @@ returns c =
     let zero = c .before .before .before .before .before .before .before .before .before .before .clear in
     let x = c .before .before .before .before .before .before .clear-unsound in
     let y = c .before .before .clear-unsound2 in
-    let of = chunked-plan (m .last .0) (a .early .now) (a .late .now) (a .us .now) (a .vs .now) (a .n) (a .w) _ _ _ _ (m .ensures) (p .0 .job .some) (a .factors .now) (a .elementwise) (a .betas) (a .chunks) (a .bits .now) (p .1 .long) (p .1 .given) in
+    let of = chunked-plan _ (m .last .0) (a .early .now) (a .late .now) (a .us .now) (a .vs .now) (a .n) (a .w) _ _ _ _ (m .ensures) (p .0 .job .some) (a .factors .now) (a .elementwise) (a .less) (a .betas) (a .chunks) (a .bits .now) (p .1 .long) (p .1 .given) in
     let said = t .ensures (jobIn (a .n) (a .w) (a .early .now) (a .late .now) (a .factors .now) (stepping (a .elementwise)) (a .chunks)) of in
     finished (p .0) (m .ensures) _ _ _ _ (t .result) _ _ (a .work .now) (zero .last .0) refl (zero .ensures ∙ ap zeros (t .kept .0))
     (cleared-answers _ (t .result) _ (t .last .1 .1 .1 .1 .1 .1 .1 .1 .1 .1 .1 .1 .1 .0) _ _ (said .0) (λ h. said .1 h .squared) (t .kept .1 .1 .1 .1 .1 .1 .1 .1 .1 .1 .1 .1 .1 .0 ∙ p .2) (x .ensures))

@@ -1,4 +1,4 @@
--- Computed facts that rule out wrong readings: where a factor is lent, the room of two pairs, the chunks of a total, and the words of a sample.
+-- Computed facts that rule out wrong readings: where a factor is lent, the rooms of two pairs, the chunks of a total, and the words of a sample.
 use mathlib.Core.Path.{_≡_, refl}
 use mathlib.Core.Bool.{true, false, cond}
 use mathlib.Core.List.{[], _∷_}
@@ -8,7 +8,7 @@ use lib.IntN.{pos, negsuc}
 use lib.Ieee.{Float, fin, binary64, round, add, mul, ofBits}
 use Rattle.rng.specs.Xoshiro.{result, next, streamed}
 use Rattle.list_laws.specs.Bits.{bit}
-use Rattle.transfer_matrix.specs.Room.{room}
+use Rattle.transfer_matrix.specs.Room.{room, keepAll, lessRoom}
 use Rattle.transfer_matrix.specs.Configuration.{lentAt, sampledMinus}
 use Rattle.transfer_matrix.specs.Totals.{chunkSize, chunkCount, chunked, fourth, sampledCount}
 use Rattle.transfer_matrix.specs.Rounded.{ieee}
@@ -18,9 +18,14 @@ pub minus-next-to-plus : (lentAt 4 1 3 false ≡ 14) × (lentAt 4 1 3 true ≡ 1
 minus-next-to-plus = (refl, refl)
 
 -- Four vertices, window 2, three kept edges, pairs 3-0 (propagated) and 0-1 (direct): two vectors move, forward vectors are kept at 0, 1 and 3, backward ones at 1 and 3.
-pub room-of-two-pairs : room 4 2 3 (3 ∷ 0 ∷ []) (0 ∷ 1 ∷ []) ≡ 35
+pub room-of-two-pairs : room keepAll 4 2 3 (3 ∷ 0 ∷ []) (0 ∷ 1 ∷ []) ≡ 35
 unfolding room
 room-of-two-pairs = refl
+
+-- In less room the same job keeps a backward vector at 3 alone.
+pub less-room-of-two-pairs : room lessRoom 4 2 3 (3 ∷ 0 ∷ []) (0 ∷ 1 ∷ []) ≡ 31
+unfolding room
+less-room-of-two-pairs = refl
 
 -- Chunks of 1,024 configurations, or all if fewer.
 pub small-chunk : (chunkSize 3 ≡ 8) × (chunkCount 3 ≡ 1)

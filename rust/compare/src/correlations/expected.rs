@@ -3,7 +3,6 @@
 use super::jobs::{is_large, Job};
 use oracle::glass::{correlations as original, Plan};
 use oracle::lattice::Graph;
-use oracle::rules::lists::room;
 use oracle::rules::refusals::{call_refusal, factor_refusal, first, is_sound, unless};
 use oracle::rules::sweeps::Model;
 
@@ -26,12 +25,12 @@ pub fn outcome(job: &Job, before: &Before) -> Result<Outcome, String> {
     let (e, p) = (&job.edges, &job.pairs);
     let number = first(call_refusal(e, p, &[], job.tester()), || {
         let factors = factor_refusal(&job.factors, e.kept().len());
-        first(factors, || first(unless(job.results == p.us.len(), 12), || unless(before.work.len() >= room(e, p), 13)))
+        first(factors, || first(unless(job.results == p.us.len(), 12), || unless(before.work.len() >= job.room(), 13)))
     });
     if number != 0 {
         return Ok(Outcome { number, results: before.results.clone(), cleared: 0 });
     }
-    let cleared = room(e, p);
+    let cleared = job.room();
     let answers = job.couplings.as_ref().map(|couplings| original_answers(job, couplings));
     if is_large(e) {
         let results = answers.ok_or("a large job is to have couplings")?;

@@ -9,12 +9,13 @@ const MOST_LENT: usize = 1 << 23;
 const MOST_MODELLED: usize = 1 << 20;
 
 /// A job as it is lent. The original takes the couplings, whose exponentials the factors are; where there are none it is not asked.
+#[derive(Clone)]
 pub struct Job {
     pub edges: Edges,
     pub pairs: Pairs,
     pub couplings: Option<Vec<f64>>,
     pub factors: Vec<f64>,
-    /// As the call takes them; [`Job::each`] and [`Job::tester`] are what they say.
+    /// As the call takes them; [`Job::each`], [`Job::less`] and [`Job::tester`] are what they say.
     pub options: usize,
     pub results: usize,
     /// Work memory past the room, or short of it.
@@ -29,6 +30,21 @@ impl Job {
     /// Whether the manner is per element: the options are not odd.
     pub fn each(&self) -> bool {
         self.options & 1 == 0
+    }
+
+    /// Whether the arrangement is that with less room.
+    pub fn less(&self) -> bool {
+        self.options & 2 != 0
+    }
+
+    /// The same job in the other arrangement.
+    pub fn rearranged(&self) -> Job {
+        Job { options: self.options ^ 2, ..self.clone() }
+    }
+
+    /// The room, of a job that passed checks 1 to 8.
+    pub fn room(&self) -> usize {
+        room(&self.edges, &self.pairs, self.less())
     }
 
     /// Whether the call is the tester's.
@@ -53,7 +69,7 @@ pub fn work_length(job: &Job) -> usize {
     if call_refusal(&job.edges, &job.pairs, &[], job.tester()) != 0 {
         return job.spare.unsigned_abs();
     }
-    let room = room(&job.edges, &job.pairs);
+    let room = job.room();
     // what can be neither lent nor followed is lent too few
     if room > MOST_LENT && !job.wide || is_large(&job.edges) && (!job.gentle || job.couplings.is_none()) {
         return 1000;

@@ -24,7 +24,7 @@ impl Lent<'_> {
     pub fn room(&self, room: &mut usize) -> usize {
         let [a, b, us, vs] = self.numbers.each_ref().map(|list| (list.pointer(), list.len()));
         let (e, m) = (&self.job.edges, (self.m.pointer(), self.m.len()));
-        unsafe { sys::copperhook_room(e.n, e.floor, a.0, a.1, b.0, b.1, m.0, m.1, us.0, us.1, vs.0, vs.1, room) }
+        unsafe { sys::copperhook_room(e.n, e.floor, a.0, a.1, b.0, b.1, m.0, m.1, us.0, us.1, vs.0, vs.1, self.job.options, room) }
     }
 
     #[rustfmt::skip]

@@ -5,6 +5,7 @@ use oracle::rules::lists::{room, Edges, Pairs};
 use oracle::rules::totals::Totals;
 
 /// A call as it is lent.
+#[derive(Clone)]
 pub struct Call {
     pub entry: Entry,
     pub edges: Edges,
@@ -13,7 +14,7 @@ pub struct Call {
     pub factors: Vec<f64>,
     /// Whether the factors are the exponentials of the couplings, as the original takes them.
     pub exponentials: bool,
-    /// As the call takes them; [`Call::each`] and [`Call::tester`] are what they say.
+    /// As the call takes them; [`Call::each`], [`Call::less`] and [`Call::tester`] are what they say.
     pub options: usize,
     /// Which samples, of a sampled call.
     pub by: Drawn,
@@ -33,6 +34,21 @@ impl Call {
     /// Whether the manner is per element: the options are not odd.
     pub fn each(&self) -> bool {
         self.options & 1 == 0
+    }
+
+    /// Whether the arrangement is that with less room.
+    pub fn less(&self) -> bool {
+        self.options & 2 != 0
+    }
+
+    /// The same call in the other arrangement.
+    pub fn rearranged(&self) -> Call {
+        Call { options: self.options ^ 2, ..self.clone() }
+    }
+
+    /// The room, of a call that passed checks 1 to 8.
+    pub fn room(&self) -> usize {
+        room(&self.edges, &self.pairs, self.less())
     }
 
     /// Whether the call is the tester's.
@@ -99,7 +115,7 @@ impl Call {
         }
         let misfit = |(length, &more): (usize, &isize)| length.saturating_add_signed(more).min(MOST_LENT);
         let lists = self.wanted().into_iter().zip(&self.misfits).map(misfit).collect();
-        let room = room(&self.edges, &self.pairs);
+        let room = self.room();
         let work = if room > MOST_LENT || !self.is_followed() { 1000.min(room - 1) } else { room.saturating_add_signed(self.spare) };
         (lists, work)
     }

@@ -5,7 +5,6 @@ use crate::guarded::{equal, Guarded};
 use oracle::glass::{exhaustive, exhaustive_c, sample, Plan};
 use oracle::lattice::Graph;
 use oracle::rules::configurations::Entry;
-use oracle::rules::lists::room;
 use oracle::rules::refusals::{first, unless};
 
 /// What the result lists and the work memory hold before a call.
@@ -31,12 +30,12 @@ pub fn outcome(call: &Call, before: &Before) -> Result<Outcome, String> {
     let lengths: Vec<usize> = before.lists.iter().map(|list| list.len()).collect();
     let number = first(call.by_rules().refusal(), || {
         let fits = unless(call.wanted() == lengths, 12);
-        first(fits, || unless(before.work.len() >= room(&call.edges, &call.pairs), 13))
+        first(fits, || unless(before.work.len() >= call.room(), 13))
     });
     if number != 0 {
         return Ok(Outcome { number, count: COUNT_BEFORE, lists: before.lists.clone(), cleared: 0 });
     }
-    let (count, cleared) = (call.configurations(), room(&call.edges, &call.pairs));
+    let (count, cleared) = (call.configurations(), call.room());
     if count == 0 || call.sums() == 0 {
         return Ok(Outcome { number, count, lists: lengths.iter().map(|&length| vec![0.0; length]).collect(), cleared });
     }

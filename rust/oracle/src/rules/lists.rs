@@ -132,13 +132,30 @@ impl Pairs {
     }
 }
 
-/// Returns the room of a job that passed checks 1 to 8, in doubles: 2^window times (2 + kept forward vectors + later vertices) + vertices +
-/// kept edges.
-pub fn room(edges: &Edges, pairs: &Pairs) -> usize {
+/// Returns the room of a job that passed checks 1 to 8, in doubles: 2^window times (2 + kept forward vectors + kept backward vectors) +
+/// vertices + kept edges. Later vertices keep a backward vector; with less room those of propagated pairs alone.
+pub fn room(edges: &Edges, pairs: &Pairs, less: bool) -> usize {
     let window = edges.window();
     let ordered: Vec<(usize, usize)> = pairs.raw().into_iter().map(|(u, v)| (u.min(v), u.max(v))).collect();
-    let later: HashSet<usize> = ordered.iter().map(|p| p.1).collect();
-    let earlier = ordered.iter().filter(|(u, v)| v - u >= window).map(|p| p.0);
-    let forward: HashSet<usize> = later.iter().copied().chain(earlier).collect();
-    (2 + forward.len() + later.len()) * (1 << window) + edges.n + edges.kept().len()
+    let propagated: Vec<(usize, usize)> = ordered.iter().copied().filter(|(u, v)| v - u >= window).collect();
+    let later = |pairs: &[(usize, usize)]| -> HashSet<usize> { pairs.iter().map(|p| p.1).collect() };
+    let forward: HashSet<usize> = later(&ordered).into_iter().chain(propagated.iter().map(|p| p.0)).collect();
+    let backward = later(if less { &propagated } else { &ordered });
+    (2 + forward.len() + backward.len()) * (1 << window) + edges.n + edges.kept().len()
+}
+
+#[cfg(test)]
+mod tests {
+    use super::*;
+
+    #[test]
+    fn rooms_by_hand() {
+        let rooms = |floor: usize, pairs: &[(usize, usize)]| {
+            let edges = Edges { floor, ..Edges::new(4, &[(1, 0, 0.5), (2, 3, 0.0)]) };
+            [false, true].map(|less| room(&edges, &Pairs::new(pairs), less))
+        };
+        assert_eq!((rooms(2, &[(0, 1)]), rooms(1, &[(0, 1)])), ([4 * 4 + 5, 4 * 3 + 5], [2 * 5 + 5; 2]));
+        // 0-2 is propagated; of 3-2 and 1-2 the later vertices are 3 and 2
+        assert_eq!(rooms(2, &[(0, 2), (3, 2), (1, 2)]), [4 * 7 + 5, 4 * 6 + 5]);
+    }
 }

@@ -20,7 +20,7 @@ same-length-2 c = search needs
 returns : tie.Need-returns
 returns c =
     let asked = c .before .before .before .before .before .before .before .options-numbered .ensures in
-    rw (← (ap (λ (o : Options). o .manner) asked), ← (ap (λ (o : Options). o .caller) asked)) (c .before .before .before .before .correlations .ensures)
+    rw (← (ap (λ (o : Options). o .manner) asked), ← (ap (λ (o : Options). o .arrangement) asked), ← (ap (λ (o : Options). o .caller) asked)) (c .before .before .before .before .correlations .ensures)
 
 pub copperhook-correlations-spec : {M : Type 1} → statement M
 copperhook-correlations-spec =

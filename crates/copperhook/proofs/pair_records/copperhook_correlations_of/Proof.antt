@@ -211,7 +211,7 @@ module _ {M : Type 1} (𝓤 : URA M) (H : Heap 𝓤) (A : Atoms 𝓤) (W : Given
       frame ! $ move ! (1 ∷ 0 ∷ []) $ frame ! $ done !
 
   abbrev Answered : ℕ → List ℕ → List ℕ → List Float → List Float → Type 0
-  Answered r us vs results′ work′ = Correlated n floor (now a) (now b) (now m) us vs (now factors) (optionsNumbered options .manner) (optionsNumbered options .caller) r (now results) results′
+  Answered r us vs results′ work′ = Correlated n floor (now a) (now b) (now m) us vs (now factors) (optionsNumbered options .manner) (optionsNumbered options .arrangement) (optionsNumbered options .caller) r (now results) results′
       (now work) work′
 
   abbrev Whole : ℕ → List Float → List Float → Type 0
@@ -315,7 +315,7 @@ module _ {M : Type 1} (𝓤 : URA M) (H : Heap 𝓤) (A : Atoms 𝓤) (W : Given
         move ! (12 ∷ 13 ∷ []) $ free1 ! $ move ! (10 ∷ 11 ∷ []) $ free1 ! $ move ! (8 ∷ 9 ∷ []) $ free1 ! $ move ! (6 ∷ 7 ∷ []) $ free1 ! $ free0 ! $
         keep ! (0 ∷ 1 ∷ 2 ∷ 4 ∷ 5 ∷ []) $
         by ! (exits r w (zs .1 .1 .1 .1 .1 .1 .1 .1 .0) (zs .1 .1 .1 .1 .1 .1 .1 .1 .1 .0)
-        (answered n floor (now a) (now b) (now m) (now factors) (optionsNumbered options .manner) (optionsNumbered options .caller) r (now results) _ (now work) _
+        (answered n floor (now a) (now b) (now m) (now factors) (optionsNumbered options .manner) (optionsNumbered options .arrangement) (optionsNumbered options .caller) r (now results) _ (now work) _
         (now pairs) e g d) lr lw))))))))))))))))))))))))))))
 
 module _ {M : Type 1} (𝓤 : URA M) (H : Heap 𝓤) (A : Atoms 𝓤) (W : Given 𝓤 H A) (mem : Memory → SProp 𝓤) (run : Routine → Fun 𝓤) (𝓣 : Tables 𝓤 H)

@@ -11,7 +11,7 @@ tell-number-requires : tie.Need-tell-number-requires
 tell-number-requires c κs = search needs
 
 returns : tie.Need-returns
-returns c = told _ _ (c .before .before .room .ensures) (c .tell-number .ensures)
+returns c = rw (← (c .before .before .before .arrangement-in .ensures)) (told _ _ (c .before .before .room .ensures) (c .tell-number .ensures))
 
 pub copperhook-room-spec : {M : Type 1} → statement M
-copperhook-room-spec = tie.close (tie.spec room-requires tell-number-requires returns)
+copperhook-room-spec = tie.close (tie.spec (λ c κs. search needs) room-requires tell-number-requires returns)

@@ -8,63 +8,65 @@ use Rattle.entry_correlations.proofs.entry.correlations.Statement.{stat
 use Rattle.entry_correlations.proofs.entry.correlations.Tie as tie
 
 returns : tie.Need-returns
-returns c = refused-early _ _ _ _ _ _ _ _ _ _ _ _ _ (c .before .before .before .before .check-job .ensures .refusal) (λ z. omega arith)
+returns c = refused-early _ _ _ _ _ _ _ _ _ _ _ _ _ _ (c .before .before .before .before .check-job .ensures .refusal) (λ z. omega arith)
 
 check-lists-requires : tie.Need-check-lists-requires
 check-lists-requires c κs =
-    let j = c .before .before .before .before .check-job in
+    let j = c .before .before .before .before .before .check-job in
     let g = j .ensures .ready (omega arith) in
     (g .pairs, g .edges .few, g .edges .narrow, g .few-edges)
 
 returns-2 : tie.Need-returns-2
 returns-2 c =
-    let j = c .before .before .before .before .before .before .check-job in
-    let a = c .before .before .before .before .before .before .before .before .before .before .before .before .before .before .before .before .before .before .args in
+    let j = c .before .before .before .before .before .before .before .check-job in
+    let a = c .before .before .before .before .before .before .before .before .before .before .before .before .before .before .before .before .before .before .before .args in
     let g = j .ensures .ready (omega arith) in
-    refused-lists _ _ _ _ _ _ _ _ _ _ _ _ _ (omega (arith, j .ensures .refusal))
-    (c .before .check-lists .ensures ∙ lists-of g (a .factors .now) (length (a .results .now)) (length (a .work .now))) (λ z. omega arith)
+    refused-lists _ _ _ _ _ _ _ _ _ _ _ _ _ _ (omega (arith, j .ensures .refusal))
+    (c .before .check-lists .ensures ∙ lists-of g _ _ (c .before .before .takes-less .ensures) (a .factors .now) (length (a .results .now)) (length (a .work .now))) (λ z. omega arith)
 
 array-share-prefix-early : tie.Need-array-share-prefix-early
-array-share-prefix-early c = early-fits (c .before .before .before .before .before .before .before .check-job .ensures .ready (omega arith) .written)
+array-share-prefix-early c = early-fits (c .before .before .before .before .before .before .before .before .check-job .ensures .ready (omega arith) .written)
 
 slice-aggregate-answer-job : tie.Need-slice-aggregate-answer-job
-slice-aggregate-answer-job c = early-part (c .before .before .before .before .before .before .before .before .check-job .ensures .ready (omega arith) .written)
+slice-aggregate-answer-job c = early-part (c .before .before .before .before .before .before .before .before .before .check-job .ensures .ready (omega arith) .written)
 
 array-share-prefix-late : tie.Need-array-share-prefix-late
-array-share-prefix-late c = late-fits (c .before .before .before .before .before .before .before .before .check-job .ensures .ready (omega arith) .written)
+array-share-prefix-late c = late-fits (c .before .before .before .before .before .before .before .before .before .check-job .ensures .ready (omega arith) .written)
 
 slice-aggregate-answer-job-2 : tie.Need-slice-aggregate-answer-job-2
-slice-aggregate-answer-job-2 c = late-part (c .before .before .before .before .before .before .before .before .before .check-job .ensures .ready (omega arith) .written)
+slice-aggregate-answer-job-2 c = late-part (c .before .before .before .before .before .before .before .before .before .before .check-job .ensures .ready (omega arith) .written)
 
 answer-job-requires : tie.Need-answer-job-requires
-answer-job-requires c κs = passed-of (c .before .before .before .before .before .before .before .before .before .before .before .check-job .ensures .ready (omega arith)) _ _ _ (sym (c .before .before .before .before .before .before .check-lists .ensures) ∙ omega arith)
+answer-job-requires c κs = passed-of (c .before .before .before .before .before .before .before .before .before .before .before .before .check-job .ensures .ready (omega arith)) _ _ _ _ (sym (c .before .before .before .before .before .before .check-lists .ensures) ∙ omega arith)
 
 returns-3 : tie.Need-returns-3
 returns-3 c =
-    let a = c .before .before .before .before .before .before .before .before .before .before .before .before .before .before .before .before .before .before .before .before .before .before .before .before .before .before .before .before .before .args in
-    let j = c .before .before .before .before .before .before .before .before .before .before .before .before .before .before .before .before .before .check-job in
-    let g = j .ensures .ready (omega arith) in
+    let a = c .before .before .before .before .before .before .before .before .before .before .before .before .before .before .before .before .before .before .before .before .before .before .before .before .before .before .before .before .before .before .args in
+    let j = c .before .before .before .before .before .before .before .before .before .before .before .before .before .before .before .before .before .before .check-job in
+    let passed : j .result .refusal ≡ 0 = omega arith in
+    let g = j .ensures .ready passed in
     let none : c .before .before .before .before .before .before .before .before .before .before .before .before .check-lists .result ≡ 0 = omega arith in
     let z = sym (c .before .before .before .before .before .before .before .before .before .before .before .before .check-lists .ensures) ∙ none in
-    let l = sym z ∙ lists-of g (a .factors .now) (length (a .results .now)) (length (a .work .now)) in
-    let f = finished-of g (a .factors .now) (a .manner) (c .before .before .before .before .before .before .before .before .before .before .is-elementwise .result) _ _ _ _ (c .before .before .before .before .before .before .before .before .before .before .is-elementwise .ensures) (c .before .before .before .before .before .answer-job .ensures) in
-    accepted _ _ _ _ _ _ _ _ _ _ (a .results .now) _ (omega (arith, j .ensures .refusal)) l _ _ (passed-of g (a .factors .now) (length (a .results .now)) (length (a .work .now)) z .fitting) (rw (c .if3 .taken) at f)
+    let l = sym z ∙ lists-of g _ _ (c .before .before .before .before .before .before .before .before .before .before .before .before .before .takes-less .ensures) (a .factors .now) (length (a .results .now)) (length (a .work .now)) in
+    let f = finished-of g _ _ (c .before .before .before .before .before .before .before .before .before .before .before .before .before .takes-less .ensures) (a .factors .now) (a .manner) (c .before .before .before .before .before .before .before .before .before .before .is-elementwise .result) _ _ _ _ (c .before .before .before .before .before .before .before .before .before .before .is-elementwise .ensures) (c .before .before .before .before .before .answer-job .ensures) in
+    accepted _ _ _ _ _ _ _ _ _ (a .arrangement) (a .caller) (a .results .now) (a .work .now) (sym passed ∙ j .ensures .refusal) l _ _ (passed-of g _ (a .factors .now) (length (a .results .now)) (length (a .work .now)) z .fitting) (rw (c .if3 .taken) at f)
 
 returns-4 : tie.Need-returns-4
 returns-4 c =
-    let a = c .before .before .before .before .before .before .before .before .before .before .before .before .before .before .before .before .before .before .before .before .before .before .before .before .before .before .before .before .before .args in
-    let j = c .before .before .before .before .before .before .before .before .before .before .before .before .before .before .before .before .before .check-job in
-    let g = j .ensures .ready (omega arith) in
+    let a = c .before .before .before .before .before .before .before .before .before .before .before .before .before .before .before .before .before .before .before .before .before .before .before .before .before .before .before .before .before .before .args in
+    let j = c .before .before .before .before .before .before .before .before .before .before .before .before .before .before .before .before .before .before .check-job in
+    let passed : j .result .refusal ≡ 0 = omega arith in
+    let g = j .ensures .ready passed in
     let none : c .before .before .before .before .before .before .before .before .before .before .before .before .check-lists .result ≡ 0 = omega arith in
     let z = sym (c .before .before .before .before .before .before .before .before .before .before .before .before .check-lists .ensures) ∙ none in
-    let l = sym z ∙ lists-of g (a .factors .now) (length (a .results .now)) (length (a .work .now)) in
-    let f = finished-of g (a .factors .now) (a .manner) (c .before .before .before .before .before .before .before .before .before .before .is-elementwise .result) _ _ _ _ (c .before .before .before .before .before .before .before .before .before .before .is-elementwise .ensures) (c .before .before .before .before .before .answer-job .ensures) in
-    refused-14 _ _ _ _ _ _ _ _ _ _ (a .results .now) _ (omega (arith, j .ensures .refusal)) l _ _ (passed-of g (a .factors .now) (length (a .results .now)) (length (a .work .now)) z .fitting) (rw (c .if3 .left) at f)
+    let l = sym z ∙ lists-of g _ _ (c .before .before .before .before .before .before .before .before .before .before .before .before .before .takes-less .ensures) (a .factors .now) (length (a .results .now)) (length (a .work .now)) in
+    let f = finished-of g _ _ (c .before .before .before .before .before .before .before .before .before .before .before .before .before .takes-less .ensures) (a .factors .now) (a .manner) (c .before .before .before .before .before .before .before .before .before .before .is-elementwise .result) _ _ _ _ (c .before .before .before .before .before .before .before .before .before .before .is-elementwise .ensures) (c .before .before .before .before .before .answer-job .ensures) in
+    refused-14 _ _ _ _ _ _ _ _ _ (a .arrangement) (a .caller) (a .results .now) (a .work .now) (sym passed ∙ j .ensures .refusal) l _ _ (passed-of g _ (a .factors .now) (length (a .results .now)) (length (a .work .now)) z .fitting) (rw (c .if3 .left) at f)
 
 pub correlations-spec : {M : Type 1} → statement M
 correlations-spec =
     tie.close
     (tie.spec
-    (λ c. search needs) (λ c. search needs) (λ c. search needs) (λ c κs. search needs) returns check-lists-requires returns-2
+    (λ c. search needs) (λ c. search needs) (λ c. search needs) (λ c κs. search needs) returns (λ c κs. search needs) check-lists-requires returns-2
     (λ c κs. search needs) array-share-prefix-early slice-aggregate-answer-job array-share-prefix-late slice-aggregate-answer-job-2
     answer-job-requires (λ c. search needs) (λ c. search needs) returns-3 (λ c. search needs) (λ c. search needs) returns-4)

@@ -7,6 +7,7 @@ use lib.ListN.{length, take}
 use lib.Seq.{length-take-le}
 use Rattle.transfer_matrix.specs.Rounded.{ieee}
 use Rattle.transfer_matrix.specs.Totals.{square, fourth}
+use Rattle.transfer_matrix.specs.Room.{arranged}
 use Rattle.refusals.specs.AcceptedTotals.{misfits}
 use Rattle.refusals.specs.Request.{mostCounted}
 use Rattle.kept_edges.specs.Laws.Fronts.{early-part, late-part, early-fits, late-fits}
@@ -33,6 +34,7 @@ given s = let a = s .args in record {
   betas = a .betas .now;
   factors = a .factors .now;
   manner = a .manner;
+  arrangement = a .arrangement;
   caller = a .caller;
 }
 
@@ -40,7 +42,7 @@ abbrev misfit : tie.Start → Bool
 misfit s = misfits (sums (given s)) (length (s .args .squares .now)) (length (s .args .fourths .now))
 
 -- the free edges of the kept edges were counted
-counted : (c : tie.After-number-free-edges) → c .number-free-edges .result ≡ free (given (c .before .before .before .before .before .before .before .before .before .before .before .before .before .before .before .before .before .before .before .before .before .before))
+counted : (c : tie.After-number-free-edges) → c .number-free-edges .result ≡ free (given (c .before .before .before .before .before .before .before .before .before .before .before .before .before .before .before .before .before .before .before .before .before .before .before))
 counted c = free-kept (c .before .before .before .before .before .before .before .before .check-with-betas .ensures .ready (c .before .before .before .before .if1 .left)) _ (c .number-free-edges .ensures .0)
 
 -- as many bits as kept edges were written
@@ -48,43 +50,45 @@ as-many : (c : tie.After-number-free-edges) → length (c .number-free-edges .la
 as-many c = c .number-free-edges .kept .1 .1 .1 .0 ∙ length-take-le _ _ (c .before .before .before .before .before .before .before .before .check-with-betas .ensures .ready (c .before .before .before .before .if1 .left) .few-edges)
 
 -- the lists were checked
-listed : (c : tie.After-check-enumeration) → c .check-enumeration .result ≡ listsOfAll (given (c .before .before .before .before .before .before .before .before .before .before .before .before .before .before .before .before .before .before .before .before .before .before .before .before)) (misfit (c .before .before .before .before .before .before .before .before .before .before .before .before .before .before .before .before .before .before .before .before .before .before .before .before)) (length (c .before .before .before .before .before .before .before .before .before .before .before .before .before .before .before .before .before .before .before .before .before .before .before .before .args .work .now)) mostCounted
+listed : (c : tie.After-check-enumeration) → c .check-enumeration .result ≡ listsOfAll (given (c .before .before .before .before .before .before .before .before .before .before .before .before .before .before .before .before .before .before .before .before .before .before .before .before .before)) (misfit (c .before .before .before .before .before .before .before .before .before .before .before .before .before .before .before .before .before .before .before .before .before .before .before .before .before)) (length (c .before .before .before .before .before .before .before .before .before .before .before .before .before .before .before .before .before .before .before .before .before .before .before .before .before .args .work .now)) mostCounted
 listed c =
-    let a = c .before .before .before .before .before .before .before .before .before .before .before .before .before .before .before .before .before .before .before .before .before .before .before .before .args in
-    all-lists (c .before .before .before .before .before .before .before .before .before .before .check-with-betas .ensures .ready (c .before .before .before .before .before .before .if1 .left)) (a .caller) (length (a .betas .now)) (a .factors .now) _ _ mostCounted (misfit (c .before .before .before .before .before .before .before .before .before .before .before .before .before .before .before .before .before .before .before .before .before .before .before .before)) (length (a .work .now)) _ (counted (c .before .before)) (c .check-enumeration .ensures)
+    let a = c .before .before .before .before .before .before .before .before .before .before .before .before .before .before .before .before .before .before .before .before .before .before .before .before .before .args in
+    let less = c .before .before .before .before .before .before .before .before .before .before .before .before .before .before .takes-less .ensures in
+    all-lists (c .before .before .before .before .before .before .before .before .before .before .check-with-betas .ensures .ready (c .before .before .before .before .before .before .if1 .left)) (a .caller) _ _ less (length (a .betas .now)) (a .factors .now) _ _ mostCounted (misfit (c .before .before .before .before .before .before .before .before .before .before .before .before .before .before .before .before .before .before .before .before .before .before .before .before .before)) (length (a .work .now)) _ (counted (c .before .before)) (c .check-enumeration .ensures)
 
 -- and none refused
 passed : (c : tie.Else2)
-    → let a = c .before .before .before .before .before .before .before .before .before .before .before .before .before .before .before .before .before .before .before .before .before .before .before .before .before .args in
+    → let a = c .before .before .before .before .before .before .before .before .before .before .before .before .before .before .before .before .before .before .before .before .before .before .before .before .before .before .args in
     let k = c .before .before .before .before .before .before .before .before .before .before .before .check-with-betas in
     let free = c .before .before .before .number-free-edges .result in
-    Passed (a .n) (k .result .window) (take (k .result .edges) (k .last .1 .1 .1 .1 .1 .1 .1 .1 .1 .0)) (take (k .result .edges) (k .last .1 .1 .1 .1 .1 .1 .1 .1 .1 .1 .0)) (a .us .now) (a .vs .now) (length (a .factors .now)) (length (a .betas .now)) (length (a .work .now))
-    × (misfit (c .before .before .before .before .before .before .before .before .before .before .before .before .before .before .before .before .before .before .before .before .before .before .before .before .before) ≡ false) × (free ≤ 34)
+    Passed (arranged (c .before .before .before .before .before .before .before .before .before .before .before .before .before .before .before .takes-less .result)) (a .n) (k .result .window) (take (k .result .edges) (k .last .1 .1 .1 .1 .1 .1 .1 .1 .1 .0)) (take (k .result .edges) (k .last .1 .1 .1 .1 .1 .1 .1 .1 .1 .1 .0)) (a .us .now) (a .vs .now) (length (a .factors .now)) (length (a .betas .now)) (length (a .work .now))
+    × (misfit (c .before .before .before .before .before .before .before .before .before .before .before .before .before .before .before .before .before .before .before .before .before .before .before .before .before .before) ≡ false) × (free ≤ 34)
 passed c =
-    let a = c .before .before .before .before .before .before .before .before .before .before .before .before .before .before .before .before .before .before .before .before .before .before .before .before .before .args in
+    let a = c .before .before .before .before .before .before .before .before .before .before .before .before .before .before .before .before .before .before .before .before .before .before .before .before .before .before .args in
     let k = c .before .before .before .before .before .before .before .before .before .before .before .check-with-betas .ensures in
     let v = c .before .before .before .before .before .before .before .if1 .left in
-    all-passed (k .ready v) (a .caller) (length (a .betas .now)) (a .factors .now) _ mostCounted (misfit (c .before .before .before .before .before .before .before .before .before .before .before .before .before .before .before .before .before .before .before .before .before .before .before .before .before)) (length (a .work .now)) _ (k .betas-pass v .few) (c .before .check-enumeration .ensures) (c .if2 .left)
+    all-passed (k .ready v) (a .caller) _ (length (a .betas .now)) (a .factors .now) _ mostCounted (misfit (c .before .before .before .before .before .before .before .before .before .before .before .before .before .before .before .before .before .before .before .before .before .before .before .before .before .before)) (length (a .work .now)) _ (k .betas-pass v .few) (c .before .check-enumeration .ensures) (c .if2 .left)
 
 fitting : (c : tie.Else2)
-    → (length (c .before .before .before .before .before .before .before .before .before .before .before .before .before .before .before .before .before .before .before .before .before .before .before .before .before .args .squares .now) ≡ sums (given (c .before .before .before .before .before .before .before .before .before .before .before .before .before .before .before .before .before .before .before .before .before .before .before .before .before))) × (length (c .before .before .before .before .before .before .before .before .before .before .before .before .before .before .before .before .before .before .before .before .before .before .before .before .before .args .fourths .now) ≡ sums (given (c .before .before .before .before .before .before .before .before .before .before .before .before .before .before .before .before .before .before .before .before .before .before .before .before .before)))
-fitting c = fits-both (sums (given (c .before .before .before .before .before .before .before .before .before .before .before .before .before .before .before .before .before .before .before .before .before .before .before .before .before))) (length (c .before .before .before .before .before .before .before .before .before .before .before .before .before .before .before .before .before .before .before .before .before .before .before .before .before .args .squares .now)) (length (c .before .before .before .before .before .before .before .before .before .before .before .before .before .before .before .before .before .before .before .before .before .before .before .before .before .args .fourths .now)) (passed c .1)
+    → (length (c .before .before .before .before .before .before .before .before .before .before .before .before .before .before .before .before .before .before .before .before .before .before .before .before .before .before .args .squares .now) ≡ sums (given (c .before .before .before .before .before .before .before .before .before .before .before .before .before .before .before .before .before .before .before .before .before .before .before .before .before .before))) × (length (c .before .before .before .before .before .before .before .before .before .before .before .before .before .before .before .before .before .before .before .before .before .before .before .before .before .before .args .fourths .now) ≡ sums (given (c .before .before .before .before .before .before .before .before .before .before .before .before .before .before .before .before .before .before .before .before .before .before .before .before .before .before)))
+fitting c = fits-both (sums (given (c .before .before .before .before .before .before .before .before .before .before .before .before .before .before .before .before .before .before .before .before .before .before .before .before .before .before))) (length (c .before .before .before .before .before .before .before .before .before .before .before .before .before .before .before .before .before .before .before .before .before .before .before .before .before .before .args .squares .now)) (length (c .before .before .before .before .before .before .before .before .before .before .before .before .before .before .before .before .before .before .before .before .before .before .before .before .before .before .args .fourths .now)) (passed c .1)
 
 -- what was found of all configurations
 found : (c : tie.After-total-job)
-    → let s = c .before .before .before .before .before .before .before .before .before .before .before .before .before .before .before .before .before .before .before .before .before .before .before .before .before .before .before .before .before .before .before .before .before .before in
+    → let s = c .before .before .before .before .before .before .before .before .before .before .before .before .before .before .before .before .before .before .before .before .before .before .before .before .before .before .before .before .before .before .before .before .before .before .before in
     let t = c .total-job in
-    Finished (unsoundAll (given s)) (totalsOfAll (given s) (square ieee)) (totalsOfAll (given s) (fourth ieee)) (sums (given s)) (end (given s)) (t .result) (t .last .1 .1 .1 .1 .1 .1 .1 .1 .1 .1 .1 .0) (t .last .1 .1 .1 .1 .1 .1 .1 .1 .1 .1 .1 .1 .0) (s .args .work .now) (t .last .1 .1 .1 .1 .1 .1 .1 .1 .1 .1 .1 .1 .1 .0)
+    Finished (unsoundAll (given s)) (totalsOfAll (given s) (square ieee)) (totalsOfAll (given s) (fourth ieee)) (sums (given s)) (end (given s)) (t .result) (t .last .1 .1 .1 .1 .1 .1 .1 .1 .1 .1 .1 .1 .0) (t .last .1 .1 .1 .1 .1 .1 .1 .1 .1 .1 .1 .1 .1 .0) (s .args .work .now) (t .last .1 .1 .1 .1 .1 .1 .1 .1 .1 .1 .1 .1 .1 .1 .0)
 found c =
-    let a = c .before .before .before .before .before .before .before .before .before .before .before .before .before .before .before .before .before .before .before .before .before .before .before .before .before .before .before .before .before .before .before .before .before .before .args in
-    let g = given (c .before .before .before .before .before .before .before .before .before .before .before .before .before .before .before .before .before .before .before .before .before .before .before .before .before .before .before .before .before .before .before .before .before .before) in
+    let a = c .before .before .before .before .before .before .before .before .before .before .before .before .before .before .before .before .before .before .before .before .before .before .before .before .before .before .before .before .before .before .before .before .before .before .before .args in
+    let less = c .before .before .before .before .before .before .before .before .before .before .before .before .before .before .before .before .before .before .before .before .before .before .before .before .takes-less .ensures in
+    let g = given (c .before .before .before .before .before .before .before .before .before .before .before .before .before .before .before .before .before .before .before .before .before .before .before .before .before .before .before .before .before .before .before .before .before .before .before) in
     let chunks = c .before .before .before .before .before .before .before .all-chunks in
-    all-are (a .n) (window g) (early g) (late g) (a .factors .now) (mannerOf (a .manner)) (a .us .now) (a .vs .now) (length (a .betas .now)) _ _ (counted (c .before .before .before .before .before .before .before .before .before .before .before .before)) (chunks .result) (chunks .ensures)
-    (totals-kept (c .before .before .before .before .before .before .before .before .before .before .before .before .before .before .before .before .before .before .before .before .check-with-betas .ensures .ready (c .before .before .before .before .before .before .before .before .before .before .before .before .before .before .before .before .if1 .left)) (length (a .betas .now)) (a .factors .now) (c .before .before .before .before .before .before .before .before .is-elementwise .ensures) (chunks .result) (c .total-job .ensures))
+    all-are (a .n) (window g) (early g) (late g) (a .factors .now) (mannerOf (a .manner)) (a .us .now) (a .vs .now) (length (a .betas .now)) _ _ _ (counted (c .before .before .before .before .before .before .before .before .before .before .before .before)) (chunks .result) (chunks .ensures)
+    (totals-kept (c .before .before .before .before .before .before .before .before .before .before .before .before .before .before .before .before .before .before .before .before .check-with-betas .ensures .ready (c .before .before .before .before .before .before .before .before .before .before .before .before .before .before .before .before .if1 .left)) (length (a .betas .now)) (a .factors .now) (c .before .before .before .before .before .before .before .before .is-elementwise .ensures) less (chunks .result) (c .total-job .ensures))
 
 returns : tie.Need-returns
 returns c =
-    let s = c .before .before .before .before .before .before .before .before .before .before .before .before .before .before .before .before .before .before in
+    let s = c .before .before .before .before .before .before .before .before .before .before .before .before .before .before .before .before .before .before .before in
     let k = c .before .before .before .before .check-with-betas in
     record { call = refused-early (allParts (given s) (misfit s) (length (s .args .work .now)) mostCounted) (k .result .refusal) (k .ensures .refusal) (c .if1 .taken) }
 
@@ -122,7 +126,7 @@ check-enumeration-requires c κs =
 
 returns-2 : tie.Need-returns-2
 returns-2 c =
-    let s = c .before .before .before .before .before .before .before .before .before .before .before .before .before .before .before .before .before .before .before .before .before .before .before .before .before in
+    let s = c .before .before .before .before .before .before .before .before .before .before .before .before .before .before .before .before .before .before .before .before .before .before .before .before .before .before in
     record { call = refused-lists (allParts (given s) (misfit s) (length (s .args .work .now)) mostCounted) (c .before .before .before .before .before .before .before .before .before .before .before .check-with-betas .ensures .refusal) (c .before .before .before .before .before .before .before .if1 .left) (c .before .check-enumeration .result) (listed (c .before)) (c .if2 .taken) }
 
 all-chunks-requires : tie.Need-all-chunks-requires
@@ -157,31 +161,31 @@ pow2-requires : tie.Need-pow2-requires
 pow2-requires c κs = omega (arith, passed (c .before .before .before .before .before .before .before .before .before .before .before .before .before .before .before .before) .2)
 
 same-length : tie.Need-same-length
-same-length c = c .before .before .before .before .before .before .before .before .total-job .kept .1 .1 .1 .1 .1 .1 .1 .1 .1 .1 .1 .0
+same-length c = c .before .before .before .before .before .before .before .before .total-job .kept .1 .1 .1 .1 .1 .1 .1 .1 .1 .1 .1 .1 .0
 
 same-length-2 : tie.Need-same-length-2
-same-length-2 c = c .before .before .before .before .before .before .before .before .total-job .kept .1 .1 .1 .1 .1 .1 .1 .1 .1 .1 .1 .1 .0
+same-length-2 c = c .before .before .before .before .before .before .before .before .total-job .kept .1 .1 .1 .1 .1 .1 .1 .1 .1 .1 .1 .1 .1 .0
 
 same-length-3 : tie.Need-same-length-3
-same-length-3 c = c .before .before .before .before .before .before .before .before .total-job .kept .1 .1 .1 .1 .1 .1 .1 .1 .1 .1 .1 .1 .1 .0
+same-length-3 c = c .before .before .before .before .before .before .before .before .total-job .kept .1 .1 .1 .1 .1 .1 .1 .1 .1 .1 .1 .1 .1 .1 .0
 
 returns-3 : tie.Need-returns-3
 returns-3 c =
-    let s = c .before .before .before .before .before .before .before .before .before .before .before .before .before .before .before .before .before .before .before .before .before .before .before .before .before .before .before .before .before .before .before .before .before .before .before .before .before .before .before .before .before .before in
+    let s = c .before .before .before .before .before .before .before .before .before .before .before .before .before .before .before .before .before .before .before .before .before .before .before .before .before .before .before .before .before .before .before .before .before .before .before .before .before .before .before .before .before .before .before in
     record { call = all-added (allParts (given s) (misfit s) (length (s .args .work .now)) mostCounted) (c .before .before .before .before .before .before .before .before .before .before .before .before .before .before .before .before .before .before .before .before .before .before .before .before .before .before .before .before .check-with-betas .ensures .refusal) (c .before .before .before .before .before .before .before .before .before .before .before .before .before .before .before .before .before .before .before .before .before .before .before .before .if1 .left) (listed (c .before .before .before .before .before .before .before .before .before .before .before .before .before .before .before .before .before .before)) (c .before .before .before .before .before .before .before .before .before .before .before .before .before .before .before .before .before .if2 .left) (found (c .before .before .before .before .before .before .before .before)) (c .before .if3 .taken) (c .pow2 .result) (c .pow2 .ensures ∙ ap (λ (i : ℕ). 2 ^ i) (counted (c .before .before .before .before .before .before .before .before .before .before .before .before .before .before .before .before .before .before .before .before))) }
 
 same-length-4 : tie.Need-same-length-4
-same-length-4 c = c .before .before .before .before .before .before .before .total-job .kept .1 .1 .1 .1 .1 .1 .1 .1 .1 .1 .1 .0
+same-length-4 c = c .before .before .before .before .before .before .before .total-job .kept .1 .1 .1 .1 .1 .1 .1 .1 .1 .1 .1 .1 .0
 
 same-length-5 : tie.Need-same-length-5
-same-length-5 c = c .before .before .before .before .before .before .before .total-job .kept .1 .1 .1 .1 .1 .1 .1 .1 .1 .1 .1 .1 .0
+same-length-5 c = c .before .before .before .before .before .before .before .total-job .kept .1 .1 .1 .1 .1 .1 .1 .1 .1 .1 .1 .1 .1 .0
 
 same-length-6 : tie.Need-same-length-6
-same-length-6 c = c .before .before .before .before .before .before .before .total-job .kept .1 .1 .1 .1 .1 .1 .1 .1 .1 .1 .1 .1 .1 .0
+same-length-6 c = c .before .before .before .before .before .before .before .total-job .kept .1 .1 .1 .1 .1 .1 .1 .1 .1 .1 .1 .1 .1 .1 .0
 
 returns-4 : tie.Need-returns-4
 returns-4 c =
-    let s = c .before .before .before .before .before .before .before .before .before .before .before .before .before .before .before .before .before .before .before .before .before .before .before .before .before .before .before .before .before .before .before .before .before .before .before .before .before .before .before .before .before in
+    let s = c .before .before .before .before .before .before .before .before .before .before .before .before .before .before .before .before .before .before .before .before .before .before .before .before .before .before .before .before .before .before .before .before .before .before .before .before .before .before .before .before .before .before in
     let q = fitting (c .before .before .before .before .before .before .before .before .before .before .before .before .before .before .before .before) in
     record { call = refused-14 (allParts (given s) (misfit s) (length (s .args .work .now)) mostCounted) (c .before .before .before .before .before .before .before .before .before .before .before .before .before .before .before .before .before .before .before .before .before .before .before .before .before .before .before .check-with-betas .ensures .refusal) (c .before .before .before .before .before .before .before .before .before .before .before .before .before .before .before .before .before .before .before .before .before .before .before .if1 .left) (listed (c .before .before .before .before .before .before .before .before .before .before .before .before .before .before .before .before .before)) (c .before .before .before .before .before .before .before .before .before .before .before .before .before .before .before .before .if2 .left) (found (c .before .before .before .before .before .before .before)) (c .if3 .left) (q .0) (q .1) }
 
@@ -189,7 +193,7 @@ pub exhaustive-spec : {M : Type 1} → statement M
 exhaustive-spec =
     tie.close
     (tie.spec
-    (λ c. search needs) (λ c. search needs) (λ c. search needs) (λ c κs. search needs) returns array-share-prefix-early
+    (λ c κs. search needs) (λ c. search needs) (λ c. search needs) (λ c. search needs) (λ c κs. search needs) returns array-share-prefix-early
     slice-aggregate-number-free-edges array-share-prefix-late slice-aggregate-number-free-edges-2 array-borrow-prefix-bits
     slice-aggregate-number-free-edges-3 number-free-edges-requires
     mul-check-enumeration check-enumeration-requires returns-2 (λ c κs. search needs) all-chunks-requires array-share-prefix-early-2

@@ -5,6 +5,7 @@ use Prim.Native.Nat.{ℕ, _*_, _^_, _≤_}
 use native.Mathlib.Omega.{arith}
 use lib.ListN.{length, take}
 use lib.Seq.{length-take-le}
+use Rattle.transfer_matrix.specs.Room.{arranged}
 use Rattle.refusals.specs.AcceptedTotals.{misfits}
 use Rattle.refusals.specs.Request.{mostStored}
 use Rattle.kept_edges.specs.Laws.Fronts.{early-part, late-part, early-fits, late-fits}
@@ -31,11 +32,12 @@ given s = let a = s .args in record {
   betas = a .betas .now;
   factors = a .factors .now;
   manner = a .manner;
+  arrangement = a .arrangement;
   caller = a .caller;
 }
 
 -- the free edges of the kept edges were counted
-counted : (c : tie.After-number-free-edges) → c .number-free-edges .result ≡ free (given (c .before .before .before .before .before .before .before .before .before .before .before .before .before .before .before .before .before .before .before .before .before))
+counted : (c : tie.After-number-free-edges) → c .number-free-edges .result ≡ free (given (c .before .before .before .before .before .before .before .before .before .before .before .before .before .before .before .before .before .before .before .before .before .before))
 counted c = free-kept (c .before .before .before .before .before .before .before .before .check-with-betas .ensures .ready (c .before .before .before .before .if1 .left)) _ (c .number-free-edges .ensures .0)
 
 -- as many bits as kept edges were written
@@ -44,47 +46,49 @@ as-many c = c .number-free-edges .kept .1 .1 .1 .0 ∙ length-take-le _ _ (c .be
 
 -- the lists were checked
 listed : (c : tie.After-check-enumeration)
-    → let s = c .before .before .before .before .before .before .before .before .before .before .before .before .before .before .before .before .before .before .before .before .before .before .before .before in
+    → let s = c .before .before .before .before .before .before .before .before .before .before .before .before .before .before .before .before .before .before .before .before .before .before .before .before .before in
     c .check-enumeration .result ≡ listsOfAll (given s) (misfitStored (given s) (length (s .args .stored .now))) (length (s .args .work .now)) mostStored
 listed c =
-    let a = c .before .before .before .before .before .before .before .before .before .before .before .before .before .before .before .before .before .before .before .before .before .before .before .before .args in
-    let g = given (c .before .before .before .before .before .before .before .before .before .before .before .before .before .before .before .before .before .before .before .before .before .before .before .before) in
+    let a = c .before .before .before .before .before .before .before .before .before .before .before .before .before .before .before .before .before .before .before .before .before .before .before .before .before .args in
+    let less = c .before .before .before .before .before .before .before .before .before .before .before .before .before .before .before .takes-less .ensures in
+    let g = given (c .before .before .before .before .before .before .before .before .before .before .before .before .before .before .before .before .before .before .before .before .before .before .before .before .before) in
     let is = counted (c .before .before .before) in
-    stored-lists (c .before .before .before .before .before .before .before .before .before .before .before .check-with-betas .ensures .ready (c .before .before .before .before .before .before .before .if1 .left)) (a .caller) (length (a .betas .now)) (a .factors .now) _ _ _ (storedCount (early g) (late g) (a .us .now) (length (a .betas .now))) (length (a .stored .now)) (length (a .work .now)) _ is
+    stored-lists (c .before .before .before .before .before .before .before .before .before .before .before .check-with-betas .ensures .ready (c .before .before .before .before .before .before .before .if1 .left)) (a .caller) _ _ less (length (a .betas .now)) (a .factors .now) _ _ _ (storedCount (early g) (late g) (a .us .now) (length (a .betas .now))) (length (a .stored .now)) (length (a .work .now)) _ is
     (λ l. c .before .stored-count .ensures l ∙ ap (λ (i : ℕ). sums g * 2 ^ i) is) (c .check-enumeration .ensures)
 
 -- and none refused
 passed : (c : tie.Else2)
-    → let a = c .before .before .before .before .before .before .before .before .before .before .before .before .before .before .before .before .before .before .before .before .before .before .before .before .before .args in
+    → let a = c .before .before .before .before .before .before .before .before .before .before .before .before .before .before .before .before .before .before .before .before .before .before .before .before .before .before .args in
     let k = c .before .before .before .before .before .before .before .before .before .before .before .before .check-with-betas in
     let wanted = c .before .before .stored-count .result in
-    Passed (a .n) (k .result .window) (take (k .result .edges) (k .last .1 .1 .1 .1 .1 .1 .1 .1 .1 .0)) (take (k .result .edges) (k .last .1 .1 .1 .1 .1 .1 .1 .1 .1 .1 .0)) (a .us .now) (a .vs .now) (length (a .factors .now)) (length (a .betas .now)) (length (a .work .now))
+    Passed (arranged (c .before .before .before .before .before .before .before .before .before .before .before .before .before .before .before .before .takes-less .result)) (a .n) (k .result .window) (take (k .result .edges) (k .last .1 .1 .1 .1 .1 .1 .1 .1 .1 .0)) (take (k .result .edges) (k .last .1 .1 .1 .1 .1 .1 .1 .1 .1 .1 .0)) (a .us .now) (a .vs .now) (length (a .factors .now)) (length (a .betas .now)) (length (a .work .now))
     × (misfits wanted (length (a .stored .now)) (length (a .stored .now)) ≡ false) × (c .before .before .before .before .number-free-edges .result ≤ 24)
 passed c =
-    let a = c .before .before .before .before .before .before .before .before .before .before .before .before .before .before .before .before .before .before .before .before .before .before .before .before .before .args in
+    let a = c .before .before .before .before .before .before .before .before .before .before .before .before .before .before .before .before .before .before .before .before .before .before .before .before .before .before .args in
     let k = c .before .before .before .before .before .before .before .before .before .before .before .before .check-with-betas .ensures in
     let v = c .before .before .before .before .before .before .before .before .if1 .left in
     let wanted = c .before .before .stored-count .result in
-    all-passed (k .ready v) (a .caller) (length (a .betas .now)) (a .factors .now) _ mostStored (misfits wanted (length (a .stored .now)) (length (a .stored .now))) (length (a .work .now)) _ (k .betas-pass v .few) (c .before .check-enumeration .ensures) (c .if2 .left)
+    all-passed (k .ready v) (a .caller) _ (length (a .betas .now)) (a .factors .now) _ mostStored (misfits wanted (length (a .stored .now)) (length (a .stored .now))) (length (a .work .now)) _ (k .betas-pass v .few) (c .before .check-enumeration .ensures) (c .if2 .left)
 
-fitting : (c : tie.Else2) → length (c .before .before .before .before .before .before .before .before .before .before .before .before .before .before .before .before .before .before .before .before .before .before .before .before .before .args .stored .now) ≡ sums (given (c .before .before .before .before .before .before .before .before .before .before .before .before .before .before .before .before .before .before .before .before .before .before .before .before .before)) * 2 ^ c .before .before .before .before .number-free-edges .result
+fitting : (c : tie.Else2) → length (c .before .before .before .before .before .before .before .before .before .before .before .before .before .before .before .before .before .before .before .before .before .before .before .before .before .before .args .stored .now) ≡ sums (given (c .before .before .before .before .before .before .before .before .before .before .before .before .before .before .before .before .before .before .before .before .before .before .before .before .before .before)) * 2 ^ c .before .before .before .before .number-free-edges .result
 fitting c =
-    let n = length (c .before .before .before .before .before .before .before .before .before .before .before .before .before .before .before .before .before .before .before .before .before .before .before .before .before .args .stored .now) in
+    let n = length (c .before .before .before .before .before .before .before .before .before .before .before .before .before .before .before .before .before .before .before .before .before .before .before .before .before .before .args .stored .now) in
     let w = c .before .before .stored-count in
     fits-both (w .result) n n (passed c .1) .0 ∙ w .ensures (passed c .2)
 
 -- what was found of all configurations
 found : (c : tie.After-store-job)
-    → let s = c .before .before .before .before .before .before .before .before .before .before .before .before .before .before .before .before .before .before .before .before .before .before .before .before .before .before .before .before .before .before .before .before in
+    → let s = c .before .before .before .before .before .before .before .before .before .before .before .before .before .before .before .before .before .before .before .before .before .before .before .before .before .before .before .before .before .before .before .before .before in
     let t = c .store-job in
-    Finished (unsoundAll (given s)) (correlationsOfAll (given s)) (correlationsOfAll (given s)) (sums (given s) * 2 ^ c .before .before .before .before .before .before .before .before .before .before .before .number-free-edges .result) (end (given s)) (t .result) (t .last .1 .1 .1 .1 .1 .1 .1 .1 .1 .1 .1 .0) (t .last .1 .1 .1 .1 .1 .1 .1 .1 .1 .1 .1 .0) (s .args .work .now) (t .last .1 .1 .1 .1 .1 .1 .1 .1 .1 .1 .1 .1 .0)
+    Finished (unsoundAll (given s)) (correlationsOfAll (given s)) (correlationsOfAll (given s)) (sums (given s) * 2 ^ c .before .before .before .before .before .before .before .before .before .before .before .number-free-edges .result) (end (given s)) (t .result) (t .last .1 .1 .1 .1 .1 .1 .1 .1 .1 .1 .1 .1 .0) (t .last .1 .1 .1 .1 .1 .1 .1 .1 .1 .1 .1 .1 .0) (s .args .work .now) (t .last .1 .1 .1 .1 .1 .1 .1 .1 .1 .1 .1 .1 .1 .0)
 found c =
-    let a = c .before .before .before .before .before .before .before .before .before .before .before .before .before .before .before .before .before .before .before .before .before .before .before .before .before .before .before .before .before .before .before .before .args in
-    stored-kept (c .before .before .before .before .before .before .before .before .before .before .before .before .before .before .before .before .before .before .before .check-with-betas .ensures .ready (c .before .before .before .before .before .before .before .before .before .before .before .before .before .before .before .if1 .left)) (length (a .betas .now)) (a .factors .now) (c .before .before .before .before .before .before .is-elementwise .ensures) (c .store-job .ensures)
+    let a = c .before .before .before .before .before .before .before .before .before .before .before .before .before .before .before .before .before .before .before .before .before .before .before .before .before .before .before .before .before .before .before .before .before .args in
+    let less = c .before .before .before .before .before .before .before .before .before .before .before .before .before .before .before .before .before .before .before .before .before .before .before .takes-less .ensures in
+    stored-kept (c .before .before .before .before .before .before .before .before .before .before .before .before .before .before .before .before .before .before .before .check-with-betas .ensures .ready (c .before .before .before .before .before .before .before .before .before .before .before .before .before .before .before .if1 .left)) (length (a .betas .now)) (a .factors .now) (c .before .before .before .before .before .before .is-elementwise .ensures) less (c .store-job .ensures)
 
 returns : tie.Need-returns
 returns c =
-    let s = c .before .before .before .before .before .before .before .before .before .before .before .before .before .before .before .before .before in
+    let s = c .before .before .before .before .before .before .before .before .before .before .before .before .before .before .before .before .before .before in
     let k = c .before .before .before .before .check-with-betas in
     record { call = once (refused-early (allParts (given s) (misfitStored (given s) (length (s .args .stored .now))) (length (s .args .work .now)) mostStored) (k .result .refusal) (k .ensures .refusal) (c .if1 .taken)) }
 
@@ -127,7 +131,7 @@ check-enumeration-requires c κs =
 
 returns-2 : tie.Need-returns-2
 returns-2 c =
-    let s = c .before .before .before .before .before .before .before .before .before .before .before .before .before .before .before .before .before .before .before .before .before .before .before .before .before in
+    let s = c .before .before .before .before .before .before .before .before .before .before .before .before .before .before .before .before .before .before .before .before .before .before .before .before .before .before in
     record { call = once (refused-lists (allParts (given s) (misfitStored (given s) (length (s .args .stored .now))) (length (s .args .work .now)) mostStored) (c .before .before .before .before .before .before .before .before .before .before .before .before .check-with-betas .ensures .refusal) (c .before .before .before .before .before .before .before .before .if1 .left) (c .before .check-enumeration .result) (listed (c .before)) (c .if2 .taken)) }
 
 array-share-prefix-early-2 : tie.Need-array-share-prefix-early-2
@@ -158,25 +162,25 @@ pow2-requires : tie.Need-pow2-requires
 pow2-requires c κs = omega (arith, passed (c .before .before .before .before .before .before .before .before .before .before .before .before) .2)
 
 same-length : tie.Need-same-length
-same-length c = c .before .before .before .before .before .before .store-job .kept .1 .1 .1 .1 .1 .1 .1 .1 .1 .1 .1 .0
+same-length c = c .before .before .before .before .before .before .store-job .kept .1 .1 .1 .1 .1 .1 .1 .1 .1 .1 .1 .1 .0
 
 same-length-2 : tie.Need-same-length-2
-same-length-2 c = c .before .before .before .before .before .before .store-job .kept .1 .1 .1 .1 .1 .1 .1 .1 .1 .1 .1 .1 .0
+same-length-2 c = c .before .before .before .before .before .before .store-job .kept .1 .1 .1 .1 .1 .1 .1 .1 .1 .1 .1 .1 .1 .0
 
 returns-3 : tie.Need-returns-3
 returns-3 c =
-    let s = c .before .before .before .before .before .before .before .before .before .before .before .before .before .before .before .before .before .before .before .before .before .before .before .before .before .before .before .before .before .before .before .before .before .before .before .before .before .before in
+    let s = c .before .before .before .before .before .before .before .before .before .before .before .before .before .before .before .before .before .before .before .before .before .before .before .before .before .before .before .before .before .before .before .before .before .before .before .before .before .before .before in
     record { call = once (all-added (allParts (given s) (misfitStored (given s) (length (s .args .stored .now))) (length (s .args .work .now)) mostStored) (c .before .before .before .before .before .before .before .before .before .before .before .before .before .before .before .before .before .before .before .before .before .before .before .before .before .check-with-betas .ensures .refusal) (c .before .before .before .before .before .before .before .before .before .before .before .before .before .before .before .before .before .before .before .before .before .if1 .left) (listed (c .before .before .before .before .before .before .before .before .before .before .before .before .before .before)) (c .before .before .before .before .before .before .before .before .before .before .before .before .before .if2 .left) (found (c .before .before .before .before .before .before)) (c .before .if3 .taken) (c .pow2 .result) (c .pow2 .ensures ∙ ap (λ (i : ℕ). 2 ^ i) (counted (c .before .before .before .before .before .before .before .before .before .before .before .before .before .before .before .before .before)))) }
 
 same-length-3 : tie.Need-same-length-3
-same-length-3 c = c .before .before .before .before .before .store-job .kept .1 .1 .1 .1 .1 .1 .1 .1 .1 .1 .1 .0
+same-length-3 c = c .before .before .before .before .before .store-job .kept .1 .1 .1 .1 .1 .1 .1 .1 .1 .1 .1 .1 .0
 
 same-length-4 : tie.Need-same-length-4
-same-length-4 c = c .before .before .before .before .before .store-job .kept .1 .1 .1 .1 .1 .1 .1 .1 .1 .1 .1 .1 .0
+same-length-4 c = c .before .before .before .before .before .store-job .kept .1 .1 .1 .1 .1 .1 .1 .1 .1 .1 .1 .1 .1 .0
 
 returns-4 : tie.Need-returns-4
 returns-4 c =
-    let s = c .before .before .before .before .before .before .before .before .before .before .before .before .before .before .before .before .before .before .before .before .before .before .before .before .before .before .before .before .before .before .before .before .before .before .before .before .before in
+    let s = c .before .before .before .before .before .before .before .before .before .before .before .before .before .before .before .before .before .before .before .before .before .before .before .before .before .before .before .before .before .before .before .before .before .before .before .before .before .before in
     let q = fitting (c .before .before .before .before .before .before .before .before .before .before .before .before) in
     record { call = once (refused-14 (allParts (given s) (misfitStored (given s) (length (s .args .stored .now))) (length (s .args .work .now)) mostStored) (c .before .before .before .before .before .before .before .before .before .before .before .before .before .before .before .before .before .before .before .before .before .before .before .before .check-with-betas .ensures .refusal) (c .before .before .before .before .before .before .before .before .before .before .before .before .before .before .before .before .before .before .before .before .if1 .left) (listed (c .before .before .before .before .before .before .before .before .before .before .before .before .before)) (c .before .before .before .before .before .before .before .before .before .before .before .before .if2 .left) (found (c .before .before .before .before .before)) (c .if3 .left) q q) }
 
@@ -184,7 +188,7 @@ pub exhaustive-c-spec : {M : Type 1} → statement M
 exhaustive-c-spec =
     tie.close
     (tie.spec
-    (λ c. search needs) (λ c. search needs) (λ c. search needs) (λ c κs. search needs) returns array-share-prefix-early
+    (λ c κs. search needs) (λ c. search needs) (λ c. search needs) (λ c. search needs) (λ c κs. search needs) returns array-share-prefix-early
     slice-aggregate-number-free-edges array-share-prefix-late slice-aggregate-number-free-edges-2 array-borrow-prefix-bits
     slice-aggregate-number-free-edges-3 number-free-edges-requires mul-stored-count
     stored-count-requires check-enumeration-requires returns-2 (λ c κs. search needs) array-share-prefix-early-2 slice-aggregate-store-job

@@ -68,7 +68,7 @@ stored-correlations-requires c κs =
     let l = p .0 .job .few-edges in
     let k = p .0 .job .few-pairs in
     let long = as-long (s .args .early .now) (s .args .late .now) (s .args .bits .now) (p .3) in (
-      staged (p .0) (m .ensures) (o .last .0) _ _ _ (s .args .elementwise) holds (o .ensures) long (length-take-le _ (s .args .work .now) (fits (c .before .before .before .before .before .before .before .before .before .before .before .before))) (length-take-le _ _ (omega (arith, k))),
+      staged (p .0) (m .ensures) (o .last .0) _ _ _ (s .args .elementwise) (s .args .less) refl holds (o .ensures) long (length-take-le _ (s .args .work .now) (fits (c .before .before .before .before .before .before .before .before .before .before .before .before))) (length-take-le _ _ (omega (arith, k))),
       enough-factors (p .0) _ long,
       enumerates (s .args .early .now) (s .args .late .now) (s .args .bits .now) _ (s .args .free) (p .3) (length-take-le _ _ (omega (arith, l))) (p .1) (p .2),
       p .2,
@@ -87,7 +87,7 @@ returns c =
     let t = c .before .before .before .before .before .before .before .before .before .before .before .before .before .before .stored-correlations in
     let zero = c .before .before .before .before .before .before .clear in
     let x = c .before .before .clear-unsound in
-    let of = numbered-plan (m .last .0) (a .early .now) (a .late .now) (a .us .now) (a .vs .now) (a .n) (a .w) _ _ _ _ (m .ensures) (p .0 .job .some) (a .factors .now) (a .elementwise) (a .betas) (a .bits .now) (p .3) in
+    let of = numbered-plan _ (m .last .0) (a .early .now) (a .late .now) (a .us .now) (a .vs .now) (a .n) (a .w) _ _ _ _ (m .ensures) (p .0 .job .some) (a .factors .now) (a .elementwise) (a .less) (a .betas) (a .bits .now) (p .3) in
     let J = jobEnumerated (a .n) (a .w) (a .early .now) (a .late .now) (a .factors .now) (stepping (a .elementwise)) in
     let said = t .ensures J of in
     let g = cleared-stored J (a .us .now) (a .vs .now) (a .betas) (t .result) (t .last .1 .1 .1 .1 .1 .1 .1 .1 .1 .1 .1 .0) (x .last .1 .0) (a .free) _ (p .1) (said .0) (x .ensures) (said .1) (t .kept .1 .1 .1 .1 .1 .1 .1 .1 .1 .1 .1 .0 ∙ p .4) in

@@ -6,6 +6,7 @@ use native.Mathlib.Omega.{arith}
 use lib.ListN.{length, take}
 use Rattle.transfer_matrix.specs.Rounded.{ieee}
 use Rattle.transfer_matrix.specs.Totals.{square, fourth}
+use Rattle.transfer_matrix.specs.Room.{arranged}
 use Rattle.refusals.specs.AcceptedTotals.{misfits}
 use Rattle.kept_edges.specs.Laws.Fronts.{early-part, late-part, early-fits, late-fits}
 use Rattle.totals_chunks.specs.Totals.{drawnChunks}
@@ -31,6 +32,7 @@ given s = let a = s .args in record {
   betas = a .betas .now;
   factors = a .factors .now;
   manner = a .manner;
+  arrangement = a .arrangement;
   caller = a .caller;
 }
 
@@ -43,42 +45,44 @@ parts s = let a = s .args in drawnParts (given s) (misfit s) (length (a .work .n
 
 -- the lists were checked
 listed : (c : tie.After-check-sampling)
-    → let s = c .before .before .before .before .before .before .before .before .before .before .before .before .before .before .before .before .before .before .before in
+    → let s = c .before .before .before .before .before .before .before .before .before .before .before .before .before .before .before .before .before .before .before .before in
     let a = s .args in
     c .check-sampling .result ≡ listsOfDrawn (given s) (misfit s) (length (a .work .now)) (a .seed) (a .from) (a .to) (a .samples)
 listed c =
-    let a = c .before .before .before .before .before .before .before .before .before .before .before .before .before .before .before .before .before .before .before .args in
-    drawn-lists (c .before .before .before .before .before .check-with-betas .ensures .ready (c .before .if1 .left)) (length (a .betas .now)) (a .factors .now) (a .from) (a .to) (a .samples) (misfit (c .before .before .before .before .before .before .before .before .before .before .before .before .before .before .before .before .before .before .before)) (length (a .work .now)) _ (c .check-sampling .ensures)
+    let a = c .before .before .before .before .before .before .before .before .before .before .before .before .before .before .before .before .before .before .before .before .args in
+    let less = c .before .before .before .before .before .before .before .before .before .takes-less .ensures in
+    drawn-lists (c .before .before .before .before .before .check-with-betas .ensures .ready (c .before .if1 .left)) _ _ less (length (a .betas .now)) (a .factors .now) (a .from) (a .to) (a .samples) (misfit (c .before .before .before .before .before .before .before .before .before .before .before .before .before .before .before .before .before .before .before .before)) (length (a .work .now)) _ (c .check-sampling .ensures)
 
 -- and none refused
 passed : (c : tie.Else2)
-    → let a = c .before .before .before .before .before .before .before .before .before .before .before .before .before .before .before .before .before .before .before .before .args in
+    → let a = c .before .before .before .before .before .before .before .before .before .before .before .before .before .before .before .before .before .before .before .before .before .args in
     let k = c .before .before .before .before .before .before .check-with-betas in
-    Passed (a .n) (k .result .window) (take (k .result .edges) (k .last .1 .1 .1 .1 .1 .1 .1 .1 .1 .0)) (take (k .result .edges) (k .last .1 .1 .1 .1 .1 .1 .1 .1 .1 .1 .0)) (a .us .now) (a .vs .now) (length (a .factors .now)) (length (a .betas .now)) (length (a .work .now))
-    × (misfit (c .before .before .before .before .before .before .before .before .before .before .before .before .before .before .before .before .before .before .before .before) ≡ false) × ((a .to - a .from) * a .samples ≤ 4294967296)
+    Passed (arranged (c .before .before .before .before .before .before .before .before .before .before .takes-less .result)) (a .n) (k .result .window) (take (k .result .edges) (k .last .1 .1 .1 .1 .1 .1 .1 .1 .1 .0)) (take (k .result .edges) (k .last .1 .1 .1 .1 .1 .1 .1 .1 .1 .1 .0)) (a .us .now) (a .vs .now) (length (a .factors .now)) (length (a .betas .now)) (length (a .work .now))
+    × (misfit (c .before .before .before .before .before .before .before .before .before .before .before .before .before .before .before .before .before .before .before .before .before) ≡ false) × ((a .to - a .from) * a .samples ≤ 4294967296)
 passed c =
-    let a = c .before .before .before .before .before .before .before .before .before .before .before .before .before .before .before .before .before .before .before .before .args in
+    let a = c .before .before .before .before .before .before .before .before .before .before .before .before .before .before .before .before .before .before .before .before .before .args in
     let k = c .before .before .before .before .before .before .check-with-betas .ensures in
     let v = c .before .before .if1 .left in
-    drawn-passed (k .ready v) (length (a .betas .now)) (a .factors .now) (a .from) (a .to) (a .samples) (misfit (c .before .before .before .before .before .before .before .before .before .before .before .before .before .before .before .before .before .before .before .before)) (length (a .work .now)) _ (k .betas-pass v .few) (c .before .check-sampling .ensures) (c .if2 .left)
+    drawn-passed (k .ready v) _ (length (a .betas .now)) (a .factors .now) (a .from) (a .to) (a .samples) (misfit (c .before .before .before .before .before .before .before .before .before .before .before .before .before .before .before .before .before .before .before .before .before)) (length (a .work .now)) _ (k .betas-pass v .few) (c .before .check-sampling .ensures) (c .if2 .left)
 
 fitting : (c : tie.Else2)
-    → (length (c .before .before .before .before .before .before .before .before .before .before .before .before .before .before .before .before .before .before .before .before .args .squares .now) ≡ sums (given (c .before .before .before .before .before .before .before .before .before .before .before .before .before .before .before .before .before .before .before .before))) × (length (c .before .before .before .before .before .before .before .before .before .before .before .before .before .before .before .before .before .before .before .before .args .fourths .now) ≡ sums (given (c .before .before .before .before .before .before .before .before .before .before .before .before .before .before .before .before .before .before .before .before)))
-fitting c = fits-both (sums (given (c .before .before .before .before .before .before .before .before .before .before .before .before .before .before .before .before .before .before .before .before))) (length (c .before .before .before .before .before .before .before .before .before .before .before .before .before .before .before .before .before .before .before .before .args .squares .now)) (length (c .before .before .before .before .before .before .before .before .before .before .before .before .before .before .before .before .before .before .before .before .args .fourths .now)) (passed c .1)
+    → (length (c .before .before .before .before .before .before .before .before .before .before .before .before .before .before .before .before .before .before .before .before .before .args .squares .now) ≡ sums (given (c .before .before .before .before .before .before .before .before .before .before .before .before .before .before .before .before .before .before .before .before .before))) × (length (c .before .before .before .before .before .before .before .before .before .before .before .before .before .before .before .before .before .before .before .before .before .args .fourths .now) ≡ sums (given (c .before .before .before .before .before .before .before .before .before .before .before .before .before .before .before .before .before .before .before .before .before)))
+fitting c = fits-both (sums (given (c .before .before .before .before .before .before .before .before .before .before .before .before .before .before .before .before .before .before .before .before .before))) (length (c .before .before .before .before .before .before .before .before .before .before .before .before .before .before .before .before .before .before .before .before .before .args .squares .now)) (length (c .before .before .before .before .before .before .before .before .before .before .before .before .before .before .before .before .before .before .before .before .before .args .fourths .now)) (passed c .1)
 
 -- what was found of the drawn configurations
 found : (c : tie.After-total-job)
-    → let s = c .before .before .before .before .before .before .before .before .before .before .before .before .before .before .before .before .before .before .before .before .before .before .before .before .before .before .before in
+    → let s = c .before .before .before .before .before .before .before .before .before .before .before .before .before .before .before .before .before .before .before .before .before .before .before .before .before .before .before .before in
     let a = s .args in
     let t = c .total-job in
-    Finished (unsoundDrawn (given s) (a .seed) (a .from) (a .to) (a .samples)) (totalsOfDrawn (given s) (a .seed) (a .from) (a .to) (a .samples) (square ieee)) (totalsOfDrawn (given s) (a .seed) (a .from) (a .to) (a .samples) (fourth ieee)) (sums (given s)) (end (given s)) (t .result) (t .last .1 .1 .1 .1 .1 .1 .1 .1 .1 .1 .1 .0) (t .last .1 .1 .1 .1 .1 .1 .1 .1 .1 .1 .1 .1 .0) (a .work .now) (t .last .1 .1 .1 .1 .1 .1 .1 .1 .1 .1 .1 .1 .1 .0)
+    Finished (unsoundDrawn (given s) (a .seed) (a .from) (a .to) (a .samples)) (totalsOfDrawn (given s) (a .seed) (a .from) (a .to) (a .samples) (square ieee)) (totalsOfDrawn (given s) (a .seed) (a .from) (a .to) (a .samples) (fourth ieee)) (sums (given s)) (end (given s)) (t .result) (t .last .1 .1 .1 .1 .1 .1 .1 .1 .1 .1 .1 .1 .0) (t .last .1 .1 .1 .1 .1 .1 .1 .1 .1 .1 .1 .1 .1 .0) (a .work .now) (t .last .1 .1 .1 .1 .1 .1 .1 .1 .1 .1 .1 .1 .1 .1 .0)
 found c =
-    let a = c .before .before .before .before .before .before .before .before .before .before .before .before .before .before .before .before .before .before .before .before .before .before .before .before .before .before .before .args in
-    totals-kept (c .before .before .before .before .before .before .before .before .before .before .before .before .before .check-with-betas .ensures .ready (c .before .before .before .before .before .before .before .before .before .if1 .left)) (length (a .betas .now)) (a .factors .now) (c .before .before .before .before .before .before .is-elementwise .ensures) (drawnChunks (a .seed) (a .from) (a .to) (a .samples)) (c .total-job .ensures)
+    let a = c .before .before .before .before .before .before .before .before .before .before .before .before .before .before .before .before .before .before .before .before .before .before .before .before .before .before .before .before .args in
+    let less = c .before .before .before .before .before .before .before .before .before .before .before .before .before .before .before .before .before .takes-less .ensures in
+    totals-kept (c .before .before .before .before .before .before .before .before .before .before .before .before .before .check-with-betas .ensures .ready (c .before .before .before .before .before .before .before .before .before .if1 .left)) (length (a .betas .now)) (a .factors .now) (c .before .before .before .before .before .before .is-elementwise .ensures) less (drawnChunks (a .seed) (a .from) (a .to) (a .samples)) (c .total-job .ensures)
 
 returns : tie.Need-returns
 returns c =
-    let s = c .before .before .before .before .before .before .before .before .before .before .before .before .before .before .before .before .before .before in
+    let s = c .before .before .before .before .before .before .before .before .before .before .before .before .before .before .before .before .before .before .before in
     let k = c .before .before .before .before .check-with-betas in
     record { call = refused-early (parts s) (k .result .refusal) (k .ensures .refusal) (c .if1 .taken) }
 
@@ -95,7 +99,7 @@ check-sampling-requires c κs =
 
 returns-2 : tie.Need-returns-2
 returns-2 c =
-    let s = c .before .before .before .before .before .before .before .before .before .before .before .before .before .before .before .before .before .before .before .before in
+    let s = c .before .before .before .before .before .before .before .before .before .before .before .before .before .before .before .before .before .before .before .before .before in
     record { call = refused-lists (parts s) (c .before .before .before .before .before .before .check-with-betas .ensures .refusal) (c .before .before .if1 .left) (c .before .check-sampling .result) (listed (c .before)) (c .if2 .taken) }
 
 array-share-prefix-early : tie.Need-array-share-prefix-early
@@ -112,7 +116,7 @@ slice-aggregate-total-job c = late-part (c .before .before .before .before .befo
 
 total-job-requires : tie.Need-total-job-requires
 total-job-requires c κs =
-    let a = c .before .before .before .before .before .before .before .before .before .before .before .before .before .before .before .before .before .before .before .before .before .before .before .before .before .before .args in
+    let a = c .before .before .before .before .before .before .before .before .before .before .before .before .before .before .before .before .before .before .before .before .before .before .before .before .before .before .before .args in
     let q = fitting (c .before .before .before .before .before .before) in
     (passed (c .before .before .before .before .before .before) .0, drawn-numbered (a .seed) (a .from) (a .to) (a .samples) _ _ _ refl, q .0, q .1)
 
@@ -120,31 +124,31 @@ sampled-count-requires : tie.Need-sampled-count-requires
 sampled-count-requires c κs = passed (c .before .before .before .before .before .before .before .before .before .before .before .before .before .before) .2
 
 same-length : tie.Need-same-length
-same-length c = c .before .before .before .before .before .before .before .before .total-job .kept .1 .1 .1 .1 .1 .1 .1 .1 .1 .1 .1 .0
+same-length c = c .before .before .before .before .before .before .before .before .total-job .kept .1 .1 .1 .1 .1 .1 .1 .1 .1 .1 .1 .1 .0
 
 same-length-2 : tie.Need-same-length-2
-same-length-2 c = c .before .before .before .before .before .before .before .before .total-job .kept .1 .1 .1 .1 .1 .1 .1 .1 .1 .1 .1 .1 .0
+same-length-2 c = c .before .before .before .before .before .before .before .before .total-job .kept .1 .1 .1 .1 .1 .1 .1 .1 .1 .1 .1 .1 .1 .0
 
 same-length-3 : tie.Need-same-length-3
-same-length-3 c = c .before .before .before .before .before .before .before .before .total-job .kept .1 .1 .1 .1 .1 .1 .1 .1 .1 .1 .1 .1 .1 .0
+same-length-3 c = c .before .before .before .before .before .before .before .before .total-job .kept .1 .1 .1 .1 .1 .1 .1 .1 .1 .1 .1 .1 .1 .1 .0
 
 returns-3 : tie.Need-returns-3
 returns-3 c =
-    let s = c .before .before .before .before .before .before .before .before .before .before .before .before .before .before .before .before .before .before .before .before .before .before .before .before .before .before .before .before .before .before .before .before .before .before .before in
+    let s = c .before .before .before .before .before .before .before .before .before .before .before .before .before .before .before .before .before .before .before .before .before .before .before .before .before .before .before .before .before .before .before .before .before .before .before .before in
     record { call = all-added (parts s) (c .before .before .before .before .before .before .before .before .before .before .before .before .before .before .before .before .before .before .before .before .before .check-with-betas .ensures .refusal) (c .before .before .before .before .before .before .before .before .before .before .before .before .before .before .before .before .before .if1 .left) (listed (c .before .before .before .before .before .before .before .before .before .before .before .before .before .before .before .before)) (c .before .before .before .before .before .before .before .before .before .before .before .before .before .before .before .if2 .left) (found (c .before .before .before .before .before .before .before .before)) (c .before .if3 .taken) (c .sampled-count .result) (c .sampled-count .ensures) }
 
 same-length-4 : tie.Need-same-length-4
-same-length-4 c = c .before .before .before .before .before .before .before .total-job .kept .1 .1 .1 .1 .1 .1 .1 .1 .1 .1 .1 .0
+same-length-4 c = c .before .before .before .before .before .before .before .total-job .kept .1 .1 .1 .1 .1 .1 .1 .1 .1 .1 .1 .1 .0
 
 same-length-5 : tie.Need-same-length-5
-same-length-5 c = c .before .before .before .before .before .before .before .total-job .kept .1 .1 .1 .1 .1 .1 .1 .1 .1 .1 .1 .1 .0
+same-length-5 c = c .before .before .before .before .before .before .before .total-job .kept .1 .1 .1 .1 .1 .1 .1 .1 .1 .1 .1 .1 .1 .0
 
 same-length-6 : tie.Need-same-length-6
-same-length-6 c = c .before .before .before .before .before .before .before .total-job .kept .1 .1 .1 .1 .1 .1 .1 .1 .1 .1 .1 .1 .1 .0
+same-length-6 c = c .before .before .before .before .before .before .before .total-job .kept .1 .1 .1 .1 .1 .1 .1 .1 .1 .1 .1 .1 .1 .1 .0
 
 returns-4 : tie.Need-returns-4
 returns-4 c =
-    let s = c .before .before .before .before .before .before .before .before .before .before .before .before .before .before .before .before .before .before .before .before .before .before .before .before .before .before .before .before .before .before .before .before .before .before in
+    let s = c .before .before .before .before .before .before .before .before .before .before .before .before .before .before .before .before .before .before .before .before .before .before .before .before .before .before .before .before .before .before .before .before .before .before .before in
     let q = fitting (c .before .before .before .before .before .before .before .before .before .before .before .before .before .before) in
     record { call = refused-14 (parts s) (c .before .before .before .before .before .before .before .before .before .before .before .before .before .before .before .before .before .before .before .before .check-with-betas .ensures .refusal) (c .before .before .before .before .before .before .before .before .before .before .before .before .before .before .before .before .if1 .left) (listed (c .before .before .before .before .before .before .before .before .before .before .before .before .before .before .before)) (c .before .before .before .before .before .before .before .before .before .before .before .before .before .before .if2 .left) (found (c .before .before .before .before .before .before .before)) (c .if3 .left) (q .0) (q .1) }
 
@@ -152,7 +156,7 @@ pub sample-spec : {M : Type 1} → statement M
 sample-spec =
     tie.close
     (tie.spec
-    (λ c. search needs) (λ c. search needs) (λ c. search needs) (λ c κs. search needs) returns mul-check-sampling check-sampling-requires
+    (λ c κs. search needs) (λ c. search needs) (λ c. search needs) (λ c. search needs) (λ c κs. search needs) returns mul-check-sampling check-sampling-requires
     returns-2 (λ c κs. search needs) array-share-prefix-early slice-aggregate-ends array-share-prefix-late
     slice-aggregate-total-job total-job-requires sampled-count-requires same-length same-length-2 same-length-3 returns-3 same-length-4
     same-length-5 same-length-6 returns-4)

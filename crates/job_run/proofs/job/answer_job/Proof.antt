@@ -30,19 +30,19 @@ order-pairs-requires c κs =
     (p .pairs, p .edges .few, length-take-le _ _ (omega (arith, p .few-pairs)))
 
 slice-relend-prefix-room : tie.Need-slice-relend-prefix-room
-slice-relend-prefix-room c = end-fits _ _ _ _ _ _ _ _ _ _ _ _ (c .before .before .before .before .before .before .before .before .before .before .before .before .before .before .before .pre .job) (c .before .before .before .before .before .before .make-plan .ensures)
+slice-relend-prefix-room c = end-fits _ _ _ _ _ _ _ _ _ _ _ _ _ (c .before .before .before .before .before .before .before .before .before .before .before .before .before .before .before .pre .job) (c .before .before .before .before .before .before .make-plan .ensures)
 
 slice-aggregate-room : tie.Need-slice-aggregate-room
 slice-aggregate-room c =
-    let e = end-fits _ _ _ _ _ _ _ _ _ _ _ _ (c .before .before .before .before .before .before .before .before .before .before .before .before .before .before .before .before .pre .job) (c .before .before .before .before .before .before .before .make-plan .ensures) in
+    let e = end-fits _ _ _ _ _ _ _ _ _ _ _ _ _ (c .before .before .before .before .before .before .before .before .before .before .before .before .before .before .before .before .pre .job) (c .before .before .before .before .before .before .before .make-plan .ensures) in
     sym (length-take-le (c .before .before .before .before .before .before .before .make-plan .result .room) (c .before .before .before .before .before .before .before .before .before .before .before .before .before .before .before .before .args .work .now) e)
 
 lay-factors-requires : tie.Need-lay-factors-requires
 lay-factors-requires c κs =
     let p = c .before .before .before .before .before .before .before .before .before .before .before .before .before .before .before .before .before .pre in
     let g = c .before .before .before .before .before .before .before .before .make-plan .ensures in
-    let e = end-fits _ _ _ _ _ _ _ _ _ _ _ _ (p .job) g in
-    let f = factors-fit _ _ _ _ _ _ _ _ _ _ _ _ _ _ p g in
+    let e = end-fits _ _ _ _ _ _ _ _ _ _ _ _ _ (p .job) g in
+    let f = factors-fit _ _ _ _ _ _ _ _ _ _ _ _ _ _ _ p g in
     let t = length-take-le (c .before .before .before .before .before .before .before .before .make-plan .result .room) (c .before .before .before .before .before .before .before .before .before .before .before .before .before .before .before .before .before .args .work .now) e in
     omega arith
 
@@ -54,12 +54,12 @@ run-requires c κs =
     let g = m .ensures in
     let few = p .job .edges .few in
     let holds : Holds (m .last .0) (s .args .n) = omega (arith, m .kept .0) in
-    let e = end-fits _ _ _ _ _ _ _ _ _ _ _ _ (p .job) g in
+    let e = end-fits _ _ _ _ _ _ _ _ _ _ _ _ _ (p .job) g in
     let l = c .before .before .before .before .before .lay-factors .kept .0 ∙ length-take-le (m .result .room) (s .args .work .now) e in (
       p .job .some,
       subst (λ (k : ℕ). Ready (m .last .0) k (s .args .n) (s .args .w) (m .result .scales)) (sym l)
-          (ready _ _ _ _ _ _ _ _ _ _ _ _ (p .job) g holds),
-      serves _ _ _ _ _ _ _ _ _ _ _ _ (p .job) g,
+          (ready _ _ _ _ _ _ _ _ _ _ _ _ _ (p .job) g holds),
+      serves _ _ _ _ _ _ _ _ _ _ _ _ _ (p .job) g (s .args .less) refl,
       c .before .before .before .before .before .before .before .before .before .before .order-pairs .ensures,
       p .fitting,
     )
@@ -68,7 +68,7 @@ returns : tie.Need-returns
 returns c =
     let s = c .before .before .before .before .before .before .before .before .before .before .before .before .before .before .before .before .before .before .before .before .before .before .before .before .before .before .before .before .before in
     let m = c .before .before .before .before .before .before .before .before .before .before .before .before .before .before .before .before .before .before .before .before .make-plan in
-    finished _ _ _ _ _ _ _ _ _ _ _ _ _ _ (s .pre) (m .ensures) (s .args .work .now) _ _ _ _ _ refl (c .before .before .before .before .before .before .before .before .before .before .before .lay-factors .ensures) (c .before .before .before .before .before .run .ensures .0) (c .before .before .before .before .before .run .ensures .1)
+    finished _ _ _ _ _ _ _ _ _ _ _ _ _ _ _ (s .pre) (m .ensures) (s .args .work .now) _ _ _ _ _ refl (c .before .before .before .before .before .before .before .before .before .before .before .lay-factors .ensures) (c .before .before .before .before .before .run .ensures .0) (c .before .before .before .before .before .run .ensures .1)
 
 pub answer-job-spec : {M : Type 1} → statement M
 answer-job-spec =

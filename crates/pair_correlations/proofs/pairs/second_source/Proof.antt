@@ -2,7 +2,6 @@
 use mathlib.Core.Path.{refl}
 use mathlib.Core.Logic.{inl, inr}
 use borrow.Author.Needs.{needs}
-use Rattle.pair_correlations.proofs.Answering.{pair-places}
 use Rattle.pair_correlations.proofs.pairs.second_source.Statement.{statement}
 use Rattle.pair_correlations.proofs.pairs.second_source.Tie as tie
 
@@ -12,7 +11,7 @@ returns c = inl (c .if1 .taken, refl)
 direct-source-requires : tie.Need-direct-source-requires
 direct-source-requires c κs =
     let s = c .before .before .before .before .before .before .before .before in
-    (s .pre .0, rw (c .before .earlier .ensures, c .later .ensures) (pair-places _ _ _ _ _ _ (s .pre .1) (s .pre .2)))
+    (s .pre .0, rw (c .before .earlier .ensures, c .later .ensures) (s .pre .3))
 
 returns-2 : tie.Need-returns-2
 returns-2 c =

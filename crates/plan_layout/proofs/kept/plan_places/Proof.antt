@@ -37,7 +37,7 @@ returns c =
     let s = fore .before .before .before .before .before in
     let us = s .args .us .now in
     let vs = s .args .vs .now in
-    placed _ _ _ us vs _ _ _ (s .args .w) _ _ (fore .mark-forward .ensures) (back .mark-backward .ensures) (number .ensures) (number2 .ensures)
+    placed _ _ _ _ us vs _ _ _ (s .args .w) _ _ (fore .mark-forward .ensures) (back .mark-backward .ensures) (number .ensures) (number2 .ensures)
 
 pub plan-places-spec : {M : Type 1} → statement M
 plan-places-spec =

@@ -38,6 +38,6 @@ replay-spec =
     (λ c κs. search needs) (λ c κs. search needs) (λ c κs. search needs) (λ c κs. search needs) (λ c κs. search needs)
     (λ c κs. search needs) (λ c. search needs) slice-aggregate-a (λ c. search needs) slice-aggregate-b (λ c. search needs)
     slice-aggregate-m (λ c. search needs) slice-aggregate-us (λ c. search needs) slice-aggregate-vs (λ c. search needs)
-    slice-aggregate-factors (λ c. search needs) slice-aggregate-results (λ c. search needs) slice-aggregate-memory (λ c κs. search needs)
+    slice-aggregate-factors (λ c. search needs) slice-aggregate-results (λ c. search needs) slice-aggregate-memory (λ c κs. search needs) (λ c κs. search needs) (λ c κs. search needs) (λ c κs. search needs)
     (λ c κs. search needs) (λ c κs. search needs) (λ c κs. search needs) (λ c κs. search needs) (λ c κs. search needs)
     (λ c κs. search needs) (λ c κs. search needs) (λ c κs. search needs) (λ c. search needs) (λ c. search needs))

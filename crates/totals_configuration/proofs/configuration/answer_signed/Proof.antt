@@ -21,29 +21,22 @@ lay-signed-requires c κs =
     let f = l .few in
     (omega (arith, p .0 .ends), omega arith, omega arith)
 
-sweep-requires : tie.Need-sweep-requires
-sweep-requires c κs =
-    let s = c .before .before .before .before .before .before .before .before .before .before .before .before .before .before in
+sweep-and-answer-requires : tie.Need-sweep-and-answer-requires
+sweep-and-answer-requires c κs =
+    let s = c .before .before .before .before .before .before .before .before .before .before .before .before .before .before .before in
     let p = s .pre .0 in
-    (p .some, subst (λ (k : ℕ). Ready (s .args .plan .now) k (s .args .shape .n) (s .args .shape .w) (s .args .shape .scales)) (sym (c .before .before .before .lay-signed .kept .0)) (p .ready))
-
-answer-pairs-requires : tie.Need-answer-pairs-requires
-answer-pairs-requires c κs =
-    let s = c .before .before .before .before .before .before .before .before .before .before .before .before .before .before .before .before .before .before .before in
-    let p = s .pre .0 in
-    let l = c .before .before .before .before .sweep .ensures .0 .same ∙ c .before .before .before .before .before .before .before .before .lay-signed .kept .0 in
-    (subst (λ (k : ℕ). Ready (s .args .plan .now) k (s .args .shape .n) (s .args .shape .w) (s .args .shape .scales)) (sym l) (p .ready), p .served, p .ordered, p .fitting)
+    (p .some, subst (λ (k : ℕ). Ready (s .args .plan .now) k (s .args .shape .n) (s .args .shape .w) (s .args .shape .scales)) (sym (c .before .before .before .before .lay-signed .kept .0)) (p .ready), p .served, p .ordered, p .fitting)
 
 returns : tie.Need-returns
 returns c =
-    let s = c .before .before .before .before .before .before .before .before .before .before .before .before .before .before .before .before .before .before .before .before .before .before .before .before in
+    let s = c .before .before .before .before .before .before .before .before .before .before .before .before .before .before .before .before .before .before .before .before in
     let a = s .args in
     let x = factorsInUse (a .factors .now) (length (a .signs .now)) (a .b) (a .signs .now) in
     let t = tabulate-length _ (length (a .signs .now)) in
-    outcome-of (a .plan .now) (a .us .now) (a .vs .now) x (a .room .now) _ _ _ _ _ _ _ _ _ _ (s .pre .0 .ready) (c .before .before .before .before .before .before .before .before .before .before .before .before .before .lay-signed .ensures) (ap (λ (k : ℕ). a .shape .scales + a .shape .n + k) t ∙ s .pre .0 .ends) (c .before .before .before .before .before .before .before .before .before .sweep .ensures .0) (c .before .before .before .before .before .before .before .before .before .sweep .ensures .1) (c .before .before .before .before .answer-pairs .ensures .0) (c .before .before .before .before .answer-pairs .ensures .1)
+    outcome-of (a .plan .now) (a .us .now) (a .vs .now) x (a .room .now) _ _ _ _ _ _ _ _ _ (s .pre .0 .ready) (c .before .before .before .before .before .before .before .before .before .lay-signed .ensures) (ap (λ (k : ℕ). a .shape .scales + a .shape .n + k) t ∙ s .pre .0 .ends) (c .before .before .before .before .sweep-and-answer .ensures .1)
 
 pub answer-signed-spec : {M : Type 1} → statement M
 answer-signed-spec =
     tie.close
     (tie.spec
-    add-lay-signed lay-signed-requires sweep-requires answer-pairs-requires (λ c. search needs) (λ c. search needs) returns)
+    add-lay-signed lay-signed-requires sweep-and-answer-requires (λ c. search needs) (λ c. search needs) returns)

@@ -43,7 +43,7 @@ impl Job {
     }
 
     pub fn room(&self) -> u64 {
-        lists::room(&self.edges(), &self.pairs()) as u64
+        lists::room(&self.edges(), &self.pairs(), false) as u64
     }
 
     /// Checks 1 to 8.

@@ -4,8 +4,8 @@ use mathlib.Core.Bool.{false}
 use lib.Ieee.{inf, binary64, div, ofBits, ofFields, odd}
 use Rattle.step_tables.specs.Laws.Constants.{zero-is}
 use Rattle.pair_correlations.specs.Sound.{soundly}
-use Rattle.pair_correlations.proofs.pair.is_sound.Statement.{statement}
-use Rattle.pair_correlations.proofs.pair.is_sound.Tie as tie
+use Rattle.pair_correlations.proofs.write.is_sound.Statement.{statement}
+use Rattle.pair_correlations.proofs.write.is_sound.Tie as tie
 
 infinite-is : div binary64 (ofBits binary64 4607182418800017408) (ofBits binary64 0) ≡ inf false
 unfolding div ofBits ofFields odd

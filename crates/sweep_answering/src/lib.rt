@@ -1,0 +1,110 @@
+// The backward sweep, and the direct pairs that it answers as it passes their later vertex.
+ghost use mathlib.Core.Path.{_≡_};
+ghost use Prim.Native.Nat.{_+_, _-_, _≤_, _<_, max};
+ghost use lib.ListN.{length, getD, drop};
+ghost use lib.Ieee.{Float};
+ghost use Rattle.transfer_matrix.specs.Job.{Job};
+ghost use Rattle.transfer_matrix.specs.Room.{later};
+ghost use Rattle.plan_steps.specs.Layout.{forwardPlace};
+ghost use Rattle.plan_layout.specs.Order.{Ordered};
+ghost use Rattle.vertex_step.specs.Ready.{Ready, PlanOf, Forward, Backward};
+ghost use Rattle.sweep_places.specs.Begun.{Stands};
+ghost use Rattle.sweep_places.specs.Kept.{Since};
+ghost use Rattle.sweep_answering.specs.Passing.{Passing, VertexPairs, AnsweredFrom};
+use pair_correlations::VertexPlaces;
+use pair_correlations::answer_direct;
+use plan_layout::later;
+use plan_steps::backward_place;
+use plan_steps::forward_place;
+use sweep_backward::NewestVector;
+use sweep_backward::begin_at;
+use sweep_backward::kept_from;
+use sweep_backward::sweep_down;
+use sweep_places::place_for;
+
+fn larger(a: usize, b: usize) -> usize
+    ensures { λ r. ⌜ r ≡ max a b ⌝ }
+{
+    if a < b { b } else { a }
+}
+
+// The later vertex of the last of the first `left` pairs; 0 where there is none.
+fn last_vertex(us: &[usize], vs: &[usize], order: &[usize], left: usize) -> usize
+    requires { ⌜ (length (now us) ≡ length (now vs)) × Ordered (now order) (length (now us)) × (left ≤ length (now order)) ⌝ }
+    ensures { λ r. ⌜ (0 < left → r ≡ later (now (us .entry)) (now (vs .entry)) (getD (now (order .entry)) (left - 1) 0)) ⌝ }
+{
+    if left == 0 {
+        return 0;
+    }
+    let p = order[left - 1];
+    later(us[p], vs[p])
+}
+
+// Where the pairs of vertex v begin that are the last of the first `left`.
+fn first_of(us: &[usize], vs: &[usize], order: &[usize], left: usize, v: usize) -> usize
+    requires { ⌜ (length (now us) ≡ length (now vs)) × Ordered (now order) (length (now us)) × (left ≤ length (now order)) ⌝ }
+    ensures { λ r. ⌜ VertexPairs (now (us .entry)) (now (vs .entry)) (now (order .entry)) left v r ⌝ }
+{
+    let mut k = left;
+    while k > 0 {
+        if last_vertex(us, vs, order, k) != v {
+            return k;
+        }
+        k -= 1;
+    }
+    k
+}
+
+// Sweeps from the last vertex to vertex 0 and keeps the backward vectors that the plan has a place for. The first `passing` pairs of the order
+// are answered on the way, from the newest vector; returns whether all their Z are finite and above zero. The kept vectors from vertex `changed`
+// on stand already, and are not worked out again where no pair asks for it; none stands where `changed` is the last vertex or more.
+pub fn sweep_answering(
+    room: &mut [f64],
+    plan: &[usize],
+    n: usize,
+    w: usize,
+    scales: usize,
+    elementwise: bool,
+    changed: usize,
+    us: &[usize],
+    vs: &[usize],
+    order: &[usize],
+    passing: usize,
+    results: &mut [f64],
+) -> bool
+    requires { ⌜ (1 ≤ n) × Ready (now plan) (length (now room)) n w scales × Passing (now plan) (now us) (now vs) (now order) n w passing
+        × (length (now results) ≡ length (now us)) ⌝ }
+    ensures { λ _. ⌜ Since (forwardPlace (now (plan .entry))) (now (room .entry)) (now (room .exit)) n w scales ⌝ }
+    ensures { λ r. ⌜ ((J : Job Float) → PlanOf J (now (plan .entry)) (drop (scales + n) (now (room .entry))) n w elementwise
+        → Forward J (now (plan .entry)) (now (room .entry)) w scales n → Stands J (now (plan .entry)) (now (room .entry)) n w changed
+        → Backward J (now (plan .entry)) (now (room .exit)) n w 0
+        × AnsweredFrom J (now (us .entry)) (now (vs .entry)) (now (order .entry)) 0 passing (now (results .exit)) r) ⌝ }
+{
+    let mut left = passing;
+    let mut sound = true;
+    let mut t = kept_from(
+        plan,
+        n,
+        larger(changed, last_vertex(us, vs, order, passing)),
+    );
+    let place = place_for(backward_place(plan, t), 1);
+    let mut newest = NewestVector {
+        place: place,
+        largest: begin_at(room, n, w, elementwise, t, place),
+    };
+    while left > 0 {
+        let v = last_vertex(us, vs, order, left);
+        newest = sweep_down(room, plan, n, w, scales, elementwise, t, newest, v);
+        let from = first_of(us, vs, order, left, v);
+        let at = VertexPlaces {
+            vertex: v,
+            forward: forward_place(plan, v),
+            backward: newest.place,
+        };
+        sound = answer_direct(room, w, us, vs, order, at, from, left, results) & sound;
+        t = v;
+        left = from;
+    }
+    sweep_down(room, plan, n, w, scales, elementwise, t, newest, 0);
+    sound
+}

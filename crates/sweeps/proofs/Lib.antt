@@ -1,0 +1,2 @@
+-- Laws that the proof of both arrangements cites.
+mod Arrangements
