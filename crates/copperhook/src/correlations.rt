@@ -4,7 +4,7 @@ ghost use Rattle.entry_correlations.specs.Correlations.{Correlated};
 ghost use Rattle.c_values.specs.Options.{optionsNumbered};
 use c_values::options_numbered;
 
-// As `glass::correlations`.
+// As `entry_correlations::correlations`.
 #[no_mangle]
 pub extern "C" fn copperhook_correlations(
     n: usize,

@@ -10,7 +10,7 @@ ghost use Rattle.forest.specs.FreeEdges.{freeCount};
 ghost use Rattle.graph.specs.Graphs.{ComponentMarks};
 use c_values::tell_number;
 
-// As `lattice::window`, the window in `window`; where the call is refused, that keeps what it held.
+// As `graph::window`, the window in `window`; where the call is refused, that keeps what it held.
 #[no_mangle]
 pub extern "C" fn copperhook_window(
     n: usize,
@@ -27,7 +27,7 @@ pub extern "C" fn copperhook_window(
     tell_number(answer, window)
 }
 
-// As `lattice::n_components`, how many there are in `count`; `marks` has a bit for the lowest vertex of each.
+// As `graph::n_components`, how many there are in `count`; `marks` has a bit for the lowest vertex of each.
 #[no_mangle]
 pub extern "C" fn copperhook_n_components(
     n: usize,
@@ -48,7 +48,7 @@ pub extern "C" fn copperhook_n_components(
     tell_number(answer, count)
 }
 
-// As `lattice::cyclomatic`, how many edges are free in `free`.
+// As `graph::cyclomatic`, how many edges are free in `free`.
 #[no_mangle]
 pub extern "C" fn copperhook_cyclomatic(
     n: usize,

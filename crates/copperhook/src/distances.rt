@@ -6,7 +6,7 @@ ghost use Rattle.refusals.specs.Refusal.{refusal, ofDistance};
 ghost use Rattle.copperhook.specs.Distances.{Told};
 use c_values::tell_distance;
 
-// As `lattice::distance`: `joined` tells whether a walk leads from u to v, and `edges` the least number of its edges. Where the call is
+// As `graph::distance`: `joined` tells whether a walk leads from u to v, and `edges` the least number of its edges. Where the call is
 // refused both keep what they held, and where no walk leads there `edges` does.
 #[no_mangle]
 pub extern "C" fn copperhook_distance(

@@ -9,7 +9,7 @@ ghost use Rattle.copperhook.specs.Strips.{StripEdges};
 use c_values::strip_numbered;
 use c_values::tell_number;
 
-// As `raw_edges::raw_edges`, how many there are in `edges`; where the call is refused, that keeps what it held.
+// As `strip_edges::raw_edges`, how many there are in `edges`; where the call is refused, that keeps what it held.
 #[no_mangle]
 pub extern "C" fn copperhook_raw_edges(
     kind: usize,
@@ -29,7 +29,7 @@ pub extern "C" fn copperhook_raw_edges(
     tell_number(answer, edges)
 }
 
-// As `dilution::diluted`, how many edges there are in `edges`; where the call is refused, that keeps what it held.
+// As `strip_dilution::diluted`, how many edges there are in `edges`; where the call is refused, that keeps what it held.
 #[no_mangle]
 pub extern "C" fn copperhook_diluted(
     kind: usize,

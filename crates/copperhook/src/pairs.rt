@@ -6,7 +6,7 @@ ghost use Rattle.copperhook.specs.PairSets.{Paired};
 use c_values::strip_numbered;
 use c_values::tell_number;
 
-// As `pairset::pairs`, how many there are in `pairs`; where the call is refused, that keeps what it held.
+// As `strip_pairs::pairs`, how many there are in `pairs`; where the call is refused, that keeps what it held.
 #[no_mangle]
 pub extern "C" fn copperhook_pairs(
     kind: usize,

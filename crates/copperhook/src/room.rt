@@ -11,7 +11,7 @@ ghost use Rattle.c_values.specs.Options.{arrangementIn};
 use c_values::arrangement_in;
 use c_values::tell_number;
 
-// As `refuse::room`, the number of doubles in `room`; of the options it reads the arrangement alone; where the call is refused, that keeps what it held.
+// As `job_checks::room`, the number of doubles in `room`; of the options it reads the arrangement alone; where the call is refused, that keeps what it held.
 #[no_mangle]
 pub extern "C" fn copperhook_room(
     n: usize,

@@ -6,7 +6,7 @@ ghost use Rattle.c_values.specs.Options.{optionsNumbered};
 use c_values::options_numbered;
 use c_values::tell_number;
 
-// As `exhaustive::exhaustive`, how many configurations there are in `count`; where the call is refused, that keeps what it held.
+// As `entry_exhaustive::exhaustive`, how many configurations there are in `count`; where the call is refused, that keeps what it held.
 #[no_mangle]
 pub extern "C" fn copperhook_exhaustive(
     n: usize,
@@ -53,7 +53,7 @@ pub extern "C" fn copperhook_exhaustive(
     tell_number(answer, count)
 }
 
-// As `storing::exhaustive_c`, likewise.
+// As `entry_exhaustive_c::exhaustive_c`, likewise.
 #[no_mangle]
 pub extern "C" fn copperhook_exhaustive_c(
     n: usize,
@@ -98,7 +98,7 @@ pub extern "C" fn copperhook_exhaustive_c(
     tell_number(answer, count)
 }
 
-// As `sampling::sample`, likewise.
+// As `entry_sample::sample`, likewise.
 #[no_mangle]
 pub extern "C" fn copperhook_sample(
     n: usize,

@@ -10,7 +10,7 @@ ghost use Rattle.refusals.specs.Refusal.{refusal, ofGraphWithBuffers};
 ghost use Rattle.refusals.specs.Answers.{left};
 ghost use Rattle.graph.specs.Graphs.{componentNames};
 
-// As `lattice::spanning_forest`, with its free edges numbered.
+// As `graph::spanning_forest`, with its free edges numbered.
 #[no_mangle]
 pub extern "C" fn copperhook_spanning_forest(
     n: usize,
@@ -24,7 +24,7 @@ pub extern "C" fn copperhook_spanning_forest(
     graph::spanning_forest(n, a, b, m, bits)
 }
 
-// As `lattice::components`.
+// As `graph::components`.
 #[no_mangle]
 pub extern "C" fn copperhook_components(
     n: usize,
