@@ -3,4 +3,5 @@ pub mod Lists
 pub mod Alike
 pub mod Given
 pub mod Halves
+pub mod Mirror
 pub mod Summed
