@@ -4,4 +4,5 @@ pub mod Alike
 pub mod Given
 pub mod Halves
 pub mod Mirror
+pub mod Kept
 pub mod Summed

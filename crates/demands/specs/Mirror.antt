@@ -1,6 +1,7 @@
 -- The mirror rule: where every spin is flipped, index k becomes 2^window - 1 - k. What it says of the vectors of one job and its pairs; and of the halves in
 -- the room, which stand for these vectors and for no others.
-use mathlib.Core.Path.{_≡_, sym}
+use mathlib.Core.Path.{_≡_, sym, subst}
+use mathlib.Core.Bool.{true}
 use mathlib.Core.List.{List}
 use Prim.Native.Nat.{ℕ, _+_, _*_, _-_, _^_, _≤_, _<_}
 use native.Mathlib.Omega.{arith}
@@ -13,7 +14,7 @@ use Rattle.rounding.specs.Alike.{Alike}
 use Rattle.rounding.specs.Laws.Alike.{alike-is, alike-sym, alike-neg}
 use Rattle.rounding.specs.Laws.Negation.{neg-neg}
 use Rattle.transfer_matrix.specs.Job.{Job}
-use Rattle.transfer_matrix.specs.Room.{earlier, later}
+use Rattle.transfer_matrix.specs.Room.{earlier, later, Arrangement, keepsForward, keepsBackward}
 use Rattle.transfer_matrix.specs.Rounded.{ieee}
 use Rattle.transfer_matrix.specs.Sweep as S
 use Rattle.bounds.specs.Bounds.{forward-finite, backward-finite, propagated-under}
@@ -27,6 +28,7 @@ use Rattle.propagation.specs.Current.{Reached, CurrentKnown}
 use Rattle.propagation.specs.declared.current.CurrentVector.{CurrentVector}
 use Rattle.pair_correlations.specs.Aim.{VertexHalves}
 use Rattle.demands.specs.OneJob.{Sound, Z-positive}
+use Rattle.demands.specs.Laws.Kept.{forward-for, backward-for}
 use Rattle.demands.specs.Laws.Mirror.{alike-equal, forwards-symmetric, backwards-symmetric, propagated-opposite}
 
 -- The index of window w with every spin flipped.
@@ -73,6 +75,19 @@ module _ {J : Job Float} {us vs : List ℕ} (ok : Sound J us vs) where
         backward-same = λ t k b. backwards-symmetric J wide t .flipped k b;
         propagated-alike = λ u t k b. propagated-opposite J wide u t k b;
       }
+
+-- The vectors that are kept for a job's pairs are among these, in either arrangement.
+module _ {J : Job Float} {us vs : List ℕ} (m : Mirrored J us vs) where
+  pub kept-forward : (t k : ℕ) → keepsForward (J .window) us vs t ≡ true → k < 2 ^ J .window
+      → T (eq (S.at ieee (S.forward ieee J t) (mirror (J .window) k)) (S.at ieee (S.forward ieee J t) k))
+  kept-forward t k e b = forward-for (J .window) us vs t (λ i l h. m .forward i l t k h b) e
+
+  pub kept-backward : (arrangement : Arrangement) (t k : ℕ) → keepsBackward arrangement (J .window) us vs t ≡ true → k < 2 ^ J .window
+      → T (eq (S.at ieee (S.backward ieee J t) (mirror (J .window) k)) (S.at ieee (S.backward ieee J t) k))
+  kept-backward arrangement t k e b =
+      backward-for (J .window) us vs t arrangement
+      (λ i l h.
+      subst (λ (v : ℕ). T (eq (S.at ieee (S.backward ieee J v) (mirror (J .window) k)) (S.at ieee (S.backward ieee J v) k))) h (m .backward i l k b)) e
 
 -- ---- the room: a place holds 2 ^ (w - 1) numbers, the lower half of a vector
 
