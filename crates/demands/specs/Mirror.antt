@@ -4,7 +4,6 @@ use mathlib.Core.Path.{_≡_, sym, subst}
 use mathlib.Core.Bool.{true}
 use mathlib.Core.List.{List}
 use Prim.Native.Nat.{ℕ, _+_, _*_, _-_, _^_, _≤_, _<_}
-use native.Mathlib.Omega.{arith}
 use lib.Dec.{T}
 use lib.Ieee.{Float, nan, neg, eq}
 use lib.Ieee.Scale.{finite}
@@ -39,19 +38,19 @@ mirror w k = 2 ^ w - 1 - k
 pub record Mirrored (J : Job Float) (us vs : List ℕ) : Type 0 where
   -- Each forward vector up to a pair's later vertex, so each that is kept or used for a pair, has equal entries at k and at its mirror,
   pub forward : (i : ℕ) → i < length us → (t k : ℕ) → t ≤ later us vs i → k < 2 ^ J .window
-      → T (eq (S.at ieee (S.forward ieee J t) (mirror (J .window) k)) (S.at ieee (S.forward ieee J t) k))
+      → T (eq (S.at ieee (S.forward ieee J t) k) (S.at ieee (S.forward ieee J t) (mirror (J .window) k)))
   -- so has the backward vector at the later vertex, kept or used in passing,
   pub backward : (i : ℕ) → i < length us → (k : ℕ) → k < 2 ^ J .window
-      → T (eq (S.at ieee (S.backward ieee J (later us vs i)) (mirror (J .window) k)) (S.at ieee (S.backward ieee J (later us vs i)) k))
+      → T (eq (S.at ieee (S.backward ieee J (later us vs i)) k) (S.at ieee (S.backward ieee J (later us vs i)) (mirror (J .window) k)))
   -- and each propagated vector, from the earlier vertex on up to its last pair, has opposite ones.
   pub propagated : (i : ℕ) → i < length us → (t k : ℕ) → earlier us vs i + t ≤ later us vs i → k < 2 ^ J .window
-      → T (eq (S.at ieee (S.propagated ieee J (earlier us vs i) t) (mirror (J .window) k)) (neg (S.at ieee (S.propagated ieee J (earlier us vs i) t) k)))
+      → T (eq (S.at ieee (S.propagated ieee J (earlier us vs i) t) k) (neg (S.at ieee (S.propagated ieee J (earlier us vs i) t) (mirror (J .window) k))))
   -- At every vertex, whatever overflows: forward and backward entries are the same bits,
-  pub forward-same : (t k : ℕ) → k < 2 ^ J .window → S.at ieee (S.forward ieee J t) (mirror (J .window) k) ≡ S.at ieee (S.forward ieee J t) k
-  pub backward-same : (t k : ℕ) → k < 2 ^ J .window → S.at ieee (S.backward ieee J t) (mirror (J .window) k) ≡ S.at ieee (S.backward ieee J t) k
+  pub forward-same : (t k : ℕ) → k < 2 ^ J .window → S.at ieee (S.forward ieee J t) k ≡ S.at ieee (S.forward ieee J t) (mirror (J .window) k)
+  pub backward-same : (t k : ℕ) → k < 2 ^ J .window → S.at ieee (S.backward ieee J t) k ≡ S.at ieee (S.backward ieee J t) (mirror (J .window) k)
   -- and propagated ones the negated bits, but for the signs of zeros.
   pub propagated-alike : (u t k : ℕ) → k < 2 ^ J .window
-      → Alike (S.at ieee (S.propagated ieee J u t) (mirror (J .window) k)) (neg (S.at ieee (S.propagated ieee J u t) k))
+      → Alike (S.at ieee (S.propagated ieee J u t) k) (neg (S.at ieee (S.propagated ieee J u t) (mirror (J .window) k)))
 
 module _ {J : Job Float} {us vs : List ℕ} (ok : Sound J us vs) where
   Z-finite : (i : ℕ) → i < length us → T (finite (S.Z ieee J (later us vs i)))
@@ -62,32 +61,30 @@ module _ {J : Job Float} {us vs : List ℕ} (ok : Sound J us vs) where
       let wide = ok .checked .window in
       record {
         forward = λ i l t k h b.
-            alike-equal (alike-is (forwards-symmetric J wide t .flipped k b))
-            (forward-finite J (ok .checked) (later us vs i) t h (Z-finite i l) (mirror (J .window) k) (omega arith));
+            alike-equal (alike-is (sym (forwards-symmetric J wide t .flipped k b))) (forward-finite J (ok .checked) (later us vs i) t h (Z-finite i l) k b);
         backward = λ i l k b.
-            alike-equal (alike-is (backwards-symmetric J wide (later us vs i) .flipped k b))
-            (backward-finite J (ok .checked) (later us vs i) (Z-finite i l) (mirror (J .window) k) (omega arith));
+            alike-equal (alike-is (sym (backwards-symmetric J wide (later us vs i) .flipped k b))) (backward-finite J (ok .checked) (later us vs i) (Z-finite i l) k b);
         propagated = λ i l t k h b.
             alike-equal (propagated-opposite J wide (earlier us vs i) t k b)
-            (propagated-under J (ok .checked) (earlier us vs i) t (mirror (J .window) k) .size
-            (forward-finite J (ok .checked) (later us vs i) (earlier us vs i + t) h (Z-finite i l) (mirror (J .window) k) (omega arith)) .isFinite);
-        forward-same = λ t k b. forwards-symmetric J wide t .flipped k b;
-        backward-same = λ t k b. backwards-symmetric J wide t .flipped k b;
+            (propagated-under J (ok .checked) (earlier us vs i) t k .size
+            (forward-finite J (ok .checked) (later us vs i) (earlier us vs i + t) h (Z-finite i l) k b) .isFinite);
+        forward-same = λ t k b. sym (forwards-symmetric J wide t .flipped k b);
+        backward-same = λ t k b. sym (backwards-symmetric J wide t .flipped k b);
         propagated-alike = λ u t k b. propagated-opposite J wide u t k b;
       }
 
 -- The vectors that are kept for a job's pairs are among these, in either arrangement.
 module _ {J : Job Float} {us vs : List ℕ} (m : Mirrored J us vs) where
   pub kept-forward : (t k : ℕ) → keepsForward (J .window) us vs t ≡ true → k < 2 ^ J .window
-      → T (eq (S.at ieee (S.forward ieee J t) (mirror (J .window) k)) (S.at ieee (S.forward ieee J t) k))
+      → T (eq (S.at ieee (S.forward ieee J t) k) (S.at ieee (S.forward ieee J t) (mirror (J .window) k)))
   kept-forward t k e b = forward-for (J .window) us vs t (λ i l h. m .forward i l t k h b) e
 
   pub kept-backward : (arrangement : Arrangement) (t k : ℕ) → keepsBackward arrangement (J .window) us vs t ≡ true → k < 2 ^ J .window
-      → T (eq (S.at ieee (S.backward ieee J t) (mirror (J .window) k)) (S.at ieee (S.backward ieee J t) k))
+      → T (eq (S.at ieee (S.backward ieee J t) k) (S.at ieee (S.backward ieee J t) (mirror (J .window) k)))
   kept-backward arrangement t k e b =
       backward-for (J .window) us vs t arrangement
       (λ i l h.
-      subst (λ (v : ℕ). T (eq (S.at ieee (S.backward ieee J v) (mirror (J .window) k)) (S.at ieee (S.backward ieee J v) k))) h (m .backward i l k b)) e
+      subst (λ (v : ℕ). T (eq (S.at ieee (S.backward ieee J v) k) (S.at ieee (S.backward ieee J v) (mirror (J .window) k)))) h (m .backward i l k b)) e
 
 -- ---- the room: a place holds 2 ^ (w - 1) numbers, the lower half of a vector
 

@@ -51,17 +51,18 @@ alike-equal (zeros {s} {t} {d} {e}) h = level-noughts s t (0 * up d * down e) (0
 -- ---- a vector of an antisymmetric half
 
 pub opposite : (w : ℕ) {h : ℕ → Float} {v : List Float} → 1 ≤ w → AntisymmetricHalf w h v → (k : ℕ) → k < 2 ^ w
-    → Alike (S.at ieee v (2 ^ w - 1 - k)) (neg (S.at ieee v k))
+    → Alike (S.at ieee v k) (neg (S.at ieee v (2 ^ w - 1 - k)))
 opposite w {h} {v} wide e = by-halves w wide _ low high
   where
-    low : (j : ℕ) → j < 2 ^ (w - 1) → Alike (S.at ieee v (2 ^ w - 1 - j)) (neg (S.at ieee v j))
-    low j b = alike-trans (e .high j b) (alike-sym (alike-neg (e .low j b)))
+    low : (j : ℕ) → j < 2 ^ (w - 1) → Alike (S.at ieee v j) (neg (S.at ieee v (2 ^ w - 1 - j)))
+    low j b =
+        let turned : Alike (neg (S.at ieee v (2 ^ w - 1 - j))) (h j) = rw neg-neg at (alike-neg (e .high j b)) in
+        alike-trans (e .low j b) (alike-sym turned)
 
-    high : (j : ℕ) → j < 2 ^ (w - 1) → Alike (S.at ieee v (2 ^ w - 1 - (2 ^ w - 1 - j))) (neg (S.at ieee v (2 ^ w - 1 - j)))
+    high : (j : ℕ) → j < 2 ^ (w - 1) → Alike (S.at ieee v (2 ^ w - 1 - j)) (neg (S.at ieee v (2 ^ w - 1 - (2 ^ w - 1 - j))))
     high j b =
         let i : 2 ^ w - 1 - (2 ^ w - 1 - j) ≡ j = omega (arith, pow-double w wide) in
-        let turned : Alike (neg (S.at ieee v (2 ^ w - 1 - j))) (h j) = rw neg-neg at (alike-neg (e .high j b)) in
-        rw i (alike-trans (e .low j b) (alike-sym turned))
+        rw i (alike-trans (e .high j b) (alike-sym (alike-neg (e .low j b))))
 
 -- ---- the near edges of a vertex are shorter than the window
 
@@ -118,5 +119,5 @@ module _ (J : Job Float) (wide : 1 ≤ J .window) where
       (near-low (u + suc i)) (propagated-antisymmetric u i)
 
   pub propagated-opposite : (u i k : ℕ) → k < 2 ^ J .window
-      → Alike (S.at ieee (S.propagated ieee J u i) (2 ^ J .window - 1 - k)) (neg (S.at ieee (S.propagated ieee J u i) k))
+      → Alike (S.at ieee (S.propagated ieee J u i) k) (neg (S.at ieee (S.propagated ieee J u i) (2 ^ J .window - 1 - k)))
   propagated-opposite u i = opposite (J .window) wide (propagated-antisymmetric u i)
