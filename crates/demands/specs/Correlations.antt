@@ -35,6 +35,7 @@ use Rattle.error_bound.specs.Laws.Margin.{bits-few, near-one-all}
 use Rattle.demands.specs.Laws.Lists.{settled-at}
 use Rattle.demands.specs.Laws.Given.{checked-given}
 use Rattle.demands.specs.OneJob.{InUnit, Exact, Bounded, Sound, Z-positive, exact, bounded}
+use Rattle.demands.specs.Mirror.{Mirrored, mirrored}
 use Rattle.demands.specs.Accurate.{nearOf, bound-known, made-close, close-within}
 
 module _ {n floor : ℕ} {a b : List ℕ} {m : List Float} {us vs : List ℕ} {factors : List Float} {manner : Manner} {arrangement : Arrangement} {caller : Caller} {r : ℕ}
@@ -76,6 +77,10 @@ module _ {n floor : ℕ} {a b : List ℕ} {m : List Float} {us vs : List ℕ} {f
   -- and no entry of a propagated vector exceeds the forward vector's in size, nor one of the half that is stored.
   pub result-within : Bounded job us vs
   result-within = bounded result-sound
+
+  -- Mirrored: forward and backward vectors are the same with every spin flipped, propagated ones opposite.
+  pub result-mirrored : Mirrored job us vs
+  result-mirrored = mirrored result-sound
 
   -- Accurate: where `error_bound` answers a bound for the same graph, floor and factors, each stored result is within it of the textbook ratio.
   pub result-accurate : (bound : Float) → errorBoundOf n floor a b m [] factors false ≡ Within bound → (i : ℕ) → i < length us

@@ -42,6 +42,7 @@ use Rattle.demands.specs.Configurations.{accepted-number, pair-inside, b
 use Rattle.demands.specs.Accurate.{Accurate}
 use Rattle.demands.specs.AccurateTotals as A
 use Rattle.demands.specs.OneJob.{Exact, Bounded, Sound, answerable, exact, bounded}
+use Rattle.demands.specs.Mirror.{Mirrored, mirrored}
 
 module _ {n floor : ℕ} {a b : List ℕ} {m : List Float} {us vs : List ℕ} {betas factors : List Float} {manner : Manner} {arrangement : Arrangement} {caller : Caller}
     {squares squares′ fourths fourths′ work work′ : List Float} {count : ℕ}
@@ -104,6 +105,10 @@ module _ {n floor : ℕ} {a b : List ℕ} {m : List Float} {us vs : List ℕ} {b
   -- each correlation summed lies in [-1, 1], and no entry of a propagated vector exceeds the forward vector's in size.
   pub enumeration-within : (x beta : ℕ) → x < 2 ^ free → beta < length betas → Bounded (configuration x beta) us vs
   enumeration-within x beta h l = bounded (enumeration-sound x beta h l)
+
+  -- Mirrored: forward and backward vectors are the same with every spin flipped, propagated ones opposite.
+  pub enumeration-mirrored : (x beta : ℕ) → x < 2 ^ free → beta < length betas → Mirrored (configuration x beta) us vs
+  enumeration-mirrored x beta h l = mirrored (enumeration-sound x beta h l)
 
   -- Accurate: where `totals_error_bound` answers a bound for the same graph, floor, betas and factors,
   module _ (bound : Float) (answered : errorBoundOf n floor a b m betas factors true ≡ Within bound) where

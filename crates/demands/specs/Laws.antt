@@ -3,4 +3,6 @@ pub mod Lists
 pub mod Alike
 pub mod Given
 pub mod Halves
+pub mod Mirror
+pub mod Kept
 pub mod Summed

@@ -1,5 +1,6 @@
 -- What the demands say of a call, theorem by theorem.
 pub mod OneJob
+pub mod Mirror
 pub mod Accurate
 pub mod Correlations
 pub mod Configurations

@@ -52,6 +52,7 @@ use Rattle.demands.specs.Configurations.{accepted-number, pair-inside, b
 use Rattle.demands.specs.Accurate.{Accurate}
 use Rattle.demands.specs.AccurateTotals as A
 use Rattle.demands.specs.OneJob.{Exact, Bounded, Sound, answerable, exact, bounded}
+use Rattle.demands.specs.Mirror.{Mirrored, mirrored}
 
 module _ {n floor : ℕ} {a b : List ℕ} {m : List Float} {us vs : List ℕ} {betas factors : List Float} {manner : Manner} {arrangement : Arrangement} {caller : Caller} {seed from to samples : ℕ}
     {squares squares′ fourths fourths′ work work′ : List Float} {count : ℕ}
@@ -130,6 +131,10 @@ module _ {n floor : ℕ} {a b : List ℕ} {m : List Float} {us vs : List ℕ} {b
   -- each correlation summed lies in [-1, 1], and no entry of a propagated vector exceeds the forward vector's in size.
   pub sampling-within : (chunk j beta : ℕ) → from ≤ chunk → chunk < to → j < samples → beta < length betas → Bounded (drawn chunk j beta) us vs
   sampling-within chunk j beta u v s l = bounded (sampling-sound chunk j beta u v s l)
+
+  -- Mirrored: forward and backward vectors are the same with every spin flipped, propagated ones opposite.
+  pub sampling-mirrored : (chunk j beta : ℕ) → from ≤ chunk → chunk < to → j < samples → beta < length betas → Mirrored (drawn chunk j beta) us vs
+  sampling-mirrored chunk j beta u v s l = mirrored (sampling-sound chunk j beta u v s l)
 
   -- Accurate: where `totals_error_bound` answers a bound for the same graph, floor, betas and factors,
   module _ (bound : Float) (answered : errorBoundOf n floor a b m betas factors true ≡ Within bound) where

@@ -37,6 +37,7 @@ use Rattle.demands.specs.Configurations as C
 use Rattle.demands.specs.Configurations.{accepted-number, pair-inside, beta-inside, enumeration-facts, configuration-sound}
 use Rattle.demands.specs.AccurateTotals.{exactly, signed-accurate}
 use Rattle.demands.specs.OneJob.{InUnit, Exact, Bounded, Sound, exact, bounded}
+use Rattle.demands.specs.Mirror.{Mirrored, mirrored}
 
 module _ {n floor : ℕ} {a b : List ℕ} {m : List Float} {us vs : List ℕ} {betas factors : List Float} {manner : Manner} {arrangement : Arrangement} {caller : Caller}
     {stored stored′ work work′ : List Float} {count : ℕ}
@@ -104,6 +105,10 @@ module _ {n floor : ℕ} {a b : List ℕ} {m : List Float} {us vs : List ℕ} {b
   -- and no entry of a propagated vector exceeds the forward vector's in size.
   pub stored-within : (x beta : ℕ) → x < 2 ^ free → beta < length betas → Bounded (configuration x beta) us vs
   stored-within x beta h l = bounded (storing-sound x beta h l)
+
+  -- Mirrored: forward and backward vectors are the same with every spin flipped, propagated ones opposite.
+  pub stored-mirrored : (x beta : ℕ) → x < 2 ^ free → beta < length betas → Mirrored (configuration x beta) us vs
+  stored-mirrored x beta h l = mirrored (storing-sound x beta h l)
 
   -- Accurate: where `totals_error_bound` answers a bound for the same graph, floor, betas and factors, each stored double is within it of the
   -- textbook ratio.

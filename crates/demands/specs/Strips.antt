@@ -20,16 +20,18 @@ use Rattle.error_bound.specs.declared.answer.ErrorBound.{ErrorBound}
 use Rattle.error_bound.specs.declared.answer.ErrorBound.the-variants.{Within}
 use Rattle.demands.specs.Configurations.{free, configuration, drawnConfiguration}
 use Rattle.demands.specs.OneJob.{Exact, Bounded}
+use Rattle.demands.specs.Mirror.{Mirrored}
 use Rattle.demands.specs.Accurate.{Accurate}
-use Rattle.demands.specs.Correlations.{result-is, result-exact, result-within, result-accurate}
-use Rattle.demands.specs.Exhaustive.{enumeration-exact, enumeration-bounded, enumeration-within, enumeration-accurate}
-use Rattle.demands.specs.Storing.{stored-exact, stored-at, stored-within, stored-accurate}
-use Rattle.demands.specs.Sampling.{sampling-exact, sampling-bounded, sampling-within, sampling-accurate}
+use Rattle.demands.specs.Correlations.{result-is, result-exact, result-within, result-mirrored, result-accurate}
+use Rattle.demands.specs.Exhaustive.{enumeration-exact, enumeration-bounded, enumeration-within, enumeration-mirrored, enumeration-accurate}
+use Rattle.demands.specs.Storing.{stored-exact, stored-at, stored-within, stored-mirrored, stored-accurate}
+use Rattle.demands.specs.Sampling.{sampling-exact, sampling-bounded, sampling-within, sampling-mirrored, sampling-accurate}
 
--- Demands 2 and 3 of a job and its pairs, and how far its answers are from the textbook's, where a bound is told.
+-- Demands 2 and 3 of a job and its pairs, the mirror rule, and how far its answers are from the textbook's, where a bound is told.
 pub record Demanded (J : Job Float) (us vs : List ℕ) (told : ErrorBound) : Type 0 where
   pub exact : Exact J us vs
   pub bounded : Bounded J us vs
+  pub mirrored : Mirrored J us vs
   pub accurate : (bound : Float) → told ≡ Within bound → Accurate J us vs bound
 
 -- A strip, and what else its jobs have. The magnitudes may be 1.0 throughout, drawn by dilution, or the caller's own.
@@ -50,6 +52,7 @@ module _ (s : Strip) (floor : ℕ) (m : List Float) (us vs : List ℕ) (factors 
       record {
         exact = result-exact call refl;
         bounded = result-within call refl;
+        mirrored = result-mirrored call refl;
         accurate = λ bound told. record { correlation = λ i l. rw (result-is call refl i l) at (result-accurate call refl bound told i l) };
       }
 
@@ -65,6 +68,7 @@ module _ (s : Strip) (floor : ℕ) (m : List Float) (us vs : List ℕ) (factors 
         record {
           exact = enumeration-exact call x beta h l;
           bounded = enumeration-within call x beta h l;
+          mirrored = enumeration-mirrored call x beta h l;
           accurate = λ bound e. enumeration-accurate call bound e x beta h l;
         }
 
@@ -82,6 +86,7 @@ module _ (s : Strip) (floor : ℕ) (m : List Float) (us vs : List ℕ) (factors 
         record {
           exact = stored-exact call x beta h l;
           bounded = stored-within call x beta h l;
+          mirrored = stored-mirrored call x beta h l;
           accurate = λ bound e. record { correlation = λ p k. rw (stored-at call x beta p h l k) at (stored-accurate call bound e x beta p h l k) };
         }
 
@@ -94,6 +99,7 @@ module _ (s : Strip) (floor : ℕ) (m : List Float) (us vs : List ℕ) (factors 
         record {
           exact = sampling-exact call chunk j beta u v i l;
           bounded = sampling-within call chunk j beta u v i l;
+          mirrored = sampling-mirrored call chunk j beta u v i l;
           accurate = λ bound e. sampling-accurate call bound e chunk j beta u v i l;
         }
 
