@@ -209,9 +209,13 @@ pub(crate) fn less_cleared_at(
     }
 }
 
-// Whether work memory was short in the arrangement that keeps every vector: the other may have enough, and is not compared.
-pub(crate) fn is_short(list: &[u8], start: usize) -> bool {
-    refusal_at(list, start) == SHORT
+// The arrangement of the second call: less room, but the first again where work memory was short. With less room it might be enough, and the call could
+// go through more configurations than a lifetime has time for.
+pub(crate) fn other_arrangement(list: &[u8], start: usize) -> Arrangement {
+    if refusal_at(list, start) == SHORT {
+        return Arrangement::KeepAll;
+    }
+    Arrangement::LessRoom
 }
 
 // Whether the results, which are stored at two places, and the work memory, so much of it cleared, are what they should be.

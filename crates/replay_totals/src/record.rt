@@ -1,9 +1,9 @@
 // One record: its lists are loaded and lent to the call.
 use crate::call::answers;
 use crate::call::cleared_at;
-use crate::call::is_short;
 use crate::call::left_as_stored;
 use crate::call::less_cleared_at;
+use crate::call::other_arrangement;
 use crate::call::refusal_at;
 use plan_layout::Arrangement;
 use replay_format::Counted;
@@ -114,7 +114,7 @@ fn replay(list: &[u8], start: usize, work: &mut [f64]) -> Replayed {
     let called_less = answers(
         list,
         start,
-        Arrangement::LessRoom,
+        other_arrangement(list, start),
         a,
         b,
         m,
@@ -137,7 +137,7 @@ fn replay(list: &[u8], start: usize, work: &mut [f64]) -> Replayed {
         less_cleared_at(list, start, a, b, m, us, vs),
     );
     Replayed {
-        same: called & kept & (called_less & less | is_short(list, start)),
+        same: called & kept & called_less & less,
         next: results.next,
     }
 }
