@@ -17,12 +17,19 @@ use plan_layout::later;
 use plan_steps::forward_place;
 use sweep_backward::begin_from;
 use sweep_backward::go_on_from;
+use sweep_backward::kept_from;
 use sweep_backward::sweep_down;
 
 fn larger(a: usize, b: usize) -> usize
     ensures { λ r. ⌜ r ≡ max a b ⌝ }
 {
     if a < b { b } else { a }
+}
+
+fn smaller(a: usize, b: usize) -> usize
+    ensures { λ r. ⌜ (r ≤ a) × (r ≤ b) ⌝ }
+{
+    if a < b { a } else { b }
 }
 
 // The later vertex of the last of the first `left` pairs; 0 where there is none.
@@ -52,9 +59,10 @@ fn first_of(us: &[usize], vs: &[usize], order: &[usize], left: usize, v: usize) 
     k
 }
 
-// Sweeps from the last vertex to vertex 0 and keeps the backward vectors that the plan has a place for. The first `passing` pairs of the order
-// are answered on the way, from the newest vector; returns whether all their Z are finite and above zero. The kept vectors from vertex `changed`
-// on stand already: from pair to pair the sweep goes on from the nearest of them. None stands where `changed` is the last vertex or more.
+// Sweeps back from the last vertex, down to the first of the backward vectors that the plan has a place for, and keeps these. The first `passing`
+// pairs of the order are answered on the way, from the newest vector; returns whether all their Z are finite and above zero. The kept vectors
+// from vertex `changed` on stand already: from pair to pair the sweep goes on from the nearest of them. None stands where `changed` is the last
+// vertex or more.
 pub fn sweep_answering(
     room: &mut [f64],
     plan: &[usize],
@@ -116,6 +124,7 @@ pub fn sweep_answering(
         let next = larger(changed, last_vertex(us, vs, order, left));
         at = go_on_from(room, plan, n, w, scales, elementwise, next, newest);
     }
+    let stop = smaller(at.vertex, kept_from(plan, n, 0));
     sweep_down(
         room,
         plan,
@@ -124,7 +133,7 @@ pub fn sweep_answering(
         scales,
         elementwise,
         at,
-        0,
+        stop,
         &mut bits,
         &mut up,
         &mut down,

@@ -269,6 +269,17 @@ module _ {plan : List ℕ} {r₀ r : List Float} {n w scales : ℕ} {elementwise
             (standing-now J of given k (omega (arith, s .from)) (s .below));
       }
 
+-- below the first vertex that has a place nothing is kept
+pub kept-from-first : {J : Job Float} {plan : List ℕ} {r : List Float} {n w t k : ℕ} → KeptFrom plan n 0 t → k ≤ t → Backward J plan r n w k
+    → Backward J plan r n w 0
+kept-from-first {k = k} from below g =
+    record {
+      vectors = λ u a b p.
+          dite (decLt u k)
+          (λ l. absurd (omega (arith, from .first u (omega arith) (omega arith), p)))
+          (λ l. g .vectors u (omega arith) b p);
+    }
+
 -- one sweep after another
 pub invariant-then : {plan : List ℕ} {r₀ r r₂ : List Float} {n w scales : ℕ} {elementwise : Bool} {Given : Job Float → Type 0} {t src : ℕ} {most : Float}
     {u dst : ℕ} {most′ : Float} → u ≤ t → BackwardInvariant plan r₀ r n w scales elementwise Given t src most

@@ -41,7 +41,7 @@ fn backward_last(plan: &[usize], w: usize, elementwise: bool, stop: usize, t: us
 }
 
 // The first vertex from c on whose backward vector has a place, or the last vertex.
-fn kept_from(plan: &[usize], n: usize, c: usize) -> usize
+pub fn kept_from(plan: &[usize], n: usize, c: usize) -> usize
     requires { ⌜ Holds (now plan) n × (1 ≤ n) ⌝ }
     ensures { λ r. ⌜ KeptFrom (now (plan .entry)) n c r ⌝ }
 {

@@ -18,11 +18,12 @@ use Rattle.vertex_step.specs.Ready.{Backward}
 abbrev pub Stands : Job Float → List ℕ → List Float → (n w c : ℕ) → Type 0
 Stands J plan r n w c = c + 1 < n → Backward J plan r n w c
 
--- t is the last of n vertices, or one from c on whose backward vector has a place.
+-- t is the last of n vertices, or the first from c on whose backward vector has a place.
 pub record KeptFrom (plan : List ℕ) (n c t : ℕ) : Type 0 where
   pub below : t < n
   pub from : t + 1 < n → c ≤ t
   pub placed : t + 1 < n → 0 < backwardPlace plan t
+  pub first : (u : ℕ) → c ≤ u → u < t → backwardPlace plan u ≡ 0
 
 -- At the last vertex the start is written to place src.
 pub record Started (r₀ r : List Float) (n w t src : ℕ) (most : Float) : Type 0 where

@@ -9,7 +9,7 @@ use borrow.Author.Needs.{needs}
 use Rattle.transfer_matrix.specs.Room.{later}
 use Rattle.vertex_step.specs.Laws.Ready.{tail-factors}
 use Rattle.sweep_places.proofs.Frames.{place-of, since-then, since-forward}
-use Rattle.sweep_backward.proofs.BackwardIteration.{begun-since, begun-invariant, begun-stands, invariant-then}
+use Rattle.sweep_backward.proofs.BackwardIteration.{begun-since, begun-invariant, begun-stands, kept-from-first, invariant-then}
 use Rattle.sweep_answering.proofs.Passings.{PassedTo, passed-none, passed-further, vertex-ahead, fewer, vertex-asked, passed-on}
 use Rattle.sweep_answering.proofs.sweep_answering.Statement.{statement}
 use Rattle.sweep_answering.proofs.sweep_answering.Tie as tie
@@ -89,28 +89,33 @@ loop-again c =
     passed-further _ _ _ _ _ _ _ _ _ _ _ _ _ _ _ _ _ _ p passed _ _ _ _ (omega (arith, most)) (λ b. omega (arith, most, c .before .before .before .last-vertex3 .ensures b))
     (rw (c .before .before .before .before .before .before .before .before .before .before .before .before .before .sweep-down .ensures .0) at (c .go-on-from .ensures))
 
+kept-from-requires : tie.Need-kept-from-requires Inv-loop μ-loop
+kept-from-requires c κs = let s = c .before .before .before .before .before .before .before .before .before .before .before .before .before .before in (s .pre .1 .holds, s .pre .0)
+
 sweep-down-requires-2 : tie.Need-sweep-down-requires-2 Inv-loop μ-loop
-sweep-down-requires-2 c κs = let g = c .before .before .before .before .before .before .before .before .loop .inv .sweep in (g .ready, g .below, omega arith, g .free)
+sweep-down-requires-2 c κs = let g = c .before .before .before .before .before .before .before .before .before .before .loop .inv .sweep in (g .ready, g .below, c .before .before .before .before .before .before .before .smaller .ensures .0, g .free)
 
 same-length : tie.Need-same-length Inv-loop μ-loop
-same-length c = c .before .before .sweep-down2 .ensures .1 .since .same ∙ c .before .before .before .before .before .before .before .before .before .before .before .loop .inv .sweep .since .same ∙ c .before .before .before .before .before .before .before .before .before .before .before .before .before .before .begin-from .kept .0
+same-length c = c .before .before .sweep-down2 .ensures .1 .since .same ∙ c .before .before .before .before .before .before .before .before .before .before .before .before .before .loop .inv .sweep .since .same ∙ c .before .before .before .before .before .before .before .before .before .before .before .before .before .before .before .before .begin-from .kept .0
 
 same-length-2 : tie.Need-same-length-2 Inv-loop μ-loop
-same-length-2 c = c .before .before .before .before .before .before .before .before .before .before .before .loop .inv .long ∙ sym (c .before .before .before .before .before .before .before .before .before .before .before .before .before .before .before .before .before .before .before .before .before .before .before .before .pre .3)
+same-length-2 c = c .before .before .before .before .before .before .before .before .before .before .before .before .before .loop .inv .long ∙ sym (c .before .before .before .before .before .before .before .before .before .before .before .before .before .before .before .before .before .before .before .before .before .before .before .before .before .before .pre .3)
 
 returns : tie.Need-returns Inv-loop μ-loop
 returns c =
-    let s = c .before .before .before .before .before .before .before .before .before .before .before .before .before .before .before .before .before .before .before .before .before .before .before .before in
-    let i = c .before .before .before .before .before .before .before .before .before .before .before .loop .inv in
-    let g = invariant-then (omega arith) (i .sweep) (c .before .before .sweep-down2 .ensures .1) in
-    let begun = c .before .before .before .before .before .before .before .before .before .before .before .before .before .before .begin-from .ensures in
+    let s = c .before .before .before .before .before .before .before .before .before .before .before .before .before .before .before .before .before .before .before .before .before .before .before .before .before .before in
+    let i = c .before .before .before .before .before .before .before .before .before .before .before .before .before .loop .inv in
+    let stop = c .before .before .before .before .before .before .before .before .before .before .smaller .ensures in
+    let g = invariant-then (stop .0) (i .sweep) (c .before .before .sweep-down2 .ensures .1) in
+    let begun = c .before .before .before .before .before .before .before .before .before .before .before .before .before .before .before .before .begin-from .ensures in
     let start = begun-since (s .args .room .now) (s .pre .1) (begun .0) (begun .1) (begun .2) in
-    let none : c .before .before .before .before .before .before .before .before .before .before .before .loop .left ≡ 0 = omega (arith, c .before .before .before .before .before .before .before .before .before .before .loop-test .left) in (
+    let none : c .before .before .before .before .before .before .before .before .before .before .before .before .before .loop .left ≡ 0 = omega (arith, c .before .before .before .before .before .before .before .before .before .before .before .before .loop-test .left) in (
       since-then start (g .since),
       λ J of forward given.
-          let factors = tail-factors (s .args .room .now) (c .before .before .before .before .before .before .before .before .before .before .before .before .before .before .begin-from .last .0) (s .args .scales) (s .args .n) (start .tail) in
+          let factors = tail-factors (s .args .room .now) (c .before .before .before .before .before .before .before .before .before .before .before .before .before .before .before .before .begin-from .last .0) (s .args .scales) (s .args .n) (start .tail) in
           let stands = begun-stands (s .args .room .now) (s .pre .1) (begun .0) (begun .1) (begun .2) J (of .vertices) (of .window) (s .args .changed) given in
-          (g .newest J (rw factors of) stands .kept, rw none at (i .told J (rw factors of) stands (since-forward start J forward))),
+          let kept = g .newest J (rw factors of) stands .kept in
+          (kept-from-first (c .before .before .before .before .before .before .before .before .before .before .before .kept-from .ensures) (stop .1) kept, rw none at (i .told J (rw factors of) stands (since-forward start J forward))),
     )
 
 pub sweep-answering-spec : {M : Type 1} → statement M
@@ -119,4 +124,4 @@ sweep-answering-spec =
     (tie.spec
     Inv-loop μ-loop last-vertex-requires (λ c κs. tt) begin-from-requires loop-holds last-vertex-requires-2 sweep-down-requires first-of-requires
     forward-place-requires answer-direct-requires last-vertex-requires-3 (λ c κs. tt) go-on-from-requires loop-less loop-again
-    sweep-down-requires-2 same-length same-length-2 returns)
+    kept-from-requires (λ c κs. tt) sweep-down-requires-2 same-length same-length-2 returns)
