@@ -15,17 +15,17 @@ use Rattle.transfer_matrix.specs.Sweep as S
 use Rattle.plan_steps.specs.Layout.{forwardPlace, backwardPlace}
 use Rattle.vertex_step.specs.Laws.Same.{symmetric-as}
 use Rattle.vertex_step.specs.Ready.{Ready, PlanOf, Forward, Backward}
-use Rattle.sweep_places.specs.Begun.{Stands}
+use Rattle.sweep_places.specs.Begun.{Stands, Stayed, Nearer, GoneOn}
 use Rattle.sweep_places.specs.BackwardInvariant.{NewestBackward, BackwardInvariant}
 use Rattle.sweep_places.proofs.Frames.{place-of, since-forward}
-use Rattle.sweep_backward.proofs.BackwardIteration.{backward-is, invariant-then}
+use Rattle.sweep_backward.proofs.BackwardIteration.{backward-is, gone-on, invariant-then}
 use Rattle.pair_correlations.specs.declared.direct.VertexPlaces.{VertexPlaces}
 use Rattle.pair_correlations.specs.Aim.{VertexHalves}
 use Rattle.pair_correlations.specs.Two.{Answered}
 use Rattle.pair_correlations.specs.Direct.{DirectAsked, AnsweredAt}
 use Rattle.sweep_answering.specs.Passing.{Passing, VertexPairs, AnsweredFrom}
 
--- the sweep stands at vertex t, and the pairs from `left` on are answered; it began at vertex c with the room r₀
+-- the sweep stands at vertex t, and the pairs from `left` on are answered; it began with the room r₀, in which the kept vectors from vertex c on stood
 pub record PassedTo (plan us vs order : List ℕ) (r₀ r results : List Float) (n w scales : ℕ) (elementwise : Bool) (passing c left t src : ℕ) (most : Float)
     (sound : Bool) : Type 0 where
   pub sweep : BackwardInvariant plan r₀ r n w scales elementwise (λ J. Stands J plan r₀ n w c) t src most
@@ -35,11 +35,11 @@ pub record PassedTo (plan us vs order : List ℕ) (r₀ r results : List Float) 
   pub told : (J : Job Float) → PlanOf J plan (drop (scales + n) r₀) n w elementwise → Stands J plan r₀ n w c → Forward J plan r₀ w scales n
       → AnsweredFrom J us vs order left passing results sound
 
-pub passed-none : (plan us vs order : List ℕ) (r results : List Float) (n w scales : ℕ) (elementwise : Bool) (passing c src : ℕ) (most : Float)
-    → Passing plan us vs order n w passing → BackwardInvariant plan r r n w scales elementwise (λ J. Stands J plan r n w c) c src most
-    → (0 < passing → later us vs (getD order (passing - 1) 0) ≤ c) → length results ≡ length us
-    → PassedTo plan us vs order r r results n w scales elementwise passing c passing c src most true
-passed-none plan us vs order r results n w scales elementwise passing c src most p sweep above long =
+pub passed-none : (plan us vs order : List ℕ) (r results : List Float) (n w scales : ℕ) (elementwise : Bool) (passing c t src : ℕ) (most : Float)
+    → Passing plan us vs order n w passing → BackwardInvariant plan r r n w scales elementwise (λ J. Stands J plan r n w c) t src most
+    → (0 < passing → later us vs (getD order (passing - 1) 0) ≤ t) → length results ≡ length us
+    → PassedTo plan us vs order r r results n w scales elementwise passing c passing t src most true
+passed-none plan us vs order r results n w scales elementwise passing c t src most p sweep above long =
     record {
       sweep = sweep;
       down = omega arith;
@@ -47,6 +47,19 @@ passed-none plan us vs order r results n w scales elementwise passing c src most
       long = long;
       told = λ J of given swept. record { answered = λ _ k a b. absurd (omega arith); unanswered = λ e. absurd (true≢false e) };
     }
+
+-- it goes on from vertex k, which is not below the next pair's
+pub passed-further : (plan us vs order : List ℕ) (r₀ r results : List Float) (n w scales : ℕ) (elementwise : Bool) (passing c left t src : ℕ) (most : Float)
+    (sound : Bool) → Passing plan us vs order n w passing
+    → PassedTo plan us vs order r₀ r results n w scales elementwise passing c left t src most sound → (c′ k dst : ℕ) (most′ : Float) → c ≤ c′
+    → (0 < left → later us vs (getD order (left - 1) 0) ≤ c′) → GoneOn plan r w elementwise c′ t src most k dst most′
+    → PassedTo plan us vs order r₀ r results n w scales elementwise passing c left k dst most′ sound
+passed-further plan us vs order r₀ r results n w scales elementwise passing c left t src most sound p g c′ k dst most′ l above on =
+    record { sweep = gone-on (g .sweep) l on; down = g .down; ahead = ahead on; long = g .long; told = g .told }
+  where
+    ahead : GoneOn plan r w elementwise c′ t src most k dst most′ → (j : ℕ) → j < left → later us vs (getD order j 0) ≤ k
+    ahead (inl s) j b = omega (arith, g .ahead j b, s .vertex)
+    ahead (inr s) j b = omega (arith, p .rising j (left - 1) (omega arith) (omega (arith, g .down)), above (omega arith), s .from)
 
 -- it goes on to the later vertex v of the pairs from..left
 module _ (plan us vs order : List ℕ) (r₀ r results : List Float) (n w scales : ℕ) (elementwise : Bool) (passing c left t src : ℕ) (most : Float)
@@ -60,7 +73,7 @@ module _ (plan us vs order : List ℕ) (r₀ r results : List Float) (n w scales
       (swept : BackwardInvariant plan r r₂ n w scales elementwise (λ J. NewestBackward J plan r n w t src most) v dst most′)
       (pairs : VertexPairs us vs order left v from) where
     sweep-now : BackwardInvariant plan r₀ r₂ n w scales elementwise (λ J. Stands J plan r₀ n w c) v dst most′
-    sweep-now = invariant-then (g .sweep) swept
+    sweep-now = invariant-then vertex-ahead (g .sweep) swept
 
     pub fewer : from < left
     fewer = dite (decLt from left) (λ l. l) (λ l. let e : from ≡ left = omega (arith, pairs .inside) in

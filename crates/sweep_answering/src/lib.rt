@@ -14,18 +14,22 @@ ghost use Rattle.sweep_answering.specs.Passing.{Passing, VertexPairs, An
 use pair_correlations::VertexPlaces;
 use pair_correlations::answer_direct;
 use plan_layout::later;
-use plan_steps::backward_place;
 use plan_steps::forward_place;
-use sweep_backward::NewestVector;
-use sweep_backward::begin_at;
+use sweep_backward::begin_from;
+use sweep_backward::go_on_from;
 use sweep_backward::kept_from;
 use sweep_backward::sweep_down;
-use sweep_places::place_for;
 
 fn larger(a: usize, b: usize) -> usize
     ensures { λ r. ⌜ r ≡ max a b ⌝ }
 {
     if a < b { b } else { a }
+}
+
+fn smaller(a: usize, b: usize) -> usize
+    ensures { λ r. ⌜ (r ≤ a) × (r ≤ b) ⌝ }
+{
+    if a < b { a } else { b }
 }
 
 // The later vertex of the last of the first `left` pairs; 0 where there is none.
@@ -55,9 +59,10 @@ fn first_of(us: &[usize], vs: &[usize], order: &[usize], left: usize, v: usize) 
     k
 }
 
-// Sweeps from the last vertex to vertex 0 and keeps the backward vectors that the plan has a place for. The first `passing` pairs of the order
-// are answered on the way, from the newest vector; returns whether all their Z are finite and above zero. The kept vectors from vertex `changed`
-// on stand already, and are not worked out again where no pair asks for it; none stands where `changed` is the last vertex or more.
+// Sweeps back from the last vertex, down to the first of the backward vectors that the plan has a place for, and keeps these. The first `passing`
+// pairs of the order are answered on the way, from the newest vector; returns whether all their Z are finite and above zero. The kept vectors
+// from vertex `changed` on stand already: from pair to pair the sweep goes on from the nearest of them. None stands where `changed` is the last
+// vertex or more.
 pub fn sweep_answering(
     room: &mut [f64],
     plan: &[usize],
@@ -80,31 +85,61 @@ pub fn sweep_answering(
         → Backward J (now (plan .entry)) (now (room .exit)) n w 0
         × AnsweredFrom J (now (us .entry)) (now (vs .entry)) (now (order .entry)) 0 passing (now (results .exit)) r) ⌝ }
 {
+    let mut bits = [0usize; 4];
+    let mut up = [0.0f64; 16];
+    let mut down = [0.0f64; 16];
+    let mut bits2 = [0usize; 4];
+    let mut up2 = [0.0f64; 16];
+    let mut down2 = [0.0f64; 16];
     let mut left = passing;
     let mut sound = true;
-    let mut t = kept_from(
-        plan,
-        n,
-        larger(changed, last_vertex(us, vs, order, passing)),
-    );
-    let place = place_for(backward_place(plan, t), 1);
-    let mut newest = NewestVector {
-        place: place,
-        largest: begin_at(room, n, w, elementwise, t, place),
-    };
+    let first = larger(changed, last_vertex(us, vs, order, left));
+    let mut at = begin_from(room, plan, n, w, scales, elementwise, first);
     while left > 0 {
         let v = last_vertex(us, vs, order, left);
-        newest = sweep_down(room, plan, n, w, scales, elementwise, t, newest, v);
+        let newest = sweep_down(
+            room,
+            plan,
+            n,
+            w,
+            scales,
+            elementwise,
+            at,
+            v,
+            &mut bits,
+            &mut up,
+            &mut down,
+            &mut bits2,
+            &mut up2,
+            &mut down2,
+        );
         let from = first_of(us, vs, order, left, v);
-        let at = VertexPlaces {
+        let places = VertexPlaces {
             vertex: v,
             forward: forward_place(plan, v),
             backward: newest.place,
         };
-        sound = answer_direct(room, w, us, vs, order, at, from, left, results) & sound;
-        t = v;
+        sound = answer_direct(room, w, us, vs, order, places, from, left, results) & sound;
         left = from;
+        let next = larger(changed, last_vertex(us, vs, order, left));
+        at = go_on_from(room, plan, n, w, scales, elementwise, next, newest);
     }
-    sweep_down(room, plan, n, w, scales, elementwise, t, newest, 0);
+    let stop = smaller(at.vertex, kept_from(plan, n, 0));
+    sweep_down(
+        room,
+        plan,
+        n,
+        w,
+        scales,
+        elementwise,
+        at,
+        stop,
+        &mut bits,
+        &mut up,
+        &mut down,
+        &mut bits2,
+        &mut up2,
+        &mut down2,
+    );
     sound
 }

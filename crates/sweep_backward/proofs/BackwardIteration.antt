@@ -31,7 +31,7 @@ use Rattle.vertex_step.specs.Laws.Through.{through-one, through-two}
 use Rattle.sweep_places.specs.Target.{Target, Free}
 use Rattle.sweep_places.specs.Kept.{Since}
 use Rattle.sweep_places.specs.Steps.{BackwardTwo, BackwardSteps}
-use Rattle.sweep_places.specs.Begun.{Stands, KeptFrom, Begun}
+use Rattle.sweep_places.specs.Begun.{Stands, KeptFrom, Begun, GoneOn}
 use Rattle.sweep_places.specs.BackwardInvariant.{NewestBackward, BackwardInvariant}
 use Rattle.sweep_places.proofs.Targets.{Aimed, target-fits, target-own, target-kind, target-other, target-free}
 use Rattle.sweep_places.proofs.Frames.{place-of, stepping, since-none, since-then, since-wrote}
@@ -149,7 +149,23 @@ module _ {plan : List ℕ} (e : List Float) {r : List Float} {n w scales : ℕ} 
         ready = rw (start-since .same) g;
         since = since-none (forwardPlace plan) r n w scales;
         free = target-free (aimed e g first-below target) (λ v. v < u) (λ v q x. omega arith);
+        ahead = λ v b p. refl;
         newest = λ J of given. first-newest o J (of .vertices) (of .window);
+      }
+
+  -- what was kept from vertex c on stands still
+  start-standing : (J : Job Float) → J .last + 1 ≡ n → J .window ≡ w → (c : ℕ) → Backward J plan e n w c → Backward J plan r n w c
+  start-standing J vertices window c given =
+      record {
+        vectors = λ v a b p.
+            dite (decLt v u)
+            (λ l.
+            let q = backwardPlace plan v in
+            let own = target-own (aimed e g first-below target) v b (λ y. omega arith) p in
+            symmetric-ext (given .vectors v a b p)
+            (half-held e r w q
+            (wrote-other e r w dst first-wrote (written-inside e g first-below target) q (λ x. own (sym x)) (place-of g q (g .backward .fits v b p) .inside))))
+            (λ l. first-newest refl J vertices window .kept .vectors v (omega arith) b p);
       }
 
 -- ---- the start at a vertex t whose vector is kept
@@ -180,10 +196,11 @@ module _ {plan : List ℕ} (r : List Float) {n w scales : ℕ} (t : ℕ) {src : 
           fits = rw src-is (g .backward .fits t (omega arith) placed);
           off = λ u c q p x. let e : t ≡ u = g .backward .apart t u (omega arith) c placed (sym src-is ∙ x) in omega arith;
         };
+        ahead = λ u b p. refl;
         newest = λ J of given. resumed-newest J of (given early);
       }
 
--- ---- the start in either case: c is the vertex from which on the kept vectors are trusted
+-- ---- the start in either case, at a vertex that is the last, or one from c on; the kept vectors are trusted from b on
 
 module _ {plan : List ℕ} (e : List Float) {r : List Float} {n w scales : ℕ} {elementwise : Bool} {c t src : ℕ} {most : Float}
     (g : Ready plan (length e) n w scales) (from : KeptFrom plan n c t) (target : Target (backwardPlace plan t) 1 src)
@@ -192,31 +209,89 @@ module _ {plan : List ℕ} (e : List Float) {r : List Float} {n w scales : ℕ} 
   begun-since =
       ⊎-elim (λ s. start-since e t g (s .last) target (s .made)) (λ s. rw (s .same) (since-none (forwardPlace plan) e n w scales)) begun
 
-  pub begun-invariant : BackwardInvariant plan r r n w scales elementwise (λ J. Stands J plan r n w t) t src most
-  begun-invariant =
+  begun-there : BackwardInvariant plan r r n w scales elementwise (λ J. Stands J plan r n w t) t src most
+  begun-there =
       ⊎-elim
       (λ s. coming-start e t g (s .last) target (s .made) elementwise (s .one))
       (λ s. rw (s .same) (coming-resumed e t g (s .early) (from .placed (s .early)) (target .keeps (from .placed (s .early))) elementwise (s .taken)))
       begun
 
-  pub begun-stands : (J : Job Float) → Stands J plan e n w c → Stands J plan r n w t
-  begun-stands J given early =
+  pub begun-invariant : (b : ℕ) → b ≤ c → BackwardInvariant plan r r n w scales elementwise (λ J. Stands J plan r n w b) t src most
+  begun-invariant b l =
+      let i = begun-there in
+      record {
+        below = i .below;
+        ready = i .ready;
+        since = i .since;
+        free = i .free;
+        ahead = i .ahead;
+        newest = λ J of given.
+            i .newest J of
+            (λ early. let h = from .from early in record { vectors = λ u a. given (omega arith) .vectors u (omega arith) });
+      }
+
+  pub begun-stands : (J : Job Float) → J .last + 1 ≡ n → J .window ≡ w → (b : ℕ) → Stands J plan e n w b → Stands J plan r n w b
+  begun-stands J vertices window b given early =
       ⊎-elim
-      (λ s. absurd (omega (arith, s .last)))
-      (λ s. let h = from .from early in rw (s .same) (record { vectors = λ u a. given (omega arith) .vectors u (omega arith) }))
+      (λ s. start-standing e t g (s .last) target (s .made) J vertices window b (given early))
+      (λ s. rw (s .same) (given early))
       begun
+
+-- ---- a sweep that began with the room r₀ and goes on from a kept vector below
+
+module _ {plan : List ℕ} {r₀ r : List Float} {n w scales : ℕ} {elementwise : Bool} {b t src : ℕ} {most : Float}
+    (g : BackwardInvariant plan r₀ r n w scales elementwise (λ J. Stands J plan r₀ n w b) t src most) where
+  -- what it has passed, and what stood below
+  standing-now : (J : Job Float) → PlanOf J plan (drop (scales + n) r₀) n w elementwise → Stands J plan r₀ n w b → (k : ℕ) → b ≤ k → k < t
+      → Backward J plan r n w k
+  standing-now J of given k l under =
+      record {
+        vectors = λ u a d p.
+            dite (decLt u t)
+            (λ x.
+            symmetric-ext (given (omega (arith, g .below)) .vectors u (omega arith) d p) (half-held r₀ r w (backwardPlace plan u) (g .ahead u x p)))
+            (λ x. g .newest J of given .kept .vectors u (omega arith) d p);
+      }
+
+  pub gone-on : {c k dst : ℕ} {most′ : Float} → b ≤ c → GoneOn plan r w elementwise c t src most k dst most′
+      → BackwardInvariant plan r₀ r n w scales elementwise (λ J. Stands J plan r₀ n w b) k dst most′
+  gone-on l (inl s) = rw (s .vertex, s .place, s .entry) g
+  gone-on {k = k} l (inr s) =
+      let early : k + 1 < n = omega (arith, s .below, g .below) in
+      record {
+        below = omega arith;
+        ready = g .ready;
+        since = g .since;
+        free = coming-resumed r k (g .ready) early (s .placed) (s .place) elementwise (s .taken) .free;
+        ahead = λ u d. g .ahead u (omega (arith, s .below));
+        newest = λ J of given.
+            resumed-newest r k (g .ready) early (s .placed) (s .place) elementwise (s .taken) J (rw (tail-factors r₀ r scales n (g .since .tail)) of)
+            (standing-now J of given k (omega (arith, s .from)) (s .below));
+      }
+
+-- below the first vertex that has a place nothing is kept
+pub kept-from-first : {J : Job Float} {plan : List ℕ} {r : List Float} {n w t k : ℕ} → KeptFrom plan n 0 t → k ≤ t → Backward J plan r n w k
+    → Backward J plan r n w 0
+kept-from-first {k = k} from below g =
+    record {
+      vectors = λ u a b p.
+          dite (decLt u k)
+          (λ l. absurd (omega (arith, from .first u (omega arith) (omega arith), p)))
+          (λ l. g .vectors u (omega arith) b p);
+    }
 
 -- one sweep after another
 pub invariant-then : {plan : List ℕ} {r₀ r r₂ : List Float} {n w scales : ℕ} {elementwise : Bool} {Given : Job Float → Type 0} {t src : ℕ} {most : Float}
-    {u dst : ℕ} {most′ : Float} → BackwardInvariant plan r₀ r n w scales elementwise Given t src most
+    {u dst : ℕ} {most′ : Float} → u ≤ t → BackwardInvariant plan r₀ r n w scales elementwise Given t src most
     → BackwardInvariant plan r r₂ n w scales elementwise (λ J. NewestBackward J plan r n w t src most) u dst most′
     → BackwardInvariant plan r₀ r₂ n w scales elementwise Given u dst most′
-invariant-then {plan} {r₀} {r} {r₂} {n} {w} {scales} g h =
+invariant-then {plan} {r₀} {r} {r₂} {n} {w} {scales} d g h =
     record {
       below = h .below;
       ready = h .ready;
       since = since-then (g .since) (h .since);
       free = h .free;
+      ahead = λ v b p. h .ahead v b p ∙ g .ahead v (omega arith) p;
       newest = λ J of given. h .newest J (rw (tail-factors r₀ r scales n (g .since .tail)) of) (g .newest J of given);
     }
 
@@ -232,7 +307,7 @@ pub going-on : {plan : List ℕ} {r : List Float} {n w scales : ℕ} (elementwis
     → Free (backwardPlace plan) n w scales src (λ u. u < t)
     → BackwardInvariant plan r r n w scales elementwise (λ J. NewestBackward J plan r n w t src most) t src most
 going-on {plan} {r} {n} {w} {scales} elementwise g b free =
-    record { below = b; ready = g; since = since-none (forwardPlace plan) r n w scales; free = free; newest = λ J of given. given }
+    record { below = b; ready = g; since = since-none (forwardPlace plan) r n w scales; free = free; ahead = λ u d p. refl; newest = λ J of given. given }
 
 module _ {plan : List ℕ} {r₀ r : List Float} {n w scales : ℕ} {elementwise : Bool} {Given : Job Float → Type 0} {stop t last : ℕ} (u : ℕ) {src dst : ℕ} {most : Float}
     (g : BackwardInvariant plan r₀ r n w scales elementwise Given t src most) (steps : BackwardSteps plan w elementwise stop t last) (next : last ≡ u + 1)
@@ -365,5 +440,11 @@ module _ {plan : List ℕ} {r₀ r : List Float} {n w scales : ℕ} {elementwise
           ready = rw (now .same) (g .ready);
           since = since-then (g .since) now;
           free = target-free aim (λ v. v < u) (λ v q e. omega arith);
+          ahead = λ v b p.
+              let q = backwardPlace plan v in
+              let own = target-own aim v (omega (arith, before)) (λ e. omega arith) p in
+              wrote-other r r₂ w dst wrote (place-of (g .ready) dst backward-fits .inside) q (λ e. own (sym e))
+              (place-of (g .ready) q (g .ready .backward .fits v (omega (arith, before)) p) .inside)
+              ∙ g .ahead v (omega (arith, order)) p;
           newest = newest-iteration;
         }

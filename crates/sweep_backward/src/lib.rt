@@ -1,11 +1,12 @@
 // The backward sweep: where it begins, and how it goes down from vertex to vertex.
+ghost use mathlib.Core.Path.{_≡_};
 ghost use Prim.Native.Nat.{_+_, _≤_, _<_};
 ghost use lib.ListN.{length};
 ghost use Rattle.plan_steps.specs.Layout.{Holds, backwardPlace};
 ghost use Rattle.step_tables.specs.Place.{Place};
 ghost use Rattle.vertex_step.specs.Ready.{Ready};
-ghost use Rattle.sweep_places.specs.Begun.{KeptFrom, Begun};
-ghost use Rattle.sweep_places.specs.Target.{Free};
+ghost use Rattle.sweep_places.specs.Begun.{KeptFrom, Begun, GoneOn};
+ghost use Rattle.sweep_places.specs.Target.{Target, Free};
 ghost use Rattle.sweep_places.specs.Steps.{BackwardSteps};
 ghost use Rattle.sweep_places.specs.BackwardInvariant.{NewestBackward, BackwardInvariant};
 use pair_sums::half_stored;
@@ -56,14 +57,7 @@ pub fn kept_from(plan: &[usize], n: usize, c: usize) -> usize
 }
 
 // The vector of vertex t at place src: written at the last vertex, kept already elsewhere. Returns the largest entry that was stored with it.
-pub fn begin_at(
-    room: &mut [f64],
-    n: usize,
-    w: usize,
-    elementwise: bool,
-    t: usize,
-    src: usize,
-) -> f64
+fn begin_at(room: &mut [f64], n: usize, w: usize, elementwise: bool, t: usize, src: usize) -> f64
     requires { ⌜ Place (length (now room)) w src × (t < n) ⌝ }
     ensures { λ r. ⌜ Begun (now (room .entry)) (now (room .exit)) n w elementwise t src r ⌝ }
 {
@@ -74,15 +68,72 @@ pub fn begin_at(
     1.0
 }
 
-// The newest vector of a sweep: its place, and the largest entry that was stored with it.
+// The newest vector of a sweep: its vertex, its place, and the largest entry that was stored with it.
 pub struct NewestVector {
+    pub vertex: usize,
     pub place: usize,
     pub largest: f64,
 }
 
-// Steps from vertex `from`, whose vector is the newest, down to vertex `stop`, whose vector it returns; the step at t gives the vector of t - 1.
-// Keeps the lower halves of the backward vectors that the plan has a place for. In the block manner the largest entry is taken after steps with
-// t % 4 = 0.
+// Where a sweep begins that has to pass vertex c, the kept vectors from c on standing already: at the nearest of these, or at the last vertex.
+pub fn begin_from(
+    room: &mut [f64],
+    plan: &[usize],
+    n: usize,
+    w: usize,
+    scales: usize,
+    elementwise: bool,
+    c: usize,
+) -> NewestVector
+    requires { ⌜ (1 ≤ n) × Ready (now plan) (length (now room)) n w scales ⌝ }
+    ensures { λ r. ⌜ KeptFrom (now (plan .entry)) n c (r .vertex) × Target (backwardPlace (now (plan .entry)) (r .vertex)) 1 (r .place)
+        × Begun (now (room .entry)) (now (room .exit)) n w elementwise (r .vertex) (r .place) (r .largest) ⌝ }
+{
+    let t = kept_from(plan, n, c);
+    let place = place_for(backward_place(plan, t), 1);
+    let largest = begin_at(room, n, w, elementwise, t, place);
+    NewestVector {
+        vertex: t,
+        place: place,
+        largest: largest,
+    }
+}
+
+// Where a sweep goes on that stands at `newest` and has to pass vertex c next, the kept vectors from c on standing already: at the nearest of
+// these, where it is below; else where it stands.
+pub fn go_on_from(
+    room: &[f64],
+    plan: &[usize],
+    n: usize,
+    w: usize,
+    scales: usize,
+    elementwise: bool,
+    c: usize,
+    newest: NewestVector,
+) -> NewestVector
+    requires { ⌜ Ready (now plan) (length (now room)) n w scales × (newest .vertex < n) ⌝ }
+    ensures { λ r. ⌜ GoneOn (now (plan .entry)) (now (room .entry)) w elementwise c (newest .vertex) (newest .place) (newest .largest)
+        (r .vertex) (r .place) (r .largest) ⌝ }
+{
+    if newest.vertex <= c {
+        return newest;
+    }
+    let k = kept_from(plan, n, c);
+    if newest.vertex <= k {
+        return newest;
+    }
+    let place = backward_place(plan, k);
+    let largest = half_stored(room, place, w, is_due(elementwise, 0, k + 1));
+    NewestVector {
+        vertex: k,
+        place: place,
+        largest: largest,
+    }
+}
+
+// Steps from the newest vector down to vertex `stop`, whose vector it returns; the step at t gives the vector of t - 1. Keeps the lower halves
+// of the backward vectors that the plan has a place for. In the block manner the largest entry is taken after steps with t % 4 = 0. The lists
+// are the steps' tables; what they hold does not matter.
 pub fn sweep_down(
     room: &mut [f64],
     plan: &[usize],
@@ -90,23 +141,23 @@ pub fn sweep_down(
     w: usize,
     scales: usize,
     elementwise: bool,
-    from: usize,
     newest: NewestVector,
     stop: usize,
+    bits: &mut [usize; 4],
+    up: &mut [f64; 16],
+    down: &mut [f64; 16],
+    bits2: &mut [usize; 4],
+    up2: &mut [f64; 16],
+    down2: &mut [f64; 16],
 ) -> NewestVector
-    requires { ⌜ Ready (now plan) (length (now room)) n w scales × (from < n) × (stop ≤ from)
-        × Free (backwardPlace (now plan)) n w scales (newest .place) (λ u. u < from) ⌝ }
+    requires { ⌜ Ready (now plan) (length (now room)) n w scales × (newest .vertex < n) × (stop ≤ newest .vertex)
+        × Free (backwardPlace (now plan)) n w scales (newest .place) (λ u. u < newest .vertex) ⌝ }
+    ensures { λ r. ⌜ r .vertex ≡ stop ⌝ }
     ensures { λ r. ⌜ BackwardInvariant (now (plan .entry)) (now (room .entry)) (now (room .exit)) n w scales elementwise
-        (λ J. NewestBackward J (now (plan .entry)) (now (room .entry)) n w from (newest .place) (newest .largest)) stop (r .place) (r .largest) ⌝ }
+        (λ J. NewestBackward J (now (plan .entry)) (now (room .entry)) n w (newest .vertex) (newest .place) (newest .largest)) stop (r .place) (r .largest) ⌝ }
 {
     let factors = scales + n;
-    let mut bits = [0usize; 4];
-    let mut up = [0.0f64; 16];
-    let mut down = [0.0f64; 16];
-    let mut bits2 = [0usize; 4];
-    let mut up2 = [0.0f64; 16];
-    let mut down2 = [0.0f64; 16];
-    let mut t = from;
+    let mut t = newest.vertex;
     let mut src = newest.place;
     let mut most = newest.largest;
     while t > stop {
@@ -127,17 +178,18 @@ pub fn sweep_down(
             src,
             dst,
             due,
-            &mut bits,
-            &mut up,
-            &mut down,
-            &mut bits2,
-            &mut up2,
-            &mut down2,
+            bits,
+            up,
+            down,
+            bits2,
+            up2,
+            down2,
         );
         src = dst;
         t = u;
     }
     NewestVector {
+        vertex: stop,
         place: src,
         largest: most,
     }

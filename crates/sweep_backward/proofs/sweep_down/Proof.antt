@@ -1,5 +1,5 @@
 -- Each iteration takes the step from the newest vector and keeps what it gave.
-use mathlib.Core.Path.{_≡_}
+use mathlib.Core.Path.{_≡_, refl}
 use Prim.Native.Nat.{_+_, _-_, _≤_, _<_}
 use native.Mathlib.Omega.{arith}
 use borrow.Author.Needs.{needs}
@@ -13,11 +13,11 @@ use Rattle.sweep_backward.proofs.sweep_down.Statement.{statement}
 use Rattle.sweep_backward.proofs.sweep_down.Tie as tie
 
 abbrev Inv-loop : tie.InvT-loop
-Inv-loop room₀ plan n w scales elementwise from stop factors bits₀ up₀ down₀ bits2₀ up2₀ down2₀ t₀ src₀ most₀ room bits up down bits2 up2 down2 t src most =
+Inv-loop room₀ plan n w scales elementwise stop bits₀ up₀ down₀ bits2₀ up2₀ down2₀ factors t₀ src₀ most₀ room bits up down bits2 up2 down2 t src most =
     BackwardInvariant plan room₀ room n w scales elementwise (λ J. NewestBackward J plan room₀ n w t₀ src₀ most₀) t src most × (stop ≤ t)
 
 abbrev μ-loop : tie.MeasureT-loop
-μ-loop room₀ plan n w scales elementwise from stop factors bits₀ up₀ down₀ bits2₀ up2₀ down2₀ t₀ src₀ most₀ room bits up down bits2 up2 down2 t src most = t
+μ-loop room₀ plan n w scales elementwise stop bits₀ up₀ down₀ bits2₀ up2₀ down2₀ factors t₀ src₀ most₀ room bits up down bits2 up2 down2 t src most = t
 
 -- the last vertex of an iteration
 ends : (c : tie.After-backward-last Inv-loop μ-loop)
@@ -72,7 +72,7 @@ same-length : tie.Need-same-length Inv-loop μ-loop
 same-length c = c .before .loop .inv .0 .since .same
 
 returns : tie.Need-returns Inv-loop μ-loop
-returns c = let i = c .before .loop .inv in let e : c .before .loop .t ≡ c .before .before .before .before .args .stop = omega (arith, i .1) in rw e at (i .0)
+returns c = let i = c .before .loop .inv in let e : c .before .loop .t ≡ c .before .before .before .before .args .stop = omega (arith, i .1) in (refl, rw e at (i .0))
 
 pub sweep-down-spec : {M : Type 1} → statement M
 sweep-down-spec =
