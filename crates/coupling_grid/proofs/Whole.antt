@@ -19,7 +19,7 @@ use mir.Syntax.{w64}
 use mir.Val.{toZ, ofZ}
 use mir.ValLaws.{toZ-ofZ}
 use borrow.Author.Tests.{eqb-true, eqb-false, eq-eqb, ne-eqb, le-leb, lt-ltb}
-use Rattle.sqrt.specs.Laws.Smallest.{in-smallest}
+use Rattle.nearest.specs.Laws.Smallest.{in-smallest}
 use Rattle.coupling_grid.specs.Grid.{offGrid}
 use Rattle.coupling_grid.proofs.Product.{times128, product-is}
 use Rattle.coupling_grid.proofs.Range.{four, within-four, not-endless, not-nan}
