@@ -19,6 +19,7 @@ use mir.Syntax.{w64}
 use mir.Val.{toZ, ofZ}
 use mir.ValLaws.{toZ-ofZ}
 use borrow.Author.Tests.{eqb-true, eqb-false, eq-eqb, ne-eqb, le-leb, lt-ltb}
+use Rattle.rounding.specs.Laws.Commute.{and-true}
 use Rattle.nearest.specs.Laws.Smallest.{in-smallest}
 use Rattle.coupling_grid.specs.Grid.{offGrid}
 use Rattle.coupling_grid.proofs.Product.{times128, product-is}
@@ -54,15 +55,11 @@ pub record Steps (x y : Float) (s : Bool) (a c : ℕ) : Type 0 where
   value : HasValue y s a c
   off : offGrid x ≡ not (eqb (a % c) 0)
 
-and-is : (t : Bool) → (t && true) ≡ t
-and-is true = refl
-and-is false = refl
-
 off-is : (s : Bool) (m : ℕ) (e : ℤ) → m * up e ≤ 4 * down e → offGrid (fin s m e) ≡ not (eqb (m * up e * 128 % down e) 0)
 unfolding offGrid
 off-is s m e l =
     let b : m * up e * 128 / down e < 513 = div-lt-iff-lt-mul (down-pos e) .1 (let d = down-pos e in omega arith) in
-    rw (le-leb (m * up e * 128 / down e) 512 (omega arith)) (ap not (and-is (eqb (m * up e * 128 % down e) 0)))
+    rw (le-leb (m * up e * 128 / down e) 512 (omega arith)) (ap not (and-true (eqb (m * up e * 128 % down e) 0)))
 
 pub product : (x : Float) → T (fits binary64 x) → le x four ≡ true → le (neg four) x ≡ true → (s : Bool) × (a : ℕ) × (c : ℕ) × Steps x (times128 x) s a c
 product nan f h g = absurd (not-nan h)
@@ -122,7 +119,7 @@ tests-agree a b c d f g = go (eqb a b) refl
     go false h = sym (ne-eqb c d (λ q. eqb-false a b h (g q)))
 
 level-is : (a b : ℕ) (t s : Bool) → ((t ≡ s) ⊎ (a ≡ 0)) → (eqb a b && (Bool·beq t s || eqb a 0)) ≡ eqb a b
-level-is a b t s h = rw (alike t s h) (and-is (eqb a b))
+level-is a b t s h = rw (alike t s h) (and-true (eqb a b))
   where
     alike : (t s : Bool) → ((t ≡ s) ⊎ (a ≡ 0)) → (Bool·beq t s || eqb a 0) ≡ true
     alike t s (inl e) = rw e (same s)

@@ -1,12 +1,12 @@
 -- What rounding keeps of a fraction that is in no middle of two values: the middle of that and any other value lies on the other value's side.
-use mathlib.Core.Path.{_≡_, sym, ap, _∙_, subst}
+use mathlib.Core.Path.{_≡_, sym, ap, _∙_}
 use mathlib.Core.Bool.{Bool, true, false, not}
 use mathlib.Core.Logic.{inl, inr}
 use Prim.Native.Nat.{ℕ, suc, _+_, _-_, _*_, _/_, _%_, _^_, _≤_, _<_, compare, Ordering, Ordering·lt, Ordering·eq, Ordering·gt}
 use native.Mathlib.Nat.{le-trans, le-of-eq, le-of-lt, lt-of-lt-of-le, lt-of-le-of-lt, eq-or-lt-of-le, mul-pos}
 use native.Mathlib.Nat.{mul-le-mul-right, mul-lt-mul-of-pos-right, lt-of-mul-lt-mul-right, div-add-mod', mod-lt, le-div-iff-mul-le}
 use native.Mathlib.Omega.{arith}
-use lib.Dec.{T, leb, eqb, leb→le, nleb→lt, eqb→eq, eqb-refl, isLe, isEq}
+use lib.Dec.{T, leb, leb→le, nleb→lt, eqb→eq, isLe, isEq}
 use lib.Pow.{pow-add, pow-pos}
 use lib.Ieee.{Format, prec, low, size, nearest}
 use lib.Ieee.Digits.{size-reaches}
@@ -24,26 +24,19 @@ pub record Within (p n b q k : ℕ) : Type 0 where
   pub long : 2 ^ (p - 1) ≤ q
 
 -- ---- a fraction that is in no middle
-abbrev Order : Ordering → ℕ → ℕ → Type 0
-Order Ordering·lt a b = a < b
-Order Ordering·eq a b = a ≡ b
-Order Ordering·gt a b = b < a
-
-ordered : (a b : ℕ) → Order (compare a b) a b
-ordered a b = go (compare a b) (leb→le a b) (nleb→lt a b) (eqb→eq a b) (λ (e : a ≡ b). subst (λ (x : ℕ). T (eqb a x)) e (eqb-refl a))
-  where
-    go : (o : Ordering) → (T (isLe o) → a ≤ b) → (T (not (isLe o)) → b < a) → (T (isEq o) → a ≡ b) → (a ≡ b → T (isEq o)) → Order o a b
-    go Ordering·lt h k e n = let l = h tt in let m : a ≡ b → ⊥ = n in omega (arith, m)
-    go Ordering·eq h k e n = e tt
-    go Ordering·gt h k e n = k tt
-
 closest-within : (n u : ℕ) → 0 < u → (n % u * 2 ≡ u → ⊥) → (2 * closest n u * u < 2 * n + u) × (2 * n < 2 * closest n u * u + u)
-closest-within n u U t = go (n / u) (n % u) (compare (n % u * 2) u) (div-add-mod' n u) (ordered (n % u * 2) u) (mod-lt n U) t
+closest-within n u U t =
+    let r = n % u * 2 in
+    go (n / u) (n % u) (compare r u) (leb→le r u) (nleb→lt r u) (eqb→eq r u) (div-add-mod' n u) (mod-lt n U) t
   where
-    go : (w r : ℕ) (o : Ordering) → w * u + r ≡ n → Order o (r * 2) u → r < u → (r * 2 ≡ u → ⊥) → (2 * nearest w o * u < 2 * n + u) × (2 * n < 2 * nearest w o * u + u)
-    go w r Ordering·lt e h l t = (omega arith, omega arith)
-    go w r Ordering·eq e h l t = absurd (t h)
-    go w r Ordering·gt e h l t = let d : 2 * suc w * u ≡ 2 * (w * u) + 2 * u = omega arith in (omega arith, omega arith)
+    go : (w r : ℕ) (o : Ordering) → (T (isLe o) → r * 2 ≤ u) → (T (not (isLe o)) → u < r * 2) → (T (isEq o) → r * 2 ≡ u) → w * u + r ≡ n → r < u
+        → (r * 2 ≡ u → ⊥) → (2 * nearest w o * u < 2 * n + u) × (2 * n < 2 * nearest w o * u + u)
+    go w r Ordering·lt le gt eq e l t = let h = le tt in (omega arith, omega (arith, t))
+    go w r Ordering·eq le gt eq e l t = absurd (t (eq tt))
+    go w r Ordering·gt le gt eq e l t =
+        let h = gt tt in
+        let d : 2 * suc w * u ≡ 2 * (w * u) + 2 * u = omega arith in
+        (omega arith, omega arith)
 
 -- ---- what `round` keeps of the fraction a / b, n of the format's smallest values over b
 pub rounded-within : (f : Format) (a b : ℕ) → 0 < b → 2 ^ (prec f - 1) * b ≤ a * 2 ^ low f
