@@ -4,10 +4,10 @@ use mathlib.Core.Bool.{Bool, true, false, cond, not}
 use Prim.Native.Nat.{ℕ, zero, suc, _+_, _-_, _≤_}
 use native.Mathlib.Omega.{arith}
 use lib.IntN.{ℤ, pos, negℤ}
-use lib.Ieee.{Float}
+use lib.Ieee.{Float, nan, inf, fin}
 use lib.Ieee.Exact.{HasValue}
-use borrow.Author.Tests.{lt-ltb, le-ltb}
-use Rattle.coupling_grid.specs.Grid.{Place}
+use borrow.Author.Tests.{lt-ltb, le-ltb, not-true}
+use Rattle.coupling_grid.specs.Grid.{Place, placeOf, offGrid, multiple}
 use Rattle.coupling_grid.specs.Theorems.{place-at}
 use Rattle.house_table.specs.House.{house, entryAt}
 use Rattle.house_factors.specs.Factors.{factorAt, factorOf}
@@ -37,3 +37,10 @@ coupling-factors x s k v h =
       ap (λ (a : Place). factorAt a false) p ∙ ap house e,
       ap (λ (a : Place). factorAt a true) p ∙ ap (λ (i : ℤ). house (negℤ i)) e ∙ ap house (turned s k),
     )
+
+-- a coupling off the grid has no factor; any other is ±k / 128 (`place-only` of `coupling_grid`)
+pub off-has-none : (x : Float) (minus : Bool) → offGrid x ≡ true → factorOf x minus ≡ nan
+unfolding factorOf placeOf offGrid
+off-has-none nan minus h = refl
+off-has-none (inf s) minus h = refl
+off-has-none (fin s m e) minus h = rw (not-true (multiple m e) h)
