@@ -87,10 +87,7 @@ fn compare(draw: &mut Draw, job: &Job) -> Result<usize, String> {
 /// Compares the call with two lists of ends, and where these are of one length that with records, which there is none of for house factors.
 fn compare_calls(job: &Job, outcome: &Outcome, before: &Before) -> Result<usize, String> {
     let lent = Lent::new(job);
-    if job.house.is_some() {
-        return compare_call(&lent, outcome, before, Lent::house_correlations);
-    }
-    if job.pairs.us.len() == job.pairs.vs.len() {
+    if job.house.is_none() && job.pairs.us.len() == job.pairs.vs.len() {
         compare_call(&lent, outcome, before, Lent::correlations_of).map_err(|why| format!("pair records: {why}"))?;
     }
     compare_call(&lent, outcome, before, Lent::correlations)

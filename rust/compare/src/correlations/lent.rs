@@ -27,27 +27,16 @@ impl Lent<'_> {
         unsafe { sys::copperhook_room(e.n, e.floor, a.0, a.1, b.0, b.1, m.0, m.1, us.0, us.1, vs.0, vs.1, self.job.options, room) }
     }
 
+    /// The call with two lists of ends, with lent factors or for house factors: both take the same arguments.
     #[rustfmt::skip]
     pub fn correlations(&self, results: &mut Guarded<f64>, work: &mut Guarded<f64>) -> usize {
         let [a, b, us, vs] = self.numbers.each_ref().map(|list| (list.pointer(), list.len()));
         let (e, m, f) = (&self.job.edges, (self.m.pointer(), self.m.len()), (self.factors.pointer(), self.factors.len()));
         let (results, work) = ((results.pointer_mut(), results.len()), (work.pointer_mut(), work.len()));
+        let entry = if self.job.house.is_some() { sys::copperhook_house_correlations } else { sys::copperhook_correlations };
         unsafe {
-            sys::copperhook_correlations(
+            entry(
                 e.n, e.floor, a.0, a.1, b.0, b.1, m.0, m.1, us.0, us.1, vs.0, vs.1, f.0, f.1, self.job.options,
-                results.0, results.1, work.0, work.1,
-            )
-        }
-    }
-
-    #[rustfmt::skip]
-    pub fn house_correlations(&self, results: &mut Guarded<f64>, work: &mut Guarded<f64>) -> usize {
-        let [a, b, us, vs] = self.numbers.each_ref().map(|list| (list.pointer(), list.len()));
-        let (e, m, c) = (&self.job.edges, (self.m.pointer(), self.m.len()), (self.factors.pointer(), self.factors.len()));
-        let (results, work) = ((results.pointer_mut(), results.len()), (work.pointer_mut(), work.len()));
-        unsafe {
-            sys::copperhook_house_correlations(
-                e.n, e.floor, a.0, a.1, b.0, b.1, m.0, m.1, us.0, us.1, vs.0, vs.1, c.0, c.1, self.job.options,
                 results.0, results.1, work.0, work.1,
             )
         }
