@@ -32,9 +32,9 @@ what is asked of it
                              No number depends on it, nor the record; a text's foot has both sizes
     --tester                 by the limits of the tester on the bench: a window up to 12 and, with --enumerate, up to 16
                              free edges. No number depends on it, nor the record
-    --house                  with the library's own factors instead of those of the host's exp, so that every machine prints
-                             the same digits: for couplings, beta times magnitude, that are multiples of 1/128 from -4
-                             to 4; any other is refused. The record says so
+    --house                  with factors from the library's own table instead of the host's exp, so that all machines
+                             print the same digits: for couplings, beta times magnitude, that are multiples of 1/128
+                             from -4 to 4; any other is refused. The record says that it was used
 of which configurations: one of these; without any, all, where at most 20 edges are free
     --signs S                one: the sign of each kept edge in order, as +-++, or plus for all
     --seed N                 one: the signs drawn with this seed
@@ -60,12 +60,14 @@ the standard pairs
 Beside each stands its distance: the least number of kept edges on a walk from one to the other, - where there is none.
 
 The foot of a text tells how far its correlations, or means, are from the exact ones at most, for the factors that the
-host's exp makes, or the house's. That is proved, and no digit past it is printed; where no bound is proved, none below 1e-15. csv and json carry the bound, and every digit.
+host's exp makes, or with --house for the table's. That is proved, and no digit past it is printed; where no bound is
+proved, none below 1e-15. csv and json carry the bound, and every digit.
 
 Every sheet ends, or as csv and json begins, with its record: Copperhook's version and commit, the SHA-256 of the
-library's archive and of the factors (both signs at each beta and kept edge, as the library is lent them, eight bytes
-each, lowest first), the command that asks for the same numbers, the strip, its dilution, all signs, seed, chunks,
-samples, count and manner. That of --edges ends with the dilution, and has no factors.
+library's archive and of the factors (both signs at each beta and kept edge, as the library takes them, eight bytes
+each, lowest first), with --house that they are the table's, the command that asks for the same numbers, the strip,
+its dilution, all signs, seed, chunks, samples, count and manner. That of --edges ends with the dilution, and has no
+factors.
 
 examples
     sheet --kind square --width 4 --length 6 --beta 0.44,0.6
