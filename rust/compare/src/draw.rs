@@ -75,11 +75,16 @@ impl Draw {
         self.of(&[f64::INFINITY, f64::NEG_INFINITY, nan, 0.0, -0.0, negative])
     }
 
+    /// A multiple of 1/128, of either sign and so many steps at most.
+    pub fn steps(&mut self, most: usize) -> f64 {
+        (self.within(0, 2 * most) as f64 - most as f64) / 128.0
+    }
+
     /// A coupling that has a house factor: small ones, any, or the ends and zeros of either sign.
     pub fn house_coupling(&mut self, style: usize) -> f64 {
         match style {
-            0 => self.within(0, 384) as f64 / 128.0 - 1.5,
-            1 => self.within(0, 1024) as f64 / 128.0 - 4.0,
+            0 => self.steps(192),
+            1 => self.steps(512),
             _ => self.of(&[4.0, -4.0, 0.0, -0.0, 1.0 / 128.0, -1.0 / 128.0]),
         }
     }

@@ -7,15 +7,29 @@ use crate::draw::Draw;
 use crate::exponentials::are_exponentials;
 use oracle::rules::house;
 
-/// Betas and magnitudes whose products are on the grid, or mostly: exact ones, small and up to 4; thirds and tenths, which some magnitudes
-/// bring onto it by rounding; and such that underflow.
-const PRODUCTS: [(&[f64], &[f64]); 5] = [
-    (&[0.0, -0.0, 0.5, -0.25, 0.0078125, 0.7421875, -0.75], &[1.0, -1.0, 2.0, -2.0, 1.0]),
-    (&[0.03125, 0.5, -1.46875, 1.96875, -2.0, 2.0], &[1.0, -1.0, 2.0, 0.5, -0.25, 1.5]),
+/// Magnitudes that take a multiple of 1/128 to another.
+const WHOLE: [f64; 4] = [1.0, -1.0, 2.0, -2.0];
+
+/// Betas and magnitudes whose products are on the grid, or mostly: up to 4; thirds and tenths, which some magnitudes bring onto it by
+/// rounding; such that underflow.
+const PRODUCTS: [(&[f64], &[f64]); 3] = [
     (&[1.0, -1.0, 0.0078125, -0.0078125, -0.0], &[4.0, -4.0, 1.0, 3.9921875]),
     (&[1.0 / 3.0, -1.0 / 3.0, 2.0 / 3.0, 0.1], &[3.0, -3.0, 6.0, 1.5, 0.75]),
     (&[1e-200, -1e-200, 1e-300, 0.0], &[1e-200, -1e-200, 5e-324, 1e-130]),
 ];
+
+/// A beta, and a magnitude, of some style: those that are whole, small or up to 4, or of the list.
+fn beta(draw: &mut Draw, style: usize) -> f64 {
+    match style {
+        0 => draw.steps(96),
+        1 => draw.steps(256),
+        _ => draw.of(PRODUCTS[style - 2].0),
+    }
+}
+
+fn magnitude(draw: &mut Draw, style: usize) -> f64 {
+    draw.of(if style < 2 { &WHOLE } else { PRODUCTS[style - 2].1 })
+}
 
 /// A call that is not refused, but where rounding left the grid.
 pub fn sound(draw: &mut Draw) -> Call {
@@ -25,9 +39,8 @@ pub fn sound(draw: &mut Draw) -> Call {
     let mut call = small(draw);
     // of many configurations the couplings are small, so that the original can be asked
     let style = if call.entries() > MOST_MODELLED { 0 } else { draw.of(&[0, 0, 1, 1, 2, 3, 4]) };
-    let (betas, magnitudes) = PRODUCTS[style];
-    call.betas = risen(call.betas.iter().map(|_| draw.of(betas)).collect());
-    call.edges.m.iter_mut().filter(|m| **m != 0.0).for_each(|m| *m = draw.of(magnitudes));
+    call.betas = risen(call.betas.iter().map(|_| beta(draw, style)).collect());
+    call.edges.m.iter_mut().filter(|m| **m != 0.0).for_each(|m| *m = magnitude(draw, style));
     Call { house: true, ..call }
 }
 
@@ -57,11 +70,17 @@ pub fn settle(call: &mut Call) {
 mod tests {
     use super::*;
     use oracle::rules::configurations::Entry;
+    use std::collections::HashSet;
 
-    /// How many of some drawn calls are accepted by the checks before the lists, are swept, and are such.
-    fn drawn_calls(such: impl Fn(&Call) -> bool) -> usize {
+    /// Some drawn calls that are accepted by the checks before the lists, and swept.
+    fn swept() -> impl Iterator<Item = Call> {
         let calls = (0..4000).map(|job| sound(&mut Draw::new(3, 10, job)));
-        calls.filter(|call| call.by_rules().refusal() == 0 && call.sums() > 0 && call.configurations() > 0 && such(call)).count()
+        calls.filter(|call| call.by_rules().refusal() == 0 && call.sums() > 0 && call.configurations() > 0)
+    }
+
+    /// How many of them are such.
+    fn drawn_calls(such: impl Fn(&Call) -> bool) -> usize {
+        swept().filter(such).count()
     }
 
     /// Whether the call has a coupling such.
@@ -82,6 +101,8 @@ mod tests {
             assert!(drawn_calls(|call| call.entry == entry && call.tester()) >= 100);
         }
         assert!(drawn_calls(|call| call.configurations() > 1024) >= 20);
+        let entries: HashSet<i32> = swept().flat_map(|call| call.edges.couplings(&call.betas)).filter_map(house::place).collect();
+        assert!(entries.len() > 700);
     }
 
     #[test]
