@@ -96,7 +96,7 @@ fn main() {
     assert!(same, "the bindings have another table than the rules");
     let apart = apart();
     println!("house factors: {} of the 1025 entries are not this host's exp", apart.len());
-    apart.iter().for_each(|(i, places)| println!("    entry {i}, by {places} of its last place"));
+    apart.iter().for_each(|(i, places)| println!("    entry {i}: {places} last places off"));
     let (mut one, mut all) = (Gap::default(), Gap::default());
     for sides in [Sides::new(Kind::Square, 3, 4, false), Sides::new(Kind::Tri, 3, 3, true), Sides::new(Kind::Honey, 4, 4, true)] {
         sides.one_configuration(&mut one);
