@@ -84,7 +84,7 @@ fn compare(draw: &mut Draw, job: &Job) -> Result<usize, String> {
     Ok(number)
 }
 
-/// Compares the call with two lists of ends, and where these are of one length that with records, which there is none of for house factors.
+/// Compares the call with two lists of ends, and where these are of one length that with records; a call for house factors takes none.
 fn compare_calls(job: &Job, outcome: &Outcome, before: &Before) -> Result<usize, String> {
     let lent = Lent::new(job);
     if job.house.is_none() && job.pairs.us.len() == job.pairs.vs.len() {

@@ -21,8 +21,9 @@ pub struct Board {
     pub window: usize,
     /// The work memory of one call in each arrangement, in doubles.
     rooms: [usize; 2],
-    /// Of both signs, at each beta and kept edge: the host's, or the house's.
+    /// Of both signs, at each beta and kept edge.
     pub factors: Factors,
+    /// Whether they are the library's own, and not the host's exponentials.
     pub house: bool,
     diluted: Option<String>,
     edges: EdgeList,
@@ -91,25 +92,8 @@ impl Board {
         let manner = if options.per_element { Manner::PerElement } else { Manner::Block };
         let arrangement = if options.less_room { Arrangement::LessRoom } else { Arrangement::KeepAll };
         let caller = if options.tester { Caller::Tester } else { Caller::Desk };
-        let (of_calls, house, diluted) = (copperhook::Options { manner, arrangement, caller }, options.house, diluted(options));
-        Ok(Board {
-            strip,
-            betas,
-            options: of_calls,
-            pairs,
-            distances,
-            n,
-            kept,
-            free,
-            window,
-            rooms,
-            factors,
-            house,
-            diluted,
-            edges,
-            us,
-            vs,
-        })
+        let (calls, house, diluted) = (copperhook::Options { manner, arrangement, caller }, options.house, diluted(options));
+        Ok(Board { strip, betas, options: calls, pairs, distances, n, kept, free, window, rooms, factors, house, diluted, edges, us, vs })
     }
 
     /// The work memory of one call that keeps all, in doubles.
