@@ -2,7 +2,7 @@
 ghost use mathlib.Core.Path.{_≡_};
 ghost use mathlib.Core.Bool.{false};
 ghost use Prim.Native.Nat.{_≤_};
-ghost use Rattle.coupling_grid.specs.Grid.{Place, At, placeOf, offGrid};
+ghost use Rattle.coupling_grid.specs.Grid.{At, placeOf, offGrid};
 
 // Whether a coupling is off the grid: NaN, beyond 4 in size, or no multiple of 1/128. Up to 4 in size the product is exact.
 pub fn off_grid(x: f64) -> bool

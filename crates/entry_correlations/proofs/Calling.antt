@@ -1,22 +1,17 @@
 -- A call's answer and lists, from what its checks answered and what the job said.
 use mathlib.Core.Path.{_≡_, refl, sym, ap, _∙_, subst}
-use mathlib.Core.Bool.{Bool, true, false, cond, not, _||_}
+use mathlib.Core.Bool.{Bool, true, false, cond, not}
 use mathlib.Core.List.{List, []}
-use Prim.Native.Nat.{ℕ, zero, suc, _≤_, _<_}
-use native.Mathlib.Omega.{arith}
-use lib.Dec.{eqb}
+use Prim.Native.Nat.{ℕ, zero, suc}
 use lib.Ieee.{Float, nan}
-use lib.ListN.{length, getD, take, length-map}
-use borrow.Author.Tests.{ne-eqb}
+use lib.ListN.{length, take}
 use Rattle.limits.specs.declared.Caller.{Caller}
-use Rattle.list_laws.specs.Front.{over}
 use Rattle.transfer_matrix.specs.Job as Job
 use Rattle.transfer_matrix.specs.Job.{Job, block, perElement}
 use Rattle.transfer_matrix.specs.Configuration.{jobOf}
 use Rattle.transfer_matrix.specs.Room as Room
 use Rattle.plan_layout.specs.declared.Arrangement.{Arrangement}
 use Rattle.plan_layout.specs.Arrangements.{arrangementOf}
-use Rattle.transfer_matrix.specs.Rounded.{ieee}
 use Rattle.transfer_matrix.specs.Sweep as S
 use Rattle.refusals.specs.Edges.{kept, windowFrom, keptEarly, keptLate}
 use Rattle.refusals.specs.Request.{Source, lent, house, callRequest, correlationRequest}

@@ -43,7 +43,17 @@ fn answer_laid(
 {
     lay_single(couplings, factors);
     answer_job(
-        n, w, early, late, us, vs, factors, elementwise, less, results, work,
+        n,
+        w,
+        early,
+        late,
+        us,
+        vs,
+        factors,
+        elementwise,
+        less,
+        results,
+        work,
     )
 }
 

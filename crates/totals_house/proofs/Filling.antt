@@ -1,5 +1,5 @@
 -- Lists that are filled from their front, by factors or rows.
-use mathlib.Core.Path.{_≡_, refl, sym, ap, _∙_}
+use mathlib.Core.Path.{_≡_, sym, ap, _∙_}
 use mathlib.Core.Bool.{false, true}
 use mathlib.Core.List.{List, _++_, append-nil}
 use Prim.Native.Nat.{ℕ, _+_, _*_, _/_, _%_, _≤_, _<_}
@@ -9,7 +9,7 @@ use lib.Ieee.{Float, nan, binary64, mul}
 use lib.ListN.{length, getD, set, drop-of-length-le}
 use Rattle.list_laws.specs.Part.{put}
 use Rattle.list_laws.specs.Tabulate.{tabulate}
-use Rattle.list_laws.specs.Laws.Part.{fill-none, fill-two, fill-length}
+use Rattle.list_laws.specs.Laws.Part.{fill-two, fill-length}
 use Rattle.list_laws.specs.Laws.Tabulate.{tabulate-length}
 use Rattle.house_factors.specs.Factors.{factorOf, pairedAt, pairedFactors}
 use Rattle.totals_house.specs.Betas.{couplingsOf}

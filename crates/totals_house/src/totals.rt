@@ -9,7 +9,7 @@ ghost use Rattle.transfer_matrix.specs.Room.{arranged};
 ghost use Rattle.refusals.specs.Couplings.{allCouplings};
 ghost use Rattle.house_factors.specs.Factors.{pairedFactors};
 ghost use Rattle.totals_configuration.specs.Chunked.{Lists};
-ghost use Rattle.totals_configuration.specs.Stage.{Stage, EnoughFactors};
+ghost use Rattle.totals_configuration.specs.Stage.{Stage};
 ghost use Rattle.totals_chunks.specs.Totals.{Summable, ChunksSummed};
 ghost use Rattle.totals_call.specs.Finished.{Numbered, stepping, TotalsAre};
 ghost use Rattle.totals_house.specs.Betas.{HousePassed, OnGrid, PlanOfBetas};

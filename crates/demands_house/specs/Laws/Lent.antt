@@ -1,6 +1,6 @@
 -- Couplings that 23 passes: 10 passes their factors, which are the table's entries. And what a call answers and leaves by a refusal that is the same unless it
 -- is 23.
-use mathlib.Core.Path.{_≡_, refl, sym, ap, _∙_, subst}
+use mathlib.Core.Path.{_≡_, sym, ap, _∙_, subst}
 use mathlib.Core.Bool.{Bool, true, false, cond, not, true≢false}
 use mathlib.Core.List.{List}
 use Prim.Native.Nat.{ℕ, suc, _+_, _*_, _<_}

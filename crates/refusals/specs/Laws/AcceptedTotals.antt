@@ -1,5 +1,5 @@
 -- Laws of what specs/AcceptedTotals defines.
-use mathlib.Core.Path.{_≡_, refl, sym, ap, _∙_}
+use mathlib.Core.Path.{_≡_, refl, sym, _∙_}
 use mathlib.Core.Bool.{Bool, true, false, cond, _||_, _&&_, not}
 use mathlib.Core.List.{List, [], _∷_, _++_}
 use mathlib.Core.Logic.{_⊎_}
@@ -19,7 +19,7 @@ use Rattle.refusals.specs.Request.{Request, Source, lent, house, enumera
 use Rattle.refusals.specs.Request.{couplingRequest, jobRequest, callRequest, enumerationRequest, samplingRequest, signedFactors}
 use Rattle.refusals.specs.Request.{badFactorList, tooManyChunks}
 use Rattle.refusals.specs.Key.{Key}
-use Rattle.refusals.specs.Refusal.{refusal, ofGraph, ofJob, ofCouplings, ofEnumeration, ofEnumerationLists, ofSampling, ofSamplingLists, ofSweeps, housed, sourced}
+use Rattle.refusals.specs.Refusal.{refusal, ofGraph, ofJob, ofCouplings, ofEnumeration, ofEnumerationLists, ofSampling, ofSamplingLists, housed, sourced}
 use Rattle.refusals.specs.Laws.First.{unless}
 use Rattle.refusals.specs.Laws.Later.{orElse, both-passed, refusal-in-parts, Then}
 use Rattle.refusals.specs.Accepted.{Accepted, AcceptedBetas}

@@ -11,7 +11,7 @@ use Rattle.limits.specs.declared.Caller.the-variants.{Desk}
 use Rattle.refusals.specs.Key.{Key, among}
 use Rattle.refusals.specs.Request.{Request}
 use Rattle.refusals.specs.Refusal.{Check, checks, first, refusal}
-use Rattle.refusals.specs.Laws.Alike.{calledBy, AllAlike, first-alike}
+use Rattle.refusals.specs.Laws.Alike.{calledBy, first-alike}
 
 -- the same call at the desk
 abbrev pub atDesk : Request → Request

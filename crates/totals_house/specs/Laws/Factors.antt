@@ -1,5 +1,5 @@
 -- The factors of one beta are those of its couplings among all.
-use mathlib.Core.Path.{_≡_, refl, sym, ap, _∙_}
+use mathlib.Core.Path.{_≡_, sym, ap, _∙_}
 use mathlib.Core.Bool.{Bool, cond}
 use mathlib.Core.List.{List}
 use Prim.Native.Nat.{ℕ, _+_, _*_, _-_, _<_}
@@ -7,13 +7,12 @@ use native.Mathlib.Nat.{zero-mul, zero-add}
 use native.Mathlib.Omega.{arith}
 use lib.Ieee.{Float, nan, binary64, mul}
 use lib.ListN.{length, getD}
-use Rattle.list_laws.specs.Tabulate.{tabulate}
 use Rattle.list_laws.specs.Laws.Tabulate.{tabulate-length, tabulate-at, tabulate-ext}
 use Rattle.house_factors.specs.Factors.{factorOf, pairedFactors}
 use Rattle.house_factors.specs.Laws.Factors.{paired-at}
 use Rattle.refusals.specs.Couplings.{allCouplings}
 use Rattle.refusals.specs.Laws.Couplings.{coupling-inside, all-length, all-at}
-use Rattle.transfer_matrix.specs.Job.{Job, Edge, Manner}
+use Rattle.transfer_matrix.specs.Job.{Edge, Manner}
 use Rattle.transfer_matrix.specs.Configuration.{lentAt, edgesWith, configured}
 use Rattle.totals_call.specs.Jobs.{jobSigned}
 use Rattle.totals_house.specs.Betas.{couplingsOf}

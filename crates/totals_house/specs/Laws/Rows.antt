@@ -1,13 +1,13 @@
 -- The totals of one beta are a row of those of all.
-use mathlib.Core.Path.{_≡_, refl, sym, ap, _∙_}
+use mathlib.Core.Path.{_≡_, ap, _∙_}
 use mathlib.Core.List.{List}
-use Prim.Native.Nat.{ℕ, _+_, _*_, _/_, _%_, _^_, _≤_, _<_}
+use Prim.Native.Nat.{ℕ, _+_, _*_, _/_, _%_, _<_}
 use native.Mathlib.Nat.{add-zero, mul-add-div-right, mul-add-mod-self-right, mod-eq-of-lt, div-eq-of-lt, div-lt-iff-lt-mul}
 use native.Mathlib.Omega.{arith}
 use lib.Ieee.{Float}
 use lib.ListN.{length}
 use Rattle.transfer_matrix.specs.Job.{Job}
-use Rattle.totals_configuration.specs.Powers.{pairAt, correlationAt}
+use Rattle.totals_configuration.specs.Powers.{correlationAt}
 use Rattle.totals_house.specs.Betas.{alone}
 
 -- number i of row b of so many columns

@@ -147,20 +147,22 @@ loop-again c =
     let h = row-inside (c .before .before .before .before .before .before .before .before .before .before .before .before .before .before .before .before .before .before .before .before .before) in
     let fits : at + np ≤ length (l .stored) = omega (arith, h, i .long) in
     let full = run .kept .1 .1 .1 .1 .1 .1 .1 .1 .1 .1 .1 .0 ∙ mid-len at (at + np) (l .stored) fits in
-    let came = came-back (l .stored) _ at _ full in
-    (l .inv .0, record {
-      below = omega (arith, c .before .before .before .before .before .before .before .before .before .before .before .before .before .before .before .before .before .before .before .before .before .loop-test .taken);
-      rooms = run .kept .0 ∙ i .rooms;
-      laid = c .before .before .before .before .before .before .before .before .before .before .before .before .before .before .before .before .before .lay-beta .kept .1 .1 .1 .0 ∙ i .laid;
-      marks = run .kept .1 .1 .1 .1 .1 .1 .1 .1 .0 ∙ i .marks;
-      results = run .kept .1 .1 .1 .1 .1 .1 .1 .1 .1 .1 .0 ∙ i .results;
-      long = c .before .before .stored .given .1 ∙ i .long;
-      rows = λ J of.
-          let plan = subst (λ (f : List Float). PlanOfRun (λ x. alone (J x) (l .b)) (a .plan .now) f (length (a .bits .now)) (enumeratedSigns (a .bits .now)) (a .shape)) (sym (c .before .before .before .before .before .before .before .before .before .before .before .before .before .before .before .before .before .lay-beta .ensures)) (of (l .b) (c .before .before .before .before .before .before .before .before .before .before .before .before .before .before .before .before .before .before .before .before .before .loop-test .taken)) in
-          let said = run .ensures (λ x. alone (J x) (l .b)) plan in
-          stored-more J _ _ _ (l .b) _ (l .stored) _ _ _ (c .before .before .before .before .before .before .before .before .before .before .before .before .before .before .before .before .before .before .before .before .before .before .before .pow2 .result) (p .1) (pow-pos (a .free)) (c .before .before .before .before .before .before .before .before .before .before .before .before .before .before .before .before .before .before .before .before .before .before .before .pow2 .ensures) (i .rows J of) (not-true _ (sym (rw (p .1) at (said .0)) ∙ yes)) (said .1 yes)
-          h came;
-    })
+    let came = came-back (l .stored) _ at _ full in (
+      l .inv .0,
+      record {
+        below = omega (arith, c .before .before .before .before .before .before .before .before .before .before .before .before .before .before .before .before .before .before .before .before .before .loop-test .taken);
+        rooms = run .kept .0 ∙ i .rooms;
+        laid = c .before .before .before .before .before .before .before .before .before .before .before .before .before .before .before .before .before .lay-beta .kept .1 .1 .1 .0 ∙ i .laid;
+        marks = run .kept .1 .1 .1 .1 .1 .1 .1 .1 .0 ∙ i .marks;
+        results = run .kept .1 .1 .1 .1 .1 .1 .1 .1 .1 .1 .0 ∙ i .results;
+        long = c .before .before .stored .given .1 ∙ i .long;
+        rows = λ J of.
+            let plan = subst (λ (f : List Float). PlanOfRun (λ x. alone (J x) (l .b)) (a .plan .now) f (length (a .bits .now)) (enumeratedSigns (a .bits .now)) (a .shape)) (sym (c .before .before .before .before .before .before .before .before .before .before .before .before .before .before .before .before .before .lay-beta .ensures)) (of (l .b) (c .before .before .before .before .before .before .before .before .before .before .before .before .before .before .before .before .before .before .before .before .before .loop-test .taken)) in
+            let said = run .ensures (λ x. alone (J x) (l .b)) plan in
+            stored-more J _ _ _ (l .b) _ (l .stored) _ _ _ (c .before .before .before .before .before .before .before .before .before .before .before .before .before .before .before .before .before .before .before .before .before .before .before .pow2 .result) (p .1) (pow-pos (a .free)) (c .before .before .before .before .before .before .before .before .before .before .before .before .before .before .before .before .before .before .before .before .before .before .before .pow2 .ensures) (i .rows J of) (not-true _ (sym (rw (p .1) at (said .0)) ∙ yes)) (said .1 yes)
+            h came;
+      },
+    )
 
 same-length-6 : tie.Need-same-length-6 Inv-loop μ-loop
 same-length-6 c = c .before .loop .inv .1 .rooms
