@@ -41,7 +41,7 @@ extern "C" {
 
 /*
  * Why a call is refused, in checking order; but 21 stands between 4 and 5, 22 right behind 6 for the window and right behind 9 for free
- * edges, and calls for strips check 15 to 17 before 12.
+ * edges, 23 in the place of 10, and calls for strips check 15 to 17 before 12.
  */
 enum copperhook_refusal {
     COPPERHOOK_ACCEPTED = 0,
@@ -64,7 +64,8 @@ enum copperhook_refusal {
     COPPERHOOK_DILUTION = 17,       /* keep is not finite, or a magnitude bound is not finite or its size is above 1,024 */
     COPPERHOOK_SUMS = 18,           /* the count is 0 or above 2^53, or 0 <= fourth powers <= squares <= count fails */
     COPPERHOOK_BETAS = 21,          /* the betas do not rise strictly; asked between 4 and 5 */
-    COPPERHOOK_TESTER_LIMIT = 22    /* in the tester's calls: the window is above 12, or all signs of over 16 free edges are gone through */
+    COPPERHOOK_TESTER_LIMIT = 22,   /* in the tester's calls: the window is above 12, or all signs of over 16 free edges are gone through */
+    COPPERHOOK_COUPLINGS = 23       /* of house factors: the couplings have another length, or one is no multiple of 1/128 from -4 to 4 */
 };
 
 /* The most of each that a job may have, and how much a standard pair set takes at most. */
@@ -200,6 +201,56 @@ size_t copperhook_estimates(size_t count, const double *squares, size_t squares_
 
 /* The square root of IEEE 754, rounded to the nearest, of any double. No call is refused. */
 double copperhook_sqrt(double x);
+
+/* ---- House factors: from a table of the library's, and not from the host's exp. */
+
+/*
+ * The calls below are lent no factors. The factor of a coupling i/128, i from -512 to 512, is entry i of a table: the double nearest to the
+ * sum of (i/128)^k / k! for k from 0 to 40. The entries rise strictly, and entry 0 is 1.0; the factor of the negative coupling is entry -i,
+ * which need not be 1.0 over entry i. The SHA-256 of the 1,025 entries from -512 on, eight bytes each, lowest first, is
+ * 3ca8d2104653722ed80b4ff2680dad0120086d6d3800733a409707ac14771027.
+ * A coupling that is no multiple of 1/128, or beyond 4 in size, is refused by 23 and never rounded; -4, 4 and a zero of either sign are taken.
+ * All else, room, options and the order of the checks too, is as in the call of the same name without `house`: lent the table's factors, it
+ * returns and leaves the same, bit for bit, and copperhook_error_bound and copperhook_totals_error_bound tell how far that can be off.
+ */
+
+/*
+ * The correlations of one configuration. `couplings` has one double for each kept edge, in their order: beta times magnitude times sign.
+ * Refusals: 1 to 8, 23, 12, 13, 14; 22 by COPPERHOOK_TESTER.
+ */
+size_t copperhook_house_correlations(size_t n, size_t floor, const size_t *a, size_t a_len, const size_t *b, size_t b_len,
+                                     const double *m, size_t m_len, const size_t *us, size_t us_len, const size_t *vs, size_t vs_len,
+                                     const double *couplings, size_t couplings_len, size_t options, double *results,
+                                     size_t results_len, double *work, size_t work_len);
+
+/*
+ * The sums over all configurations. The coupling of each beta and kept edge is their product, rounded once, as copperhook_couplings has it;
+ * minus has the entry of its negative. Without betas there is no coupling, and no 23.
+ * Refusals: 1 to 9 (4 and 21 of the betas too), 23, 12, 13, 14; 22 by COPPERHOOK_TESTER, of the window and of free edges.
+ */
+size_t copperhook_house_exhaustive(size_t n, size_t floor, const size_t *a, size_t a_len, const size_t *b, size_t b_len,
+                                   const double *m, size_t m_len, const size_t *us, size_t us_len, const size_t *vs, size_t vs_len,
+                                   const double *betas, size_t betas_len, size_t options, double *squares, size_t squares_len,
+                                   double *fourths, size_t fourths_len, double *work, size_t work_len, size_t *count);
+
+/*
+ * The correlations of all configurations themselves.
+ * Refusals: 1 to 9 (9 from 25 free edges on), 23, 12, 13, 14, 22.
+ */
+size_t copperhook_house_exhaustive_c(size_t n, size_t floor, const size_t *a, size_t a_len, const size_t *b, size_t b_len,
+                                     const double *m, size_t m_len, const size_t *us, size_t us_len, const size_t *vs, size_t vs_len,
+                                     const double *betas, size_t betas_len, size_t options, double *stored, size_t stored_len,
+                                     double *work, size_t work_len, size_t *count);
+
+/*
+ * The sums over drawn configurations.
+ * Refusals: 1 to 8 (4 and 21 of the betas too), 23, 11, 12, 13, 14; 22 by COPPERHOOK_TESTER, of the window alone.
+ */
+size_t copperhook_house_sample(size_t n, size_t floor, const size_t *a, size_t a_len, const size_t *b, size_t b_len, const double *m,
+                               size_t m_len, const size_t *us, size_t us_len, const size_t *vs, size_t vs_len, const double *betas,
+                               size_t betas_len, size_t options, uint64_t seed, uint64_t from, uint64_t to, size_t samples,
+                               double *squares, size_t squares_len, double *fourths, size_t fourths_len, double *work,
+                               size_t work_len, size_t *count);
 
 /* ---- How far answers can be from the exact ones. */
 

@@ -3,13 +3,14 @@ ghost use mathlib.Core.Path.{_≡_};
 ghost use Prim.Native.Nat.{_≤_};
 ghost use Rattle.limits.specs.Limits.{mostVertices, mostEdges, mostWindow};
 ghost use Rattle.transfer_matrix.specs.Room.{arranged};
+ghost use Rattle.refusals.specs.Request.{lent};
 ghost use Rattle.refusals.specs.AcceptedJob.{buffersRefusal, listsRefusal};
 ghost use Rattle.plan_layout.specs.Places.{Pairs};
 use crate::factors::bad_factors;
 use plan_layout::room_needed;
 
 // Checks 12 and 13, of a job that 1 to 8 pass: whether a result buffer misfits is given.
-pub(crate) fn check_buffers(
+pub fn check_buffers(
     less: bool,
     n: usize,
     w: usize,
@@ -45,7 +46,7 @@ pub fn check_lists(
     work: usize,
 ) -> usize
     requires { ⌜ Pairs (now us) (now vs) n × (n ≤ mostVertices) × (w ≤ mostWindow) × (edges ≤ mostEdges) ⌝ }
-    ensures { λ r. ⌜ r ≡ listsRefusal (arranged less) n w edges (now (us .entry)) (now (vs .entry)) (now (factors .entry)) results work ⌝ }
+    ensures { λ r. ⌜ r ≡ listsRefusal lent (arranged less) n w edges (now (us .entry)) (now (vs .entry)) (now (factors .entry)) results work ⌝ }
 {
     if bad_factors(factors, edges) {
         return 10;

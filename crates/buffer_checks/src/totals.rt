@@ -3,7 +3,7 @@ ghost use mathlib.Core.Path.{_≡_};
 ghost use Prim.Native.Nat.{_≤_};
 ghost use Rattle.limits.specs.Limits.{mostVertices, mostEdges, mostBetas, mostWindow};
 ghost use Rattle.transfer_matrix.specs.Room.{arranged};
-ghost use Rattle.refusals.specs.Request.{tooManyChunks};
+ghost use Rattle.refusals.specs.Request.{lent, signedFactors, tooManyChunks};
 ghost use Rattle.refusals.specs.AcceptedTotals.{misfits, enumerationLists, samplingLists};
 ghost use Rattle.plan_layout.specs.Places.{Pairs};
 use crate::factors::bad_factors;
@@ -27,7 +27,7 @@ pub fn too_many_chunks(start: usize, end: usize, samples: usize) -> bool
 }
 
 // 12. A result buffer isn't of its exact length: two of them, one being the same twice.
-fn misfit(wanted: usize, squares: usize, fourths: usize) -> bool
+pub fn misfit(wanted: usize, squares: usize, fourths: usize) -> bool
     ensures { λ r. ⌜ r ≡ misfits wanted squares fourths ⌝ }
 {
     if squares != wanted {
@@ -56,7 +56,7 @@ pub fn check_enumeration(
     work: usize,
 ) -> usize
     requires { ⌜ Pairs (now us) (now vs) n × (n ≤ mostVertices) × (w ≤ mostWindow) × (edges ≤ mostEdges) × (betas ≤ mostBetas) ⌝ }
-    ensures { λ r. ⌜ r ≡ enumerationLists caller (arranged less) n w edges (now (us .entry)) (now (vs .entry)) betas (now (factors .entry)) free most
+    ensures { λ r. ⌜ r ≡ enumerationLists lent caller (arranged less) n w edges (now (us .entry)) (now (vs .entry)) (now (factors .entry)) (signedFactors betas edges) free most
         (misfits wanted squares fourths) work ⌝ }
 {
     if most < free {
@@ -92,7 +92,7 @@ pub fn check_sampling(
     work: usize,
 ) -> usize
     requires { ⌜ Pairs (now us) (now vs) n × (n ≤ mostVertices) × (w ≤ mostWindow) × (edges ≤ mostEdges) × (betas ≤ mostBetas) ⌝ }
-    ensures { λ r. ⌜ r ≡ samplingLists (arranged less) n w edges (now (us .entry)) (now (vs .entry)) betas (now (factors .entry)) start end samples
+    ensures { λ r. ⌜ r ≡ samplingLists lent (arranged less) n w edges (now (us .entry)) (now (vs .entry)) (now (factors .entry)) (signedFactors betas edges) start end samples
         (misfits wanted squares fourths) work ⌝ }
 {
     if bad_factors(factors, 2 * (betas * edges)) {

@@ -16,7 +16,7 @@ use Rattle.graph.specs.declared.graph.Reached.{Reached}
 use Rattle.strip.specs.declared.strip.Strip.{Strip}
 use Rattle.strip_bonds.specs.Edges.{edges, earlyEnds, lateEnds}
 use Rattle.strip_pairs.specs.PairSet.{Pair, firsts, seconds, labelBytes}
-use Rattle.totals_call.specs.Calls.{Totalled, Stored, Enumerated, EnumeratedEach, Sampled}
+use Rattle.totals_call.specs.Calls.{Totalled, Stored, Enumerated, EnumeratedEach, Sampled, HouseEnumerated, HouseEnumeratedEach, HouseSampled}
 use Rattle.c_values.specs.declared.options.Options.{Options}
 use Rattle.c_values.specs.Numbers.{Tells}
 use Rattle.c_values.specs.Laws.Numbers.{told-number, told-held, told-again, told-refused}
@@ -63,6 +63,28 @@ module _ {n floor : ℕ} {a b : List ℕ} {m : List Float} {us vs : List ℕ} {b
   sampled-told {seed} {from} {to} {samples} {squares} {squares′} {fourths} {fourths′} {work} {work′} g t =
       let again = totalled-again t (g .call) in
       (carried (λ (x : Options) (y : Answer). Sampled n floor a b m us vs betas factors (x .manner) (x .arrangement) (x .caller) seed from to samples y squares squares′ fourths fourths′ work work′) e (again .0) g, again .1)
+
+-- the same of house calls
+module _ {n floor : ℕ} {a b : List ℕ} {m : List Float} {us vs : List ℕ} {betas : List Float} {o o′ : Options} {answer : Answer} {r count count′ : ℕ} (e : o ≡ o′) where
+  pub house-enumerated-told : {squares squares′ fourths fourths′ work work′ : List Float}
+      → HouseEnumerated n floor a b m us vs betas (o .manner) (o .arrangement) (o .caller) answer squares squares′ fourths fourths′ work work′ → Tells answer r count count′
+      → HouseEnumerated n floor a b m us vs betas (o′ .manner) (o′ .arrangement) (o′ .caller) (answered r count′) squares squares′ fourths fourths′ work work′ × ((r ≡ 0 → ⊥) → count′ ≡ count)
+  house-enumerated-told {squares} {squares′} {fourths} {fourths′} {work} {work′} g t =
+      let again = totalled-again t (g .call) in
+      (carried (λ (x : Options) (y : Answer). HouseEnumerated n floor a b m us vs betas (x .manner) (x .arrangement) (x .caller) y squares squares′ fourths fourths′ work work′) e (again .0) g, again .1)
+
+  pub house-stored-told : {stored stored′ work work′ : List Float} → HouseEnumeratedEach n floor a b m us vs betas (o .manner) (o .arrangement) (o .caller) answer stored stored′ work work′ → Tells answer r count count′
+      → HouseEnumeratedEach n floor a b m us vs betas (o′ .manner) (o′ .arrangement) (o′ .caller) (answered r count′) stored stored′ work work′ × ((r ≡ 0 → ⊥) → count′ ≡ count)
+  house-stored-told {stored} {stored′} {work} {work′} g t =
+      let again = stored-again t (g .call) in
+      (carried (λ (x : Options) (y : Answer). HouseEnumeratedEach n floor a b m us vs betas (x .manner) (x .arrangement) (x .caller) y stored stored′ work work′) e (again .0) g, again .1)
+
+  pub house-sampled-told : {seed from to samples : ℕ} {squares squares′ fourths fourths′ work work′ : List Float}
+      → HouseSampled n floor a b m us vs betas (o .manner) (o .arrangement) (o .caller) seed from to samples answer squares squares′ fourths fourths′ work work′ → Tells answer r count count′
+      → HouseSampled n floor a b m us vs betas (o′ .manner) (o′ .arrangement) (o′ .caller) seed from to samples (answered r count′) squares squares′ fourths fourths′ work work′ × ((r ≡ 0 → ⊥) → count′ ≡ count)
+  house-sampled-told {seed} {from} {to} {samples} {squares} {squares′} {fourths} {fourths′} {work} {work′} g t =
+      let again = totalled-again t (g .call) in
+      (carried (λ (x : Options) (y : Answer). HouseSampled n floor a b m us vs betas (x .manner) (x .arrangement) (x .caller) seed from to samples y squares squares′ fourths fourths′ work work′) e (again .0) g, again .1)
 
 -- ---- the edges of a strip, and its pairs
 

@@ -8,6 +8,7 @@ mod distances;
 mod edges;
 mod generator;
 mod graphs;
+mod house;
 mod kinds;
 mod means;
 mod pair_records;

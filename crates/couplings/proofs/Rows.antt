@@ -1,8 +1,8 @@
 -- The couplings on their way into the results, one beta after another.
-use mathlib.Core.Path.{_≡_, refl, sym, ap, _∙_}
+use mathlib.Core.Path.{_≡_, sym, ap, _∙_}
 use mathlib.Core.List.{List, _++_, append-nil}
-use Prim.Native.Nat.{ℕ, _+_, _*_, _/_, _%_, _≤_, _<_}
-use native.Mathlib.Nat.{zero-add, zero-mul, add-zero, mul-le-mul-right, mul-add-div-right, mul-add-mod-self-right, mod-eq-of-lt, div-eq-of-lt}
+use Prim.Native.Nat.{ℕ, _+_, _*_, _≤_, _<_}
+use native.Mathlib.Nat.{zero-add, zero-mul, mul-le-mul-right}
 use native.Mathlib.Omega.{arith}
 use lib.Ieee.{Float, nan, binary64, mul}
 use lib.ListN.{length, getD, drop-of-length-le}
@@ -10,16 +10,8 @@ use Rattle.list_laws.specs.Part.{put}
 use Rattle.list_laws.specs.Laws.Part.{fill-none, fill-run, fill-length}
 use Rattle.list_laws.specs.Tabulate.{tabulate}
 use Rattle.list_laws.specs.Laws.Tabulate.{tabulate-length}
+use Rattle.refusals.specs.Laws.Couplings.{coupling-is}
 use Rattle.couplings.specs.Couplings.{couplingAt, allCouplings}
-
--- edge e of beta b
-coupling-is : (betas mag : List Float) (b e : ℕ) → e < length mag
-    → mul binary64 (getD betas b nan) (getD mag e nan) ≡ couplingAt betas mag (b * length mag + e)
-coupling-is betas mag b e l =
-    let some : 0 < length mag = omega arith in
-    let d : (b * length mag + e) / length mag ≡ b = mul-add-div-right some b e ∙ ap (λ (k : ℕ). b + k) (div-eq-of-lt l) ∙ add-zero b in
-    let m : (b * length mag + e) % length mag ≡ e = mul-add-mod-self-right b (length mag) e ∙ mod-eq-of-lt l in
-    rw (d, m)
 
 module _ (l betas mag : List Float) where
   -- the results with the couplings of the first b betas

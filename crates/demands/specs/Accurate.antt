@@ -1,18 +1,18 @@
 -- How far the answers of accepted calls are from the exact ones, where `error_bound` or `totals_error_bound` answers a bound for the same graph,
 -- floor and factors. The bound is a double; the difference is one of fractions, with no rounding.
-use mathlib.Core.Path.{_≡_, refl, sym, _∙_, ap, subst}
+use mathlib.Core.Path.{_≡_, refl, sym, ap, subst}
 use mathlib.Core.Bool.{Bool, true, false, cond}
-use mathlib.Core.List.{List, []}
-use Prim.Native.Nat.{ℕ, zero, suc, _+_, _-_, _^_, _≤_, _<_, max}
+use mathlib.Core.List.{List}
+use Prim.Native.Nat.{ℕ, zero, suc, _-_, _^_, _≤_, _<_, max}
 use native.Mathlib.Nat.{le-trans}
 use native.Mathlib.Omega.{arith}
 use lib.Dec.{T, lit≤}
 use lib.Ieee.{Float, nan}
 use lib.Ieee.Positive.{positive}
-use lib.ListN.{length, getD, length-map}
+use lib.ListN.{length, getD}
 use Rattle.fraction.specs.Fraction.{oneℚ}
 use Rattle.fraction.specs.Value.{value}
-use Rattle.transfer_matrix.specs.Configuration.{edgesWith, numbered, configured, lentAt}
+use Rattle.transfer_matrix.specs.Configuration.{edgesWith, numbered}
 use Rattle.transfer_matrix.specs.Job.{Job, Manner, backEdges}
 use Rattle.transfer_matrix.specs.Rounded.{ieee}
 use Rattle.transfer_matrix.specs.Sweep.{Z, answer}
@@ -28,7 +28,7 @@ use Rattle.refusals.specs.Refusal.{refusal}
 use Rattle.error_bound.specs.Bound.{mostNear, mostBits, nearOne, boundOf, ofErrorBound, errorBoundRequest, factorCount, errorBoundOf}
 use Rattle.error_bound.specs.declared.answer.ErrorBound.{ErrorBound}
 use Rattle.error_bound.specs.declared.answer.ErrorBound.the-variants.{Within, Unknown, Refused}
-use Rattle.error_bound.specs.Laws.Margin.{bits-deep, bits-few, near-one-all}
+use Rattle.error_bound.specs.Laws.Margin.{bits-deep}
 use Rattle.error_bound.specs.Laws.Near.{near-four, near-most, near-any}
 use Rattle.demands.specs.Laws.Lists.{all-made}
 use Rattle.demands.specs.Laws.Given.{jobMade, checked-made}

@@ -1,12 +1,12 @@
 -- How far the totals of an accepted call are from those of the textbook's correlations, where `totals_error_bound` answers a bound for the same graph,
 -- floor, betas and factors.
-use mathlib.Core.Path.{_≡_, sym, _∙_, ap, subst}
+use mathlib.Core.Path.{_≡_}
 use mathlib.Core.Bool.{Bool, true}
 use mathlib.Core.List.{List}
 use Prim.Native.Nat.{ℕ, _+_, _*_, _^_, _≤_, _<_}
 use native.Mathlib.Omega.{arith}
 use lib.Dec.{T}
-use lib.Ieee.{Float, nan, binary64, ofInt}
+use lib.Ieee.{Float, nan, ofInt}
 use lib.Ieee.Positive.{positive}
 use lib.ListN.{length, getD, length-map}
 use Rattle.transfer_matrix.specs.Room as Room
@@ -30,7 +30,7 @@ use Rattle.accuracy.specs.Apart.{Apart}
 use Rattle.accuracy.specs.Close.{Close}
 use Rattle.accuracy.specs.Ring.{nat}
 use Rattle.accuracy.specs.Laws.Ring.{_⋆_}
-use Rattle.accuracy.specs.Stated.{roundingsOf, errorBound, squaresRoundings, fourthsRoundings, totalBound}
+use Rattle.accuracy.specs.Stated.{roundingsOf, squaresRoundings, fourthsRoundings, totalBound}
 use Rattle.accuracy.specs.Laws.Totals as T
 use Rattle.estimate.specs.Estimates.{number, meanOf}
 use Rattle.entry_correlations.specs.Correlations.{mannerOf}

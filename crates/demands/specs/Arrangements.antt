@@ -11,21 +11,22 @@ use lib.ListN.{length}
 use Rattle.limits.specs.declared.Caller.{Caller}
 use Rattle.list_laws.specs.Count.{count}
 use Rattle.list_laws.specs.Search.{some}
-use Rattle.transfer_matrix.specs.Room as Room
-use Rattle.transfer_matrix.specs.Room.{keepAll, lessRoom, later, waits, isPropagated, keepsForward, keepsBackward, room}
+use Rattle.transfer_matrix.specs.Room.{keepAll, lessRoom, later, waits, isPropagated, keepsBackward, room}
 use Rattle.refusals.specs.Answers.{answered}
 use Rattle.refusals.specs.declared.Answer.{Answer}
 use Rattle.refusals.specs.declared.Answer.the-variants.{Refused}
-use Rattle.refusals.specs.Refusal.{ofCorrelations, ofEnumeration, ofSampling}
-use Rattle.refusals.specs.Request.{Request, correlationRequest, enumerationRequest, samplingRequest, mostCounted, mostStored}
+use Rattle.refusals.specs.Refusal.{ofCorrelations, ofEnumeration, ofSampling, housed, sourced}
+use Rattle.refusals.specs.Request.{Request, Source, correlationRequest, enumerationRequest, samplingRequest, mostCounted, mostStored}
+use Rattle.refusals.specs.Request.{houseEnumerationRequest, houseSamplingRequest}
 use Rattle.refusals.specs.AcceptedTotals.{misfits}
 use Rattle.plan_layout.specs.declared.Arrangement.{Arrangement}
 use Rattle.plan_layout.specs.Arrangements.{arrangementOf}
 use Rattle.pair_correlations.specs.Sound.{unsound}
-use Rattle.entry_correlations.specs.Correlations.{jobGiven, Correlated}
+use Rattle.entry_correlations.specs.Correlations.{jobGiven, factorsFrom, CorrelatedBy}
 use Rattle.entry_correlations.specs.declared.Manner.{Manner}
 use Rattle.totals_call.specs.Given.{Given}
 use Rattle.totals_call.specs.Calls.{Totalled, Stored, Enumerated, EnumeratedEach, Sampled, misfitStored, unsoundAll, unsoundDrawn}
+use Rattle.totals_call.specs.Calls.{houseGiven, HouseEnumerated, HouseEnumeratedEach, HouseSampled}
 use Rattle.demands.specs.Configurations.{free}
 use Rattle.demands.specs.Laws.Alike.{arrangements-alike}
 
@@ -67,20 +68,21 @@ less-room n w m us vs =
     let few = count-more (keepsBackward lessRoom w us vs) (keepsBackward keepAll w us vs) (kept-more w us vs) n in
     omega (arith, mul-le-mul-left (2 ^ w) few)
 
--- ---- `correlations`
+-- ---- `correlations`, and `house_correlations`: by the source of the factors, of this list of factors or couplings
 
-module _ (n floor : ℕ) (a b : List ℕ) (m : List Float) (us vs : List ℕ) (factors : List Float) (manner : Manner) (caller : Caller)
+module _ (source : Source) (n floor : ℕ) (a b : List ℕ) (m : List Float) (us vs : List ℕ) (list : List Float) (manner : Manner) (caller : Caller)
     (results work : List Float) where
   abbrev request : Request
-  request = correlationRequest caller keepAll n floor a b m us vs factors (length results) (length work) (unsound (jobGiven n floor a b m factors manner) us vs)
+  request =
+      correlationRequest caller keepAll n floor a b m us vs list (length results) (length work) (unsound (jobGiven n floor a b m (factorsFrom source list) manner) us vs)
 
   pub results-alike : (one other : Arrangement) {r s : ℕ} {results′ results″ work′ work″ : List Float}
-      → Correlated n floor a b m us vs factors manner one caller r results results′ work work′ → (r ≡ 13 → ⊥)
-      → Correlated n floor a b m us vs factors manner other caller s results results″ work work″ → (s ≡ 13 → ⊥)
+      → CorrelatedBy source n floor a b m us vs list manner one caller r results results′ work work′ → (r ≡ 13 → ⊥)
+      → CorrelatedBy source n floor a b m us vs list manner other caller s results results″ work work″ → (s ≡ 13 → ⊥)
       → (r ≡ s) × (results′ ≡ results″)
   results-alike one other {r} {s} c h d i =
       let e : r ≡ s = c .answer
-      ∙ arrangements-alike ofCorrelations (arrangementOf one) (arrangementOf other) request (λ p. h (c .answer ∙ p)) (λ p. i (d .answer ∙ p))
+      ∙ arrangements-alike (sourced source ofCorrelations) (arrangementOf one) (arrangementOf other) request (λ p. h (c .answer ∙ p)) (λ p. i (d .answer ∙ p))
       ∙ sym (d .answer) in
       (e, c .answers ∙ rw e (sym (d .answers)))
 
@@ -146,3 +148,53 @@ module _ (n floor : ℕ) (a b : List ℕ) (m : List Float) (us vs : List ℕ) (b
         → Sampled n floor a b m us vs betas factors manner other caller seed from to samples s squares squares″ fourths fourths″ work work″ → (s ≡ Refused 13 → ⊥)
         → (r ≡ s) × (squares′ ≡ squares″) × (fourths′ ≡ fourths″)
     samples-alike t h d i = same-totals (arrangements-alike ofSampling (arrangementOf one) (arrangementOf other) drawing) (t .call) h (d .call) i
+
+-- ---- the house calls for totals
+
+module _ (n floor : ℕ) (a b : List ℕ) (m : List Float) (us vs : List ℕ) (betas : List Float) (manner : Manner) (one other : Arrangement) (caller : Caller) where
+  abbrev houseOne : Given
+  houseOne = houseGiven n floor a b m us vs betas manner one caller
+
+  abbrev houseEnumerating : (most : ℕ) → (misfit : Bool) → (work : ℕ) → Request
+  houseEnumerating most misfit work = houseEnumerationRequest caller keepAll n floor a b m us vs betas (free a b m) most misfit work (unsoundAll houseOne)
+
+  -- ---- `house_exhaustive`
+
+  module _ (squares fourths work : List Float) where
+    pub house-totals-alike : {r s : Answer} {squares′ squares″ fourths′ fourths″ work′ work″ : List Float}
+        → HouseEnumerated n floor a b m us vs betas manner one caller r squares squares′ fourths fourths′ work work′ → (r ≡ Refused 13 → ⊥)
+        → HouseEnumerated n floor a b m us vs betas manner other caller s squares squares″ fourths fourths″ work work″ → (s ≡ Refused 13 → ⊥)
+        → (r ≡ s) × (squares′ ≡ squares″) × (fourths′ ≡ fourths″)
+    house-totals-alike t h d i =
+        same-totals
+        (arrangements-alike (housed ofEnumeration) (arrangementOf one) (arrangementOf other)
+        (houseEnumerating mostCounted (misfits (length betas * length us) (length squares) (length fourths)) (length work)))
+        (t .call) h (d .call) i
+
+  -- ---- `house_exhaustive_c`
+
+  module _ (stored work : List Float) where
+    pub house-stored-alike : {r s : Answer} {stored′ stored″ work′ work″ : List Float}
+        → HouseEnumeratedEach n floor a b m us vs betas manner one caller r stored stored′ work work′ → (r ≡ Refused 13 → ⊥)
+        → HouseEnumeratedEach n floor a b m us vs betas manner other caller s stored stored″ work work″ → (s ≡ Refused 13 → ⊥)
+        → (r ≡ s) × (stored′ ≡ stored″)
+    house-stored-alike t h d i =
+        same-stored
+        (arrangements-alike (housed ofEnumeration) (arrangementOf one) (arrangementOf other)
+        (houseEnumerating mostStored (misfitStored houseOne (length stored)) (length work)))
+        (t .call) h (d .call) i
+
+  -- ---- `house_sample`
+
+  module _ (seed from to samples : ℕ) (squares fourths work : List Float) where
+    abbrev houseDrawing : Request
+    houseDrawing =
+        houseSamplingRequest caller keepAll n floor a b m us vs betas (free a b m) from to samples
+        (misfits (length betas * length us) (length squares) (length fourths)) (length work) (unsoundDrawn houseOne seed from to samples)
+
+    pub house-samples-alike : {r s : Answer} {squares′ squares″ fourths′ fourths″ work′ work″ : List Float}
+        → HouseSampled n floor a b m us vs betas manner one caller seed from to samples r squares squares′ fourths fourths′ work work′ → (r ≡ Refused 13 → ⊥)
+        → HouseSampled n floor a b m us vs betas manner other caller seed from to samples s squares squares″ fourths fourths″ work work″ → (s ≡ Refused 13 → ⊥)
+        → (r ≡ s) × (squares′ ≡ squares″) × (fourths′ ≡ fourths″)
+    house-samples-alike t h d i =
+        same-totals (arrangements-alike (housed ofSampling) (arrangementOf one) (arrangementOf other) houseDrawing) (t .call) h (d .call) i

@@ -15,8 +15,9 @@ use Rattle.transfer_matrix.specs.Room.{room}
 use Rattle.transfer_matrix.specs.Rounded.{ieee}
 use Rattle.transfer_matrix.specs.Sweep as S
 use Rattle.refusals.specs.Edges.{kept, windowFrom, keptEarly, keptLate}
-use Rattle.refusals.specs.Request.{correlationRequest}
-use Rattle.refusals.specs.Refusal.{refusal, ofCorrelations}
+use Rattle.refusals.specs.Request.{Source, lent, house, correlationRequest}
+use Rattle.refusals.specs.Refusal.{refusal, ofCorrelations, sourced}
+use Rattle.house_factors.specs.Factors.{singleFactors}
 use Rattle.plan_layout.specs.declared.Arrangement.{Arrangement}
 use Rattle.plan_layout.specs.Arrangements.{arrangementOf}
 use Rattle.pair_correlations.specs.Sound.{unsound}
@@ -42,10 +43,25 @@ settled refused answers old = cond (eqb refused 0) answers (cond (eqb refused 14
 unfoldable pub cleared : (refused end : ℕ) → List Float → List Float
 cleared refused end old = cond (eqb refused 0 || eqb refused 14) (over (zeros end) old) old
 
--- The answer r of a caller's call, and the results and the work memory after it.
-pub record Correlated (n floor : ℕ) (a b : List ℕ) (m : List Float) (us vs : List ℕ) (factors : List Float) (manner : Manner)
+-- The factors in use of a lent list: itself, or the house table's at its couplings.
+abbrev pub factorsFrom : Source → List Float → List Float
+factorsFrom lent list = list
+factorsFrom house list = singleFactors list
+
+-- The answer r of a caller's call that lends this list of factors or couplings, and the results and the work memory after it.
+pub record CorrelatedBy (source : Source) (n floor : ℕ) (a b : List ℕ) (m : List Float) (us vs : List ℕ) (list : List Float) (manner : Manner)
     (arrangement : Arrangement) (caller : Caller) (r : ℕ) (results results′ work work′ : List Float) : Type 0 where
-  pub answer : r ≡ refusal ofCorrelations
-      (correlationRequest caller (arrangementOf arrangement) n floor a b m us vs factors (length results) (length work) (unsound (jobGiven n floor a b m factors manner) us vs))
-  pub answers : results′ ≡ settled r (S.answers ieee (jobGiven n floor a b m factors manner) us vs) results
+  pub answer : r ≡ refusal (sourced source ofCorrelations)
+      (correlationRequest caller (arrangementOf arrangement) n floor a b m us vs list (length results) (length work)
+      (unsound (jobGiven n floor a b m (factorsFrom source list) manner) us vs))
+  pub answers : results′ ≡ settled r (S.answers ieee (jobGiven n floor a b m (factorsFrom source list) manner) us vs) results
   pub memory : work′ ≡ cleared r (room (arrangementOf arrangement) n (windowFrom floor a b m) (length (kept a b m)) us vs) work
+
+-- That of `correlations`, which lends factors, and of `house_correlations`, which lends couplings.
+abbrev pub Correlated : (n floor : ℕ) (a b : List ℕ) (m : List Float) (us vs : List ℕ) (factors : List Float) (manner : Manner)
+    (arrangement : Arrangement) (caller : Caller) (r : ℕ) (results results′ work work′ : List Float) → Type 0
+Correlated = CorrelatedBy lent
+
+abbrev pub HouseCorrelated : (n floor : ℕ) (a b : List ℕ) (m : List Float) (us vs : List ℕ) (couplings : List Float) (manner : Manner)
+    (arrangement : Arrangement) (caller : Caller) (r : ℕ) (results results′ work work′ : List Float) → Type 0
+HouseCorrelated = CorrelatedBy house

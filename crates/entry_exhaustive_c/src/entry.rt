@@ -18,7 +18,7 @@ use refusals::Answer;
 use step_tables::pow2;
 
 // How many correlations there are, where the free edges are few enough.
-fn stored_count(sums: usize, free: usize) -> usize
+pub fn stored_count(sums: usize, free: usize) -> usize
     requires { ⌜ sums ≤ 16384 ⌝ }
     ensures { λ r. ⌜ (free ≤ mostStored → r ≡ sums * 2 ^ free) ⌝ }
 {

@@ -3,3 +3,4 @@ mod entry;
 mod job;
 
 pub use entry::exhaustive_c;
+pub use entry::stored_count;

@@ -11,7 +11,7 @@ use Rattle.transfer_matrix.specs.Job.{tooManyNear}
 use Rattle.transfer_matrix.specs.Configuration.{numbered}
 use Rattle.transfer_matrix.specs.Room as Room
 use Rattle.refusals.specs.Edges.{kept, windowFrom, keptEarly, keptLate}
-use Rattle.refusals.specs.Request.{badFactorList, passes}
+use Rattle.refusals.specs.Request.{Source, badList, sourceNumber, passes}
 use Rattle.refusals.specs.Refusal.{checks}
 use Rattle.refusals.specs.Accepted.{Accepted}
 
@@ -21,10 +21,10 @@ use Rattle.refusals.specs.Accepted.{Accepted}
 abbrev pub buffersRefusal : Room.Arrangement → (n w edges : ℕ) → (us vs : List ℕ) → (misfit : Bool) → (work : ℕ) → ℕ
 buffersRefusal arrangement n w edges us vs misfit work = cond misfit 12 (cond (ltb work (Room.room arrangement n w edges us vs)) 13 0)
 
--- of the checks 10, 12 and 13 the first, with one factor for each kept edge and one result for each pair
-abbrev pub listsRefusal : Room.Arrangement → (n w edges : ℕ) → List ℕ → List ℕ → List Float → (results work : ℕ) → ℕ
-listsRefusal arrangement n w edges us vs factors results work =
-    cond (badFactorList factors edges) 10 (buffersRefusal arrangement n w edges us vs (not (eqb results (length us))) work)
+-- of the checks 10 or 23, 12 and 13 the first, with one factor or coupling for each kept edge and one result for each pair
+abbrev pub listsRefusal : Source → Room.Arrangement → (n w edges : ℕ) → List ℕ → List ℕ → List Float → (results work : ℕ) → ℕ
+listsRefusal source arrangement n w edges us vs list results work =
+    cond (badList source list edges) (sourceNumber source) (buffersRefusal arrangement n w edges us vs (not (eqb results (length us))) work)
 
 -- ---- a job that the checks 1 to 8 pass
 

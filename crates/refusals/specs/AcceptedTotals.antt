@@ -12,22 +12,22 @@ use Rattle.limits.specs.Limits.{testerFree}
 use Rattle.transfer_matrix.specs.Room as Room
 use Rattle.refusals.specs.Edges.{kept, windowFrom}
 use Rattle.refusals.specs.Request.{signedFactors}
-use Rattle.refusals.specs.Request.{badFactorList, passes, tooManyChunks}
+use Rattle.refusals.specs.Request.{Source, badList, sourceNumber, passes, tooManyChunks}
 use Rattle.refusals.specs.Accepted.{AcceptedBetas}
 use Rattle.refusals.specs.AcceptedJob.{AcceptedJob, buffersRefusal}
 
 -- ---- in parts
 
--- of the checks 9, 22, 10, 12 and 13 the first that fits a caller's call with so many betas
-abbrev pub enumerationLists : Caller → Room.Arrangement → (n w edges : ℕ) → (us vs : List ℕ) → (betas : ℕ) → (factors : List Float) → (free most : ℕ) → Bool → (work : ℕ) → ℕ
-enumerationLists caller arrangement n w edges us vs betas factors free most misfit work =
+-- of the checks 9, 22, 10 or 23, 12 and 13 the first that fits a caller's call with this list of factors or couplings, which should have so many
+abbrev pub enumerationLists : Source → Caller → Room.Arrangement → (n w edges : ℕ) → (us vs : List ℕ) → List Float → (count free most : ℕ) → Bool → (work : ℕ) → ℕ
+enumerationLists source caller arrangement n w edges us vs list count free most misfit work =
     cond (ltb most free) 9 (cond (overLimit caller testerFree free) 22
-    (cond (badFactorList factors (signedFactors betas edges)) 10 (buffersRefusal arrangement n w edges us vs misfit work)))
+    (cond (badList source list count) (sourceNumber source) (buffersRefusal arrangement n w edges us vs misfit work)))
 
--- of the checks 10 to 13 the first
-abbrev pub samplingLists : Room.Arrangement → (n w edges : ℕ) → (us vs : List ℕ) → (betas : ℕ) → (factors : List Float) → (start end samples : ℕ) → Bool → (work : ℕ) → ℕ
-samplingLists arrangement n w edges us vs betas factors start end samples misfit work =
-    cond (badFactorList factors (signedFactors betas edges)) 10
+-- of the checks 10 or 23, 11, 12 and 13 the first
+abbrev pub samplingLists : Source → Room.Arrangement → (n w edges : ℕ) → (us vs : List ℕ) → List Float → (count start end samples : ℕ) → Bool → (work : ℕ) → ℕ
+samplingLists source arrangement n w edges us vs list count start end samples misfit work =
+    cond (badList source list count) (sourceNumber source)
     (cond (tooManyChunks start end samples) 11 (buffersRefusal arrangement n w edges us vs misfit work))
 
 -- two result buffers are not both of the length that is wanted; one buffer is the same twice

@@ -20,6 +20,7 @@ pub data Key : Type 0 where
   freeEdges : Key
   testerFree : Key
   factors : Key
+  couplings : Key
   samples : Key
   buffers : Key
   workMemory : Key
@@ -51,6 +52,7 @@ rank dilution = 17
 rank betaOrder = 18
 rank testerWindow = 19
 rank testerFree = 20
+rank couplings = 21
 
 -- Returns whether two keys are the same.
 abbrev pub same : Key → Key → Bool

@@ -7,6 +7,9 @@ pub mod Answers
 pub mod First
 pub mod Accepted
 pub mod Later
+pub mod Alike
 pub mod Tester
 pub mod AcceptedJob
 pub mod AcceptedTotals
+pub mod House
+pub mod Couplings

@@ -2,6 +2,7 @@
 pub mod Edges
 pub mod Places
 pub mod Key
+pub mod Couplings
 pub mod Request
 pub mod Refusal
 pub mod Answers

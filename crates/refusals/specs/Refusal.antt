@@ -3,9 +3,9 @@ use mathlib.Core.Bool.{Bool, cond, _&&_}
 use mathlib.Core.List.{List, [], _∷_, _++_}
 use Prim.Native.Nat.{ℕ}
 use Rattle.limits.specs.Limits.{mostWindow, testerWindow, testerFree}
-use Rattle.refusals.specs.Key.{Key, among}
-use Rattle.refusals.specs.Request.{Request, badVertices, badLists, badEdges, badSizes, unorderedBetas, parallelEdges}
-use Rattle.refusals.specs.Request.{wideWindow, testersOnly, manyNear, badPairs, outsidePairs, manyFree, badFactors, manySamples, shortWork}
+use Rattle.refusals.specs.Key.{Key, same, among}
+use Rattle.refusals.specs.Request.{Request, Source, lent, house, badVertices, badLists, badEdges, badSizes, unorderedBetas, parallelEdges}
+use Rattle.refusals.specs.Request.{wideWindow, testersOnly, manyNear, badPairs, outsidePairs, manyFree, badFactors, badCouplings, manySamples, shortWork}
 
 -- A check of the requests of one kind: its name, the number that it answers, and its test.
 pub record Check (A : Type 0) : Type 0 where
@@ -32,6 +32,7 @@ checks =
     ∷ check Key.freeEdges 9 (λ r. manyFree (r .configurations .most) r)
     ∷ check Key.testerFree 22 (testersOnly (manyFree testerFree))
     ∷ check Key.factors 10 badFactors
+    ∷ check Key.couplings 23 badCouplings
     ∷ check Key.samples 11 manySamples
     ∷ check Key.buffers 12 (λ r. r .misfit)
     ∷ check Key.workMemory 13 shortWork
@@ -107,3 +108,13 @@ ofEnumeration = ofJob ++ (ofEnumerationLists ++ ofSweeps)
 -- Those of `sample`.
 abbrev pub ofSampling : List Key
 ofSampling = ofJob ++ (ofSamplingLists ++ ofSweeps)
+
+-- The same of a house call: its couplings are asked of in the place of factors,
+abbrev pub housed : List Key → List Key
+housed [] = []
+housed (k ∷ ks) = cond (same k Key.factors) Key.couplings k ∷ housed ks
+
+-- or of a call by the source of its factors.
+abbrev pub sourced : Source → List Key → List Key
+sourced lent ks = ks
+sourced house ks = housed ks

@@ -1,10 +1,11 @@
 -- What a call is given, as far as the checks read it, and each check's own test in the words of document 01.
-use mathlib.Core.Bool.{Bool, true, false, not, _||_, _&&_}
+use mathlib.Core.Bool.{Bool, false, not, _||_, _&&_}
 use mathlib.Core.List.{List, [], _∷_}
 use Prim.Native.Nat.{ℕ, _+_, _-_, _*_}
 use lib.Dec.{eqb, ltb, leb}
 use lib.Ieee.{Float, nan, inf, binary64, le, lt, neg, ofBits}
 use lib.ListN.{length, getD}
+use Rattle.coupling_grid.specs.Grid.{someOffGrid}
 use Rattle.limits.specs.declared.Caller.{Caller}
 use Rattle.limits.specs.declared.Caller.the-variants.{Desk}
 use Rattle.limits.specs.Callers.{isTester}
@@ -14,7 +15,8 @@ use Rattle.list_laws.specs.Search.{some}
 use Rattle.transfer_matrix.specs.Job.{tooManyNear}
 use Rattle.transfer_matrix.specs.Configuration.{numbered}
 use Rattle.transfer_matrix.specs.Room as Room
-use Rattle.refusals.specs.Edges.{Kept, kept, earlyEnds, lateEnds, windowFrom}
+use Rattle.refusals.specs.Edges.{Kept, kept, earlyEnds, lateEnds, windowFrom, keptMagnitudes}
+use Rattle.refusals.specs.Couplings.{allCouplings}
 
 -- Which signs of the free edges a call goes through: all of them, or chunks of drawn ones.
 pub record Configurations : Type 0 where
@@ -52,7 +54,7 @@ pub record Request : Type 0 where
   pub seconds : List ℕ
   pub betas : List Float
   pub configurations : Configurations
-  -- the lent factors, and how many there should be
+  -- the lent factors, or the couplings of a house call, and how many there should be
   pub factors : List Float
   pub factorCount : ℕ
   -- whether a result buffer is not of its exact length, or too short where that is the rule
@@ -135,6 +137,19 @@ abbrev pub samplingRequest : Caller → Room.Arrangement → (n floor : ℕ) →
 samplingRequest caller arrangement n floor a b m us vs betas factors free start end samples misfit work unsound =
     sweepRequest caller arrangement n floor a b m us vs betas (sampled free start end samples) factors (signedFactors (length betas) (length (kept a b m))) misfit work
     unsound
+
+-- The requests of house calls for totals, which are lent no factors: the couplings are those of each beta and kept edge.
+abbrev pub houseEnumerationRequest : Caller → Room.Arrangement → (n floor : ℕ) → (a b : List ℕ) → List Float → (us vs : List ℕ) → List Float
+    → (free most : ℕ) → (misfit : Bool) → (work : ℕ) → Bool → Request
+houseEnumerationRequest caller arrangement n floor a b m us vs betas free most misfit work unsound =
+    sweepRequest caller arrangement n floor a b m us vs betas (enumerated free most) (allCouplings betas (keptMagnitudes a b m))
+    (length betas * length (keptMagnitudes a b m)) misfit work unsound
+
+abbrev pub houseSamplingRequest : Caller → Room.Arrangement → (n floor : ℕ) → (a b : List ℕ) → List Float → (us vs : List ℕ) → List Float
+    → (free start end samples : ℕ) → (misfit : Bool) → (work : ℕ) → Bool → Request
+houseSamplingRequest caller arrangement n floor a b m us vs betas free start end samples misfit work unsound =
+    sweepRequest caller arrangement n floor a b m us vs betas (sampled free start end samples) (allCouplings betas (keptMagnitudes a b m))
+    (length betas * length (keptMagnitudes a b m)) misfit work unsound
 
 -- 1. The vertex count is 0 or above 1,024.
 abbrev pub badVertices : Request → Bool
@@ -232,6 +247,27 @@ badFactorList factors count = not (eqb (length factors) count) || some (λ e. no
 
 abbrev pub badFactors : Request → Bool
 badFactors r = badFactorList (r .factors) (r .factorCount)
+
+-- 23. The list of couplings has another length, or a coupling is off the grid or beyond 4 in size.
+abbrev pub badCouplingList : List Float → ℕ → Bool
+badCouplingList couplings count = not (eqb (length couplings) count) || someOffGrid couplings
+
+abbrev pub badCouplings : Request → Bool
+badCouplings r = badCouplingList (r .factors) (r .factorCount)
+
+-- Where the factors of a call come from: its caller lends them, or they are the house table's at its couplings.
+pub data Source : Type 0 where
+  lent : Source
+  house : Source
+
+-- Which list is bad by 10 or by 23, and that number.
+abbrev pub badList : Source → List Float → ℕ → Bool
+badList lent = badFactorList
+badList house = badCouplingList
+
+abbrev pub sourceNumber : Source → ℕ
+sourceNumber lent = 10
+sourceNumber house = 23
 
 -- 11. End above start, and chunks times samples per chunk exceed 2^32.
 abbrev pub tooManyChunks : (start end samples : ℕ) → Bool

@@ -1,7 +1,6 @@
 -- What is proved of the definitions.
 pub mod WholeRoot
 pub mod Examples
-pub mod Smallest
 pub mod Halves
 pub mod Middles
 pub mod Root

@@ -1,22 +1,9 @@
 -- What the square root of a number above zero is: the value of the format nearest to the real root, said without real numbers.
-use Prim.Native.Nat.{ℕ, _+_, _*_, _<_}
-use mathlib.Core.Bool.{Bool, false, not}
+use Prim.Native.Nat.{_*_, _<_}
 use lib.Dec.{T}
-use lib.Ieee.{Float, nan, inf, fin, Format, fits, lt}
+use lib.Ieee.{Float, Format, fits, lt}
 use lib.Ieee.Positive.{num, den, positive}
-
--- finite, and without a minus sign
-abbrev pub nonnegative : Float → Bool
-nonnegative nan = false
-nonnegative (inf s) = false
-nonnegative (fin s m e) = not s
-
--- y + r as a fraction: y is num y / den y
-abbrev pub sumTop : Float → Float → ℕ
-sumTop y r = num y * den r + num r * den y
-
-abbrev pub sumBottom : Float → Float → ℕ
-sumBottom y r = den y * den r
+use Rattle.nearest.specs.Nearest.{nonnegative, sumTop, sumBottom}
 
 -- the middle of y and r is below √x: (y + r)² < 4 x
 abbrev pub MiddleBelow : Float → Float → Float → Type 0

@@ -7,11 +7,11 @@ use lib.Dec.{T}
 use lib.Pow.{pow-pos}
 use lib.Ieee.{Float, Format, low, fits}
 use lib.Ieee.Positive.{num, den, positive, den-pos, own-value, value-pos, first-pos}
+use Rattle.nearest.specs.Laws.Smallest.{in-smallest}
+use Rattle.nearest.specs.Laws.Values.{nonnegative-of, same-value}
 use Rattle.sqrt.specs.Nearest.{NearestRoot}
 use Rattle.sqrt.specs.Sqrt.{sqrt}
-use Rattle.sqrt.specs.Laws.Smallest.{in-smallest}
-use Rattle.sqrt.specs.Laws.Middles.{nonnegative-of}
-use Rattle.sqrt.specs.Laws.Root.{sqrt-is, root-nearest, same-value, clash}
+use Rattle.sqrt.specs.Laws.Root.{sqrt-is, root-nearest, clash}
 
 -- ---- it is the nearest
 pub sqrt-nearest : (f : Format) (x : Float) → T (fits f x) → T (positive x) → NearestRoot f x (sqrt f x)

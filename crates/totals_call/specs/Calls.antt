@@ -2,15 +2,18 @@
 use mathlib.Core.Path.{_≡_}
 use mathlib.Core.Bool.{Bool, not}
 use mathlib.Core.List.{List}
-use Prim.Native.Nat.{ℕ}
+use Prim.Native.Nat.{ℕ, _*_}
 use lib.Dec.{eqb}
 use lib.Ieee.{Float}
 use lib.ListN.{length}
 use Rattle.limits.specs.declared.Caller.{Caller}
 use Rattle.transfer_matrix.specs.Rounded.{ieee}
 use Rattle.transfer_matrix.specs.Totals.{square, fourth, enumeratedCount, sampledCount}
-use Rattle.refusals.specs.Request.{enumerationRequest, samplingRequest, mostCounted, mostStored}
-use Rattle.refusals.specs.Refusal.{refusal, ofEnumeration, ofSampling}
+use Rattle.refusals.specs.Couplings.{allCouplings}
+use Rattle.refusals.specs.Edges.{keptMagnitudes}
+use Rattle.refusals.specs.Request.{Source, house, enumerated, sampled, sweepRequest, enumerationRequest, samplingRequest, mostCounted, mostStored}
+use Rattle.refusals.specs.Refusal.{refusal, ofEnumeration, ofSampling, sourced}
+use Rattle.house_factors.specs.Factors.{pairedFactors}
 use Rattle.refusals.specs.AcceptedTotals.{misfits}
 use Rattle.refusals.specs.Answers.{answered}
 use Rattle.refusals.specs.declared.Answer.{Answer}
@@ -69,6 +72,18 @@ module _ (g : Given) where
       (samplingRequest (g .caller) (arrangementOf (g .arrangement)) (g .n) (g .floor) (g .a) (g .b) (g .m) (g .us) (g .vs) (g .betas) (g .factors) (free g) from to samples misfit work
       (unsoundDrawn seed from to samples))
 
+  -- The same by the source of the factors, of this list of factors or couplings, which should have so many.
+  abbrev pub refusedAllBy : Source → List Float → (count most : ℕ) → (misfit : Bool) → (work : ℕ) → ℕ
+  refusedAllBy source list count most misfit work =
+      refusal (sourced source ofEnumeration)
+      (sweepRequest (g .caller) (arrangementOf (g .arrangement)) (g .n) (g .floor) (g .a) (g .b) (g .m) (g .us) (g .vs) (g .betas) (enumerated (free g) most) list count misfit work unsoundAll)
+
+  abbrev pub refusedDrawnBy : Source → List Float → (count seed from to samples : ℕ) → (misfit : Bool) → (work : ℕ) → ℕ
+  refusedDrawnBy source list count seed from to samples misfit work =
+      refusal (sourced source ofSampling)
+      (sweepRequest (g .caller) (arrangementOf (g .arrangement)) (g .n) (g .floor) (g .a) (g .b) (g .m) (g .us) (g .vs) (g .betas) (sampled (free g) from to samples) list count misfit work
+      (unsoundDrawn seed from to samples))
+
   -- The list of stored correlations is not of its exact length.
   abbrev pub misfitStored : (stored : ℕ) → Bool
   misfitStored stored = not (eqb stored (storedCount (early g) (late g) (g .us) (length (g .betas))))
@@ -103,4 +118,56 @@ module _ (n floor : ℕ) (a b : List ℕ) (m : List Float) (us vs : List ℕ) (b
   pub record Sampled (seed from to samples : ℕ) (r : Answer) (squares squares′ fourths fourths′ work work′ : List Float) : Type 0 where
     pub call : Totalled (refusedSampling seed from to samples (length squares) (length fourths) (length work)) (sampledCount from to samples)
         (totalsOfDrawn given seed from to samples (square ieee)) (totalsOfDrawn given seed from to samples (fourth ieee)) (end given) r
+        squares squares′ fourths fourths′ work work′
+
+-- ---- of the house entries, which are lent no factors
+
+module _ (n floor : ℕ) (a b : List ℕ) (m : List Float) (us vs : List ℕ) (betas : List Float) (manner : Manner) (arrangement : Arrangement) (caller : Caller) where
+  -- The couplings of each beta and kept edge; the factors are the table's, for either sign.
+  abbrev pub houseCouplings : List Float
+  houseCouplings = allCouplings betas (keptMagnitudes a b m)
+
+  abbrev pub houseGiven : Given
+  houseGiven = record {
+    n = n;
+    floor = floor;
+    a = a;
+    b = b;
+    m = m;
+    us = us;
+    vs = vs;
+    betas = betas;
+    factors = pairedFactors houseCouplings;
+    manner = manner;
+    arrangement = arrangement;
+    caller = caller;
+  }
+
+  -- How many couplings there are.
+  abbrev pub couplingCount : ℕ
+  couplingCount = length betas * length (keptMagnitudes a b m)
+
+  -- The refusals of `house_exhaustive`, `house_exhaustive_c` and `house_sample`.
+  abbrev pub refusedHouseEnumeration : (squares fourths work : ℕ) → ℕ
+  refusedHouseEnumeration squares fourths = refusedAllBy houseGiven house houseCouplings couplingCount mostCounted (misfits (sums houseGiven) squares fourths)
+
+  abbrev pub refusedHouseStoring : (stored work : ℕ) → ℕ
+  refusedHouseStoring stored = refusedAllBy houseGiven house houseCouplings couplingCount mostStored (misfitStored houseGiven stored)
+
+  abbrev pub refusedHouseSampling : (seed from to samples squares fourths work : ℕ) → ℕ
+  refusedHouseSampling seed from to samples squares fourths =
+      refusedDrawnBy houseGiven house houseCouplings couplingCount seed from to samples (misfits (sums houseGiven) squares fourths)
+
+  -- What each answers and leaves.
+  pub record HouseEnumerated (r : Answer) (squares squares′ fourths fourths′ work work′ : List Float) : Type 0 where
+    pub call : Totalled (refusedHouseEnumeration (length squares) (length fourths) (length work)) (enumeratedCount (free houseGiven))
+        (totalsOfAll houseGiven (square ieee)) (totalsOfAll houseGiven (fourth ieee)) (end houseGiven) r squares squares′ fourths fourths′ work work′
+
+  pub record HouseEnumeratedEach (r : Answer) (stored stored′ work work′ : List Float) : Type 0 where
+    pub call : Stored (refusedHouseStoring (length stored) (length work)) (enumeratedCount (free houseGiven)) (correlationsOfAll houseGiven) (end houseGiven) r
+        stored stored′ work work′
+
+  pub record HouseSampled (seed from to samples : ℕ) (r : Answer) (squares squares′ fourths fourths′ work work′ : List Float) : Type 0 where
+    pub call : Totalled (refusedHouseSampling seed from to samples (length squares) (length fourths) (length work)) (sampledCount from to samples)
+        (totalsOfDrawn houseGiven seed from to samples (square ieee)) (totalsOfDrawn houseGiven seed from to samples (fourth ieee)) (end houseGiven) r
         squares squares′ fourths fourths′ work work′

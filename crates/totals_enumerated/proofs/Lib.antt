@@ -1,3 +1,3 @@
 -- Laws that the proofs share.
 mod Standing
-mod Ranges
+pub mod Ranges

@@ -107,8 +107,19 @@ fn edges_of(strip: &Strip, entry: Entry) -> Vec<(usize, usize, f64)> {
 
 impl Job {
     pub fn new(strip: &Strip, entry: Entry) -> Job {
+        Job::at(strip, entry, betas_of(strip.graph().win))
+    }
+
+    /// At betas of the grid, with the table's factors.
+    pub fn of_house(strip: &Strip, entry: Entry, betas: &[f64]) -> Job {
+        let job = Job::at(strip, entry, betas.to_vec());
+        let factors = job.lists.job().graph.house_factors(betas).expect("these betas are refused").all;
+        Job { factors, ..job }
+    }
+
+    fn at(strip: &Strip, entry: Entry, betas: Vec<f64>) -> Job {
         let strip = if entry == Entry::Exhaustive { enumerated(strip) } else { with_free_edges(strip.clone()) };
-        let (betas, by) = (betas_of(strip.graph().win), drawn(strip.w));
+        let by = drawn(strip.w);
         Job::of(strip, entry, betas, by)
     }
 
@@ -151,6 +162,15 @@ impl Job {
         match self.entry {
             Entry::Exhaustive | Entry::Sparse => job.exhaustive(&self.betas, factors, options, squares, fourths, work),
             Entry::Sample => job.sample(&self.betas, factors, options, &self.by, squares, fourths, work),
+        }
+    }
+
+    /// The same by house factors.
+    pub fn house(&self, options: impl Into<Options>, squares: &mut [f64], fourths: &mut [f64], work: &mut [f64]) -> Result<usize, Refusal> {
+        let (job, betas) = (self.lists.job(), black_box(&self.betas[..]));
+        match self.entry {
+            Entry::Exhaustive | Entry::Sparse => job.house_exhaustive(betas, options, squares, fourths, work),
+            Entry::Sample => job.house_sample(betas, options, &self.by, squares, fourths, work),
         }
     }
 }

@@ -1,4 +1,5 @@
-//! Correlations and their room, against the original where the factors are exponentials, and against document 01's sweep rules.
+//! Correlations and their room, against the original where the factors are exponentials, and against document 01's sweep rules. Those by house
+//! factors are drawn apart.
 
 mod drawing;
 mod expected;
@@ -8,7 +9,7 @@ mod lent;
 use crate::draw::Draw;
 use crate::guarded::{equal, Guarded};
 use crate::shapes::{pairs, swept_graph, Reach};
-use drawing::{factors, sound, spoil};
+use drawing::{factors, sound, sound_house, spoil};
 use expected::{outcome, Before, Outcome};
 use jobs::{work_length, Job};
 use lent::Lent;
@@ -16,10 +17,27 @@ use oracle::rules::refusals::job_refusal;
 
 pub fn try_one(draw: &mut Draw) -> Result<usize, String> {
     let mut job = sound(draw);
+    spoil_some(draw, &mut job);
+    compare_job(draw, &job)
+}
+
+/// One by house factors.
+pub fn try_house(draw: &mut Draw) -> Result<usize, String> {
+    let mut job = sound_house(draw);
+    spoil_some(draw, &mut job);
+    job.settle_house();
+    compare_job(draw, &job)
+}
+
+/// Up to two things that may be refused.
+fn spoil_some(draw: &mut Draw, job: &mut Job) {
     for _ in 0..draw.of(&[0, 0, 0, 1, 1, 2]) {
-        spoil(draw, &mut job);
+        spoil(draw, job);
     }
-    compare_room(&job).and_then(|()| compare(draw, &job)).map_err(|why| format!("{}: {why}", job.told()))
+}
+
+fn compare_job(draw: &mut Draw, job: &Job) -> Result<usize, String> {
+    compare_room(job).and_then(|()| compare(draw, job)).map_err(|why| format!("{}: {why}", job.told()))
 }
 
 /// A job of a window from 19 to 24, with a pair or two: hundreds of megabytes, and seconds.
@@ -33,8 +51,8 @@ pub fn try_wide(draw: &mut Draw) -> Result<usize, String> {
     let pairs = pairs(draw, edges.n, window, count);
     let (couplings, factors) = factors(draw, &edges, 0);
     let results = pairs.us.len();
-    let job = Job { edges, pairs, couplings, factors, options: draw.below(4), results, spare: 1, gentle: true, wide: true };
-    compare_room(&job).and_then(|()| compare(draw, &job)).map_err(|why| format!("{}: {why}", job.told()))
+    let options = draw.below(4);
+    compare_job(draw, &Job { edges, pairs, couplings, factors, house: None, options, results, spare: 1, gentle: true, wide: true })
 }
 
 /// Compares what `room` returns with documents 01 and 02.
@@ -66,10 +84,10 @@ fn compare(draw: &mut Draw, job: &Job) -> Result<usize, String> {
     Ok(number)
 }
 
-/// Compares the call with two lists of ends, and where these are of one length that with records.
+/// Compares the call with two lists of ends, and where these are of one length that with records; a call for house factors takes none.
 fn compare_calls(job: &Job, outcome: &Outcome, before: &Before) -> Result<usize, String> {
     let lent = Lent::new(job);
-    if job.pairs.us.len() == job.pairs.vs.len() {
+    if job.house.is_none() && job.pairs.us.len() == job.pairs.vs.len() {
         compare_call(&lent, outcome, before, Lent::correlations_of).map_err(|why| format!("pair records: {why}"))?;
     }
     compare_call(&lent, outcome, before, Lent::correlations)
@@ -90,7 +108,7 @@ fn compare_call<'a>(lent: &Lent<'a>, outcome: &Outcome, before: &Before, call: C
 
 #[cfg(test)]
 mod tests {
-    use super::drawing::sound;
+    use super::drawing::{sound, sound_house};
     use super::jobs::Job;
     use crate::draw::Draw;
 
@@ -104,5 +122,14 @@ mod tests {
         assert!(drawn_jobs(|job| job.less()) > 1500 && drawn_jobs(|job| !job.less()) > 1500);
         let smaller = |job: &Job| job.room().abs_diff(job.rearranged().room()) > 0;
         assert!(drawn_jobs(smaller) > 800);
+    }
+    #[test]
+    fn house_couplings_of_every_kind_are_drawn() {
+        let jobs: Vec<Job> = (0..2000).map(|job| sound_house(&mut Draw::new(3, 10, job))).collect();
+        let drawn = |such: fn(f64) -> bool| jobs.iter().filter(|job| job.lent().iter().any(|&x| such(x))).count();
+        assert!(jobs.iter().all(|job| job.edges.kept().is_empty() || job.lent_refusal() == 0));
+        assert!([drawn(|x| x == 4.0), drawn(|x| x == -4.0), drawn(|x| x.to_bits() == 1 << 63), drawn(|x| x.abs() < 1.0)]
+            .iter()
+            .all(|&n| n > 200));
     }
 }

@@ -41,8 +41,8 @@ pub fn try_one(draw: &mut Draw) -> Result<usize, String> {
         spoil_graph(draw, &mut edges);
     }
     let betas = betas(draw);
-    let kept = edges.kept();
-    let wanted = betas.len() * kept.len();
+    let all = edges.couplings(&betas);
+    let wanted = all.len();
     let length = draw.of(&[wanted, wanted, wanted, wanted, wanted + 1, wanted.saturating_sub(1)]);
     let before = draw.held(length);
     let (a, b, m) = (Guarded::new(&edges.a), Guarded::new(&edges.b), Guarded::new(&edges.m));
@@ -64,7 +64,6 @@ pub fn try_one(draw: &mut Draw) -> Result<usize, String> {
     };
     let expected = first(graph_refusal(&edges, &Pairs::default(), &betas), || unless(length == wanted, 12));
     equal("answer", number, expected)?;
-    let all: Vec<f64> = betas.iter().flat_map(|beta| kept.iter().map(move |e| beta * e.2)).collect();
     results.holds("results", if expected == 0 { &all } else { &before })?;
     a.holds("a", &edges.a)?;
     b.holds("b", &edges.b)?;

@@ -75,6 +75,28 @@ impl Draw {
         self.of(&[f64::INFINITY, f64::NEG_INFINITY, nan, 0.0, -0.0, negative])
     }
 
+    /// A multiple of 1/128, of either sign and so many steps at most.
+    pub fn steps(&mut self, most: usize) -> f64 {
+        (self.within(0, 2 * most) as f64 - most as f64) / 128.0
+    }
+
+    /// A coupling that has a house factor: small ones, any, or the ends and zeros of either sign.
+    pub fn house_coupling(&mut self, style: usize) -> f64 {
+        match style {
+            0 => self.steps(192),
+            1 => self.steps(512),
+            _ => self.of(&[4.0, -4.0, 0.0, -0.0, 1.0 / 128.0, -1.0 / 128.0]),
+        }
+    }
+
+    /// One that has none: beside the grid, between its steps, past its ends, or not finite.
+    pub fn no_house_coupling(&mut self) -> f64 {
+        let (on, nan) = (self.house_coupling(1), self.nan());
+        let (past, far) = (4.0 + 1.0 / 128.0, [f64::INFINITY, f64::NEG_INFINITY, 1e300]);
+        let off = self.of(&[0.1, on.next_up(), on.next_down(), on + 1.0 / 256.0, 5e-324, -5e-324]);
+        self.of(&[off, off, off, past, -past, far[0], far[1], far[2], nan])
+    }
+
     /// A double that is no magnitude: not finite, or of a size above 1,024.
     pub fn no_magnitude(&mut self) -> f64 {
         let (above, nan) = (f64::from_bits(1024f64.to_bits() + 1 + self.word() % 1000), self.nan());

@@ -1,9 +1,10 @@
 //! Totals over configurations, enumerated, stored and sampled, against the original where the factors are exponentials, and against
-//! document 01's rules where the job is small.
+//! document 01's rules where the job is small. Those by house factors are drawn apart.
 
 mod calls;
 mod drawing;
 mod expected;
+mod house;
 mod lent;
 
 use crate::draw::Draw;
@@ -23,6 +24,17 @@ pub fn try_one(draw: &mut Draw) -> Result<usize, String> {
     for _ in 0..spoils {
         spoil_lists(draw, &mut call);
     }
+    compare(draw, &call).map_err(|why| format!("{}: {why}", call.told()))
+}
+
+/// One by house factors.
+pub fn try_house(draw: &mut Draw) -> Result<usize, String> {
+    let mut call = house::sound(draw);
+    for _ in 0..draw.of(&[0, 0, 0, 1, 1, 2]) {
+        spoil_job(draw, &mut call);
+        spoil_lists(draw, &mut call);
+    }
+    house::settle(&mut call);
     compare(draw, &call).map_err(|why| format!("{}: {why}", call.told()))
 }
 

@@ -48,12 +48,33 @@
 //! assert_eq!(refused.to_string(), "a strip side is 0, or the sides multiply above 1,024 (refusal 15)");
 //! # Ok::<(), copperhook::Refusal>(())
 //! ```
+//!
+//! The same without the host's `exp`, whose last bits differ between machines: house factors, for couplings that are multiples of 1/128 from
+//! -4 to 4 ([`house`]).
+//!
+//! ```
+//! use copperhook::{house, Job, Kind, Manner, Refusal, Strip};
+//!
+//! let strip = Strip { kind: Kind::Square, width: 2, length: 2, periodic: false };
+//! let edges = strip.edge_list()?;
+//! let job = Job { graph: edges.graph(strip.n()?), us: &[0], vs: &[1] };
+//! let (mut results, mut lent, mut work) = ([0.0], [0.0], vec![0.0; job.room()?]);
+//! job.house_correlations(&[0.5, -0.25, 1.0, 0.5], Manner::Block, &mut results, &mut work)?;
+//! let factors = [0.5, -0.25, 1.0, 0.5].map(|coupling| house::factor(coupling).expect("these are on the grid"));
+//! job.correlations(&factors, Manner::Block, &mut lent, &mut work)?;
+//! assert_eq!(results[0].to_bits(), lent[0].to_bits());
+//!
+//! let refused = job.house_exhaustive(&[0.44], Manner::Block, &mut [0.0], &mut [0.0], &mut work);
+//! assert_eq!((refused, house::nearest(0.44)), (Err(Refusal::Couplings), 0.4375));
+//! # Ok::<(), copperhook::Refusal>(())
+//! ```
 #![warn(missing_docs)]
 
 mod accuracy;
 mod call;
 mod estimate;
 mod graph;
+pub mod house;
 mod job;
 mod kind;
 pub mod limits;

@@ -120,12 +120,17 @@ impl Graph<'_> {
         KeptList::filled(|early, late, mag, raw| self.rotated(early, late, mag, raw))
     }
 
-    /// Returns the exponentials of the couplings at these betas, of either sign.
+    /// Returns the exponentials of the couplings at these betas, of either sign, as the host has them.
     pub fn factors(&self, betas: &[f64]) -> Result<Factors, Refusal> {
+        self.factors_by(betas, |coupling| Ok(coupling.exp()))
+    }
+
+    /// Returns the factors that a rule has for the couplings at these betas, of either sign.
+    pub(crate) fn factors_by(&self, betas: &[f64], factor: impl Fn(f64) -> Result<f64, Refusal>) -> Result<Factors, Refusal> {
         let kept = self.kept_list()?.raw.len();
         let mut couplings = vec![0.0; kept * betas.len()];
         self.couplings(betas, &mut couplings)?;
-        let all = couplings.iter().flat_map(|&x: &f64| [x.exp(), (-x).exp()]).collect();
+        let all = couplings.iter().flat_map(|&x| [factor(x), factor(-x)]).collect::<Result<_, _>>()?;
         Ok(Factors { kept, all })
     }
 }

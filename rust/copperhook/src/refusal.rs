@@ -5,7 +5,8 @@ use std::fmt;
 
 numbered! {
     /// Why a call is refused. The numbers follow the order of the checks, but that strips check 15 to 17 before 12, 21 stands between 4
-    /// and 5, and 22 right behind 6 for the window and right behind 9 for free edges: of several reasons that fit, the first is returned.
+    /// and 5, 22 right behind 6 for the window and right behind 9 for free edges, and 23 in the place of 10: of several reasons that fit,
+    /// the first is returned.
     pub enum Refusal;
 
     /// Returns what is wrong, as a sentence without its full stop.
@@ -32,6 +33,8 @@ numbered! {
     Sums = 18, "the count is 0 or above 2^53, or 0 <= fourth powers <= squares <= count fails";
     Betas = 21, "the betas don't rise strictly";
     TesterLimit = 22, "the window is above 12, or free edges exceed 16, the limits of the tester's calls";
+    /// [`house::nearest`](crate::house::nearest) tells what could stand there instead.
+    Couplings = 23, "the couplings for house factors have another length, or one isn't a multiple of 1/128 from -4 to 4";
 }
 
 impl Refusal {

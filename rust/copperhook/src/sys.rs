@@ -191,6 +191,109 @@ extern "C" {
     /// The square root of IEEE 754.
     pub fn copperhook_sqrt(x: f64) -> f64;
 
+    /// The correlations of the pairs, from the house factors of couplings.
+    pub fn copperhook_house_correlations(
+        n: usize,
+        floor: usize,
+        a: *const usize,
+        a_len: usize,
+        b: *const usize,
+        b_len: usize,
+        m: *const f64,
+        m_len: usize,
+        us: *const usize,
+        us_len: usize,
+        vs: *const usize,
+        vs_len: usize,
+        couplings: *const f64,
+        couplings_len: usize,
+        options: usize,
+        results: *mut f64,
+        results_len: usize,
+        work: *mut f64,
+        work_len: usize,
+    ) -> usize;
+
+    /// The sums of squares and of fourth powers over all configurations, by house factors.
+    pub fn copperhook_house_exhaustive(
+        n: usize,
+        floor: usize,
+        a: *const usize,
+        a_len: usize,
+        b: *const usize,
+        b_len: usize,
+        m: *const f64,
+        m_len: usize,
+        us: *const usize,
+        us_len: usize,
+        vs: *const usize,
+        vs_len: usize,
+        betas: *const f64,
+        betas_len: usize,
+        options: usize,
+        squares: *mut f64,
+        squares_len: usize,
+        fourths: *mut f64,
+        fourths_len: usize,
+        work: *mut f64,
+        work_len: usize,
+        count: *mut usize,
+    ) -> usize;
+
+    /// The correlations of all configurations, by house factors.
+    pub fn copperhook_house_exhaustive_c(
+        n: usize,
+        floor: usize,
+        a: *const usize,
+        a_len: usize,
+        b: *const usize,
+        b_len: usize,
+        m: *const f64,
+        m_len: usize,
+        us: *const usize,
+        us_len: usize,
+        vs: *const usize,
+        vs_len: usize,
+        betas: *const f64,
+        betas_len: usize,
+        options: usize,
+        stored: *mut f64,
+        stored_len: usize,
+        work: *mut f64,
+        work_len: usize,
+        count: *mut usize,
+    ) -> usize;
+
+    /// The sums of squares and of fourth powers over drawn configurations, by house factors.
+    pub fn copperhook_house_sample(
+        n: usize,
+        floor: usize,
+        a: *const usize,
+        a_len: usize,
+        b: *const usize,
+        b_len: usize,
+        m: *const f64,
+        m_len: usize,
+        us: *const usize,
+        us_len: usize,
+        vs: *const usize,
+        vs_len: usize,
+        betas: *const f64,
+        betas_len: usize,
+        options: usize,
+        seed: u64,
+        from: u64,
+        to: u64,
+        samples: usize,
+        squares: *mut f64,
+        squares_len: usize,
+        fourths: *mut f64,
+        fourths_len: usize,
+        work: *mut f64,
+        work_len: usize,
+        count: *mut usize,
+    ) -> usize;
+
     /// How far each correlation can be from the exact one.
     pub fn copperhook_error_bound(
         n: usize,

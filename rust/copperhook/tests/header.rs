@@ -1,7 +1,7 @@
 //! The C header: it compiles as C11 and as C++17 without a warning, it declares what the bindings declare, and a C program that uses it
 //! prints what the bindings return.
 
-use copperhook::{limits, Arrangement, Caller, Job, Kind, Manner, Refusal, Strip};
+use copperhook::{limits, Arrangement, Caller, Graph, Job, Kind, Manner, Refusal, Sampling, Strip};
 use std::collections::BTreeMap;
 use std::path::{Path, PathBuf};
 use std::process::{Command, Output};
@@ -186,4 +186,27 @@ fn a_c_program_prints_what_the_bindings_answer() {
     for line in ["corner-adj-a 0 1", "opp-corners 0 3"] {
         assert!(printed.contains(line), "{printed}");
     }
+}
+
+/// What tests/house.c prints, from the bindings.
+fn house_lines() -> Result<String, Refusal> {
+    let graph = Graph::new(3, &[0, 1, 0], &[1, 2, 2], &[1.0, 0.5, 2.0]);
+    let (job, betas, by) = (Job { graph, us: &[0, 0], vs: &[1, 2] }, [0.25, 1.0], Sampling { seed: 7, from: 2, to: 5, samples: 4 });
+    let (mut results, mut stored, mut work) = ([0.0; 2], [0.0; 8], vec![0.0; job.room()?]);
+    let line = |list: &[f64]| list.iter().fold("0".to_string(), |line, x| line + &format!(" {:016x}", x.to_bits())) + "\n";
+    job.house_correlations(&[0.5, -0.25, 4.0], Manner::Block, &mut results, &mut work)?;
+    let mut lines = line(&results);
+    job.house_exhaustive_c(&betas, Manner::Block, &mut stored, &mut work)?;
+    lines += &line(&stored);
+    let (squares, fourths) = stored.split_at_mut(4);
+    job.house_exhaustive(&betas, Manner::Block, squares, fourths, &mut work)?;
+    lines += &line(&stored);
+    let (squares, fourths) = stored.split_at_mut(4);
+    job.house_sample(&betas, Manner::Block, &by, squares, fourths, &mut work)?;
+    Ok(lines + &line(&stored) + "23\n")
+}
+
+#[test]
+fn a_c_program_by_house_factors_prints_what_the_bindings_answer() {
+    assert_eq!(printed_by("house", &[]), house_lines().unwrap());
 }

@@ -5,6 +5,7 @@ use crate::options::Options;
 use crate::trouble::Trouble;
 use crate::values::spelled;
 use copperhook::{limits, Arrangement, Caller, Dilution, EdgeList, Factors, Graph, Job, Kind, LabelledPair, Manner, Refusal, Strip};
+use std::ops::Range;
 
 pub struct Board {
     pub strip: Strip,
@@ -22,6 +23,8 @@ pub struct Board {
     rooms: [usize; 2],
     /// Of both signs, at each beta and kept edge.
     pub factors: Factors,
+    /// Whether they are the library's own, and not the host's exponentials.
+    pub house: bool,
     diluted: Option<String>,
     edges: EdgeList,
     us: Vec<usize>,
@@ -81,15 +84,16 @@ impl Board {
         let (us, vs): (Vec<usize>, Vec<usize>) = pairs.iter().map(|p| (p.u, p.v)).unzip();
         let job = Job { graph, us: &us, vs: &vs };
         let rooms = [job.room().map_err(named)?, job.room_in(Arrangement::LessRoom).map_err(named)?];
-        let factors = graph.factors(&options.betas).map_err(|refusal| explained::of_betas(&options.betas, refusal))?;
+        let factors = if options.house { graph.house_factors(&options.betas) } else { graph.factors(&options.betas) };
+        let factors = factors.map_err(|refusal| explained::of_factors(options, &edges.m, refusal))?;
         let free = graph.cyclomatic().map_err(named)?;
         let distances = pairs.iter().map(|p| graph.distance(p.u, p.v)).collect::<Result<_, _>>().map_err(named)?;
         let (betas, kept) = (options.betas.clone(), factors.kept);
         let manner = if options.per_element { Manner::PerElement } else { Manner::Block };
         let arrangement = if options.less_room { Arrangement::LessRoom } else { Arrangement::KeepAll };
         let caller = if options.tester { Caller::Tester } else { Caller::Desk };
-        let (of_calls, diluted) = (copperhook::Options { manner, arrangement, caller }, diluted(options));
-        Ok(Board { strip, betas, options: of_calls, pairs, distances, n, kept, free, window, rooms, factors, diluted, edges, us, vs })
+        let (calls, house, diluted) = (copperhook::Options { manner, arrangement, caller }, options.house, diluted(options));
+        Ok(Board { strip, betas, options: calls, pairs, distances, n, kept, free, window, rooms, factors, house, diluted, edges, us, vs })
     }
 
     /// The work memory of one call that keeps all, in doubles.
@@ -136,14 +140,24 @@ impl Board {
         order
     }
 
-    /// Of both signs, at beta i.
-    pub fn factors_at(&self, i: usize) -> &[f64] {
-        &self.factors.all[2 * i * self.kept..2 * (i + 1) * self.kept]
+    /// Of both signs, at the betas of these places.
+    pub fn factors_of(&self, betas: Range<usize>) -> &[f64] {
+        &self.factors.all[2 * betas.start * self.kept..2 * betas.end * self.kept]
     }
 
-    /// What the factors at beta i are exponentials of, of either sign or of a configuration's.
+    /// Of both signs, at beta i.
+    pub fn factors_at(&self, i: usize) -> &[f64] {
+        self.factors_of(i..i + 1)
+    }
+
+    /// What the factors at beta i are of, for plus.
     fn couplings(&self, i: usize) -> impl Iterator<Item = f64> + '_ {
         self.edges.m.iter().filter(|m| **m != 0.0).map(move |m| self.betas[i] * m)
+    }
+
+    /// What those of a configuration are of, true for minus.
+    pub fn signed_couplings<'a>(&'a self, i: usize, minus: &'a [bool]) -> impl Iterator<Item = f64> + 'a {
+        self.couplings(i).zip(minus).map(|(x, &m)| if m { -x } else { x })
     }
 
     /// A refusal of a call at beta i with the factors of either sign.
@@ -153,7 +167,7 @@ impl Board {
 
     /// The same with those of a configuration.
     pub fn refused_signs(&self, i: usize, minus: &[bool], refusal: Refusal) -> Trouble {
-        explained::of_beta(self.betas[i], self.couplings(i).zip(minus).map(|(x, &m)| if m { -x } else { x }), refusal)
+        explained::of_beta(self.betas[i], self.signed_couplings(i, minus), refusal)
     }
 
     /// A refusal that no beta is named for.

@@ -89,8 +89,7 @@ impl Source for Configuration {
         let mut values = vec![Vec::new(); board.betas.len()];
         for (so_far, i) in board.strongest_first().into_iter().enumerate() {
             let mut results = vec![0.0; board.pairs.len()];
-            let signed = board.factors.of_signs(i, &self.minus);
-            let call = board.job().correlations(&signed, board.options, &mut results, work);
+            let call = board.correlations(i, &self.minus, &mut results, work);
             call.map_err(|refusal| board.refused_signs(i, &self.minus, refusal))?;
             values[i] = results.into_iter().map(|x| vec![x]).collect();
             done(so_far as u64 + 1, board.betas.len() as u64, "betas");

@@ -50,7 +50,7 @@ const TRIALS: usize = 4;
 /// or where one of them would take longer, by its entries.
 pub fn seconds_of_a_call(board: &Board) -> (f64, f64) {
     let trial = |samples: usize| -> Result<f64, copperhook::Refusal> {
-        let factors = board.graph().factors(&[0.5])?.all;
+        let factors = [1.5, 0.75].repeat(board.kept);
         let (mut squares, mut fourths) = (vec![0.0; board.pairs.len()], vec![0.0; board.pairs.len()]);
         let (by, mut work) = (Sampling { seed: 1, from: 0, to: 1, samples }, vec![0.0; board.room()]);
         let start = Instant::now();

@@ -3,7 +3,7 @@
 use crate::options::Options;
 use crate::trouble::Trouble;
 use crate::values::spelled;
-use copperhook::{limits, Kind, Refusal, Strip};
+use copperhook::{house, limits, Kind, Refusal, Strip};
 
 pub fn refused(told: String, refusal: Refusal) -> Trouble {
     Trouble::Refused { told, number: refusal.number() }
@@ -78,12 +78,17 @@ pub fn of_betas(betas: &[f64], refusal: Refusal) -> Trouble {
     refused(told, refusal)
 }
 
-/// The first beta that the next one does not exceed, and the list that the library takes.
-fn out_of_order(betas: &[f64]) -> String {
+/// The betas in rising order, each once, as `--beta` takes them.
+fn rising(betas: &[f64]) -> String {
     let mut sorted = betas.to_vec();
     sorted.sort_by(f64::total_cmp);
     sorted.dedup();
-    let sorted = sorted.iter().map(|&b| spelled(b)).collect::<Vec<_>>().join(",");
+    sorted.iter().map(|&b| spelled(b)).collect::<Vec<_>>().join(",")
+}
+
+/// The first beta that the next one does not exceed, and the list that the library takes.
+fn out_of_order(betas: &[f64]) -> String {
+    let sorted = rising(betas);
     let falls = betas.windows(2).find(|two| two[0] >= two[1]);
     match falls {
         Some(&[one, next]) => {
@@ -91,6 +96,49 @@ fn out_of_order(betas: &[f64]) -> String {
         }
         _ => Refusal::Betas.sentence().to_string(),
     }
+}
+
+/// Of the factors at each beta and edge, whose magnitudes these are.
+pub fn of_factors(options: &Options, magnitudes: &[f64], refusal: Refusal) -> Trouble {
+    let kept: Vec<f64> = magnitudes.iter().copied().filter(|m| *m != 0.0).collect();
+    let products = options.betas.iter().flat_map(|&beta| kept.iter().map(move |&m| (beta, m)));
+    match products.into_iter().find(|(beta, m)| house::factor(beta * m).is_none()) {
+        Some((beta, m)) if refusal == Refusal::Couplings => refused(off_grid(options, &kept, beta, m), refusal),
+        _ => of_betas(&options.betas, refusal),
+    }
+}
+
+/// A coupling that has no house factor, the nearest one that has, and what to change.
+fn off_grid(options: &Options, kept: &[f64], beta: f64, m: f64) -> String {
+    let product = beta * m;
+    let limit = match product.abs() > house::MOST {
+        true => format!("; couplings of house factors go up to {} in size", house::MOST),
+        false => format!(", which is no multiple of 1/{}", house::STEPS),
+    };
+    // of a zero the sign says nothing here
+    let nearest = spelled(house::nearest(product) + 0.0);
+    let change = match (mended(options, kept, m), options.dilution) {
+        (Some(betas), _) => format!("use --beta {betas}"),
+        (None, Some(by)) if by.low != by.high => {
+            let bounds = format!("equal bounds, as --dilute {},1,1,{}", spelled(by.keep), by.seed);
+            format!("magnitudes drawn from a range hardly ever fit, use {bounds}")
+        }
+        _ => "use another beta".to_string(),
+    };
+    let [beta, m, product] = [beta, m, product].map(spelled);
+    format!("beta {beta} times magnitude {m} is {product}{limit}, the nearest is {nearest}: {change}, or leave --house out")
+}
+
+/// The betas that bring a magnitude's couplings onto the grid, where they do so for all magnitudes: to the nearest, but not to zero.
+fn mended(options: &Options, kept: &[f64], m: f64) -> Option<String> {
+    let mend = |beta: &f64| {
+        let (product, least) = (beta * m, 1.0 / house::STEPS);
+        let nearest = if product.abs() < least && product != 0.0 { least.copysign(product) } else { house::nearest(product) };
+        nearest / m
+    };
+    let betas: Vec<f64> = options.betas.iter().map(mend).collect();
+    let fits = |beta: &f64| beta.abs() <= 1024.0 && kept.iter().all(|m| house::factor(beta * m).is_some());
+    betas.iter().all(fits).then(|| rising(&betas))
 }
 
 /// Of a call at one beta, whose factors are the exponentials of these.

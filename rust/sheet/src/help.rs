@@ -32,6 +32,9 @@ what is asked of it
                              No number depends on it, nor the record; a text's foot has both sizes
     --tester                 by the limits of the tester on the bench: a window up to 12 and, with --enumerate, up to 16
                              free edges. No number depends on it, nor the record
+    --house                  with factors from the library's own table instead of the host's exp, so that all machines
+                             print the same digits: for couplings, beta times magnitude, that are multiples of 1/128
+                             from -4 to 4; any other is refused. The record says that it was used
 of which configurations: one of these; without any, all, where at most 20 edges are free
     --signs S                one: the sign of each kept edge in order, as +-++, or plus for all
     --seed N                 one: the signs drawn with this seed
@@ -57,12 +60,14 @@ the standard pairs
 Beside each stands its distance: the least number of kept edges on a walk from one to the other, - where there is none.
 
 The foot of a text tells how far its correlations, or means, are from the exact ones at most, for the factors that the
-host's exp makes. That is proved, and no digit past it is printed; where no bound is proved, none below 1e-15. csv and json carry the bound, and every digit.
+host's exp makes, or with --house for the table's. That is proved, and no digit past it is printed; where no bound is
+proved, none below 1e-15. csv and json carry the bound, and every digit.
 
 Every sheet ends, or as csv and json begins, with its record: Copperhook's version and commit, the SHA-256 of the
-library's archive and of the factors (both signs at each beta and kept edge, as the library is lent them, eight bytes
-each, lowest first), the command that asks for the same numbers, the strip, its dilution, all signs, seed, chunks,
-samples, count and manner. That of --edges ends with the dilution, and has no factors.
+library's archive and of the factors (both signs at each beta and kept edge, as the library takes them, eight bytes
+each, lowest first), with --house that they are the table's, the command that asks for the same numbers, the strip,
+its dilution, all signs, seed, chunks, samples, count and manner. That of --edges ends with the dilution, and has no
+factors.
 
 examples
     sheet --kind square --width 4 --length 6 --beta 0.44,0.6
@@ -71,6 +76,7 @@ examples
     sheet --kind honey --width 4 --length 5 --beta 1 --dilute 0.9,0.5,1.5,11 --pairs 0-19,0-1 --bits
     sheet --kind eight --width 5 --length 9 --cylinder --beta 0.2,0.3 --seed 4
     sheet --kind honey --width 4 --length 5 --dilute 0.9,0.5,1.5,11 --edges
+    sheet --kind square --width 4 --length 6 --beta 0.4375,0.6015625 --house
     sheet verify board.csv
     sheet --kind square --width 8 --length 12 --beta 0.2,0.44,0.8 --signs plus --format svg --output plot.svg
 

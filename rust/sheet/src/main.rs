@@ -3,6 +3,7 @@
 mod accuracy;
 mod axes;
 mod board;
+mod calls;
 mod configuration;
 mod cost;
 mod data;

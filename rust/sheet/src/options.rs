@@ -61,6 +61,8 @@ pub struct Options {
     pub less_room: bool,
     /// The calls are the bench tester's.
     pub tester: bool,
+    /// The factors are the library's own, and not the host's exponentials.
+    pub house: bool,
     pub format: Format,
     pub bits: bool,
     pub linear: bool,
@@ -96,6 +98,7 @@ struct Written {
     per_element: Option<bool>,
     less_room: bool,
     tester: bool,
+    house: bool,
     format: Option<Format>,
     bits: bool,
     linear: bool,
@@ -179,6 +182,7 @@ impl Written {
             "--edges" => &mut self.edges,
             "--less-room" => &mut self.less_room,
             "--tester" => &mut self.tester,
+            "--house" => &mut self.house,
             _ => return Ok(false),
         };
         *slot = true;
@@ -255,6 +259,7 @@ impl Written {
             ("--manner", self.per_element.is_some()),
             ("--less-room", self.less_room),
             ("--tester", self.tester),
+            ("--house", self.house),
         ];
         if let Some((name, _)) = given.iter().find(|g| g.1) {
             return Err(Trouble::asked(format!("--edges and {name} cannot be combined: the edges do not depend on it")));
@@ -289,6 +294,7 @@ impl Written {
             per_element: self.per_element.unwrap_or(false),
             less_room: self.less_room,
             tester: self.tester,
+            house: self.house,
             format: self.format.unwrap_or(Format::Text),
             bits: self.bits,
             linear: self.linear,
@@ -355,6 +361,7 @@ mod tests {
             ("--edges", "--edges and --beta cannot be combined: the edges do not depend on it"),
             ("--bits=1", "--bits takes no value"),
             ("--less-room=yes", "--less-room takes no value"),
+            ("--house=1", "--house takes no value"),
             ("--manner", "--manner needs a value; sheet --help tells which"),
             ("--colour red", "there is no option --colour; sheet --help tells them"),
             ("3", "there is no option 3; sheet --help tells them"),
@@ -366,6 +373,7 @@ mod tests {
         for (more, told) in [
             ("--seed 3", "--edges and --seed cannot be combined: the edges do not depend on it"),
             ("--less-room", "--edges and --less-room cannot be combined: the edges do not depend on it"),
+            ("--house", "--edges and --house cannot be combined: the edges do not depend on it"),
             ("--format json", "--edges is told as text or csv"),
             ("--threads 2", "--threads is for drawn configurations; give --sample too"),
         ] {

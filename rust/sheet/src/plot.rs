@@ -15,10 +15,7 @@ const RECORD_LETTERS: usize = 145;
 const NAMED: usize = 12;
 
 pub fn svg(sheet: &Sheet, linear: bool) -> String {
-    let title: Vec<String> = [sheet.title.clone(), format!("{}; manner {}", sheet.source, sheet.manner)]
-        .iter()
-        .flat_map(|line| wrapped(line, LETTERS))
-        .collect();
+    let title: Vec<String> = [sheet.title.clone(), sheet.head()].iter().flat_map(|line| wrapped(line, LETTERS)).collect();
     let axes = Axes::of(sheet, 24.0 + 16.0 * title.len() as f64, linear);
     let mut svg = String::new();
     for (i, line) in title.iter().enumerate() {

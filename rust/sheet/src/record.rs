@@ -45,6 +45,8 @@ pub struct Record(pub Vec<Entry>);
 impl Record {
     pub fn new(options: &Options, board: &Board, source: &dyn Source) -> Record {
         let mut entries = build().to_vec();
+        // only where it is so: sheets of the host's factors stay as they were
+        entries.extend(options.house.then(|| ("factors", Field::text("house"))));
         entries.push(("factors_sha256", Field::text(factors_sha256(board))));
         entries.push(("command", Field::text(command(options, &board.strip))));
         entries.extend(strip(&board.strip, [board.n, board.kept, board.free, board.window]));
@@ -101,7 +103,7 @@ fn dilution(options: &Options) -> [Entry; 4] {
 }
 
 /// Of the factors of both signs at each beta and kept edge, in the order in which the library is lent them, each as eight bytes, lowest
-/// first. They are the host's exponentials: another host may have others.
+/// first. Where they are the host's exponentials, another host may have others.
 fn factors_sha256(board: &Board) -> String {
     let bytes: Vec<u8> = board.factors.all.iter().flat_map(|x| x.to_le_bytes()).collect();
     sha256(&bytes)
@@ -131,6 +133,7 @@ fn command(options: &Options, strip: &Strip) -> String {
         Wanted::Sampled(by) => format!("--sample {} --chunks {}..{} --seed {}", by.samples, by.from, by.to, by.seed),
     });
     words.push(format!("--manner {}", manner(options)));
+    words.extend(options.house.then(|| "--house".to_string()));
     words.join(" ")
 }
 

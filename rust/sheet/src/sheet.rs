@@ -24,7 +24,8 @@ pub struct Sheet {
     pub length: usize,
     pub title: String,
     pub source: String,
-    pub manner: &'static str,
+    manner: &'static str,
+    house: bool,
     /// As every format spells them.
     pub betas: Vec<String>,
     pub columns: &'static [&'static str],
@@ -55,6 +56,7 @@ impl Sheet {
             title: board.title(),
             source: source.title(),
             manner: if board.options.manner == copperhook::Manner::Block { "block" } else { "element" },
+            house: board.house,
             betas: board.betas.iter().map(|&b| spelled(b)).collect(),
             columns: source.columns(),
             bounds,
@@ -64,6 +66,11 @@ impl Sheet {
             drawn: matches!(options.wanted, Wanted::Sampled(_)),
             standard: options.pairs.is_none(),
         }
+    }
+
+    /// Which configurations they are of, and how they were worked out.
+    pub fn head(&self) -> String {
+        format!("{}; manner {}{}", self.source, self.manner, if self.house { "; house factors" } else { "" })
     }
 
     /// Whether the second column is how far a mean of drawn configurations may be off.

@@ -48,7 +48,7 @@ pub trait Source {
     fn tried(&self, board: &Board, work: &mut [f64]) -> Result<(), Trouble> {
         let (plus, mut results) = (vec![false; board.kept], vec![0.0; board.pairs.len()]);
         for i in board.strongest_first() {
-            let call = board.job().correlations(&board.factors.of_signs(i, &plus), board.options, &mut results, work);
+            let call = board.correlations(i, &plus, &mut results, work);
             call.map_err(|refusal| board.refused_at(i, refusal))?;
         }
         Ok(())

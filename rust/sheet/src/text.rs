@@ -29,7 +29,7 @@ pub fn aligned(table: &[Vec<String>]) -> String {
 }
 
 pub fn text(sheet: &Sheet) -> String {
-    let mut text = format!("{}\n{}; manner {}\n\n", sheet.title, sheet.source, sheet.manner);
+    let mut text = format!("{}\n{}\n\n", sheet.title, sheet.head());
     text += &aligned(&table(sheet));
     text += &foot(sheet);
     if let Some([less, most]) = &sheet.less_room {

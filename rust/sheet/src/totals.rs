@@ -8,6 +8,7 @@ use crate::source::{Bounds, Done, Source, Values};
 use crate::trouble::Trouble;
 use copperhook::{estimates, limits, mean_error_bound, Refusal, Sampling};
 use std::collections::BTreeMap;
+use std::ops::Range;
 use std::sync::atomic::{AtomicU64, Ordering};
 use std::sync::Mutex;
 
@@ -130,11 +131,10 @@ impl Source for Enumerated {
     fn values(&self, board: &Board, work: &mut [f64], done: Done) -> Result<Values, Trouble> {
         let pairs = board.pairs.len();
         let mut values = Vec::new();
-        for (i, beta) in board.betas.iter().enumerate() {
+        for i in 0..board.betas.len() {
             let refused = |refusal| board.refused_at(i, refusal);
             let mut sums = Sums::zero(pairs);
-            let (squares, fourths) = (&mut sums.squares, &mut sums.fourths);
-            let count = board.job().exhaustive(&[*beta], board.factors_at(i), board.options, squares, fourths, work).map_err(refused)?;
+            let count = board.exhaustive(i, &mut sums.squares, &mut sums.fourths, work).map_err(refused)?;
             values.extend(sums.estimates(count, pairs).map_err(refused)?);
             done(i as u64 + 1, board.betas.len() as u64, "betas");
         }
@@ -191,15 +191,14 @@ impl Joined {
 
 /// One chunk's sums. Where they are refused, each beta is asked for by itself, to name the one that it comes from.
 fn chunk_sums(board: &Board, by: &Sampling, work: &mut [f64]) -> Result<Sums, Trouble> {
-    let mut call = |betas: &[f64], factors: &[f64]| {
+    let mut call = |betas: Range<usize>| {
         let mut sums = Sums::zero(betas.len() * board.pairs.len());
-        let drawn = board.job().sample(betas, factors, board.options, by, &mut sums.squares, &mut sums.fourths, work);
+        let drawn = board.sample(betas, by, &mut sums.squares, &mut sums.fourths, work);
         drawn.map(|_| sums)
     };
-    let all = call(&board.betas, &board.factors.all);
-    all.map_err(|refusal| {
-        for (i, beta) in board.betas.iter().enumerate() {
-            if let Err(refusal) = call(&[*beta], board.factors_at(i)) {
+    call(0..board.betas.len()).map_err(|refusal| {
+        for i in 0..board.betas.len() {
+            if let Err(refusal) = call(i..i + 1) {
                 return board.refused_at(i, refusal);
             }
         }

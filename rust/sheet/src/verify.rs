@@ -30,7 +30,7 @@ pub fn verify(path: &Path, threads: usize, make: impl Fn(&Options) -> Result<Str
     let found = cells(&text, format).map_err(named)?;
     let options = job(&found, format, threads).map_err(named)?;
     let expected = cells(&make(&options)?, format).map_err(named)?;
-    Ok(compared(&path.display().to_string(), &found, &expected, options.bits))
+    Ok(compared(&path.display().to_string(), &found, &expected, &options))
 }
 
 fn cells(text: &str, format: Format) -> Result<Cells, String> {
@@ -91,7 +91,7 @@ fn job(found: &Cells, format: Format, threads: usize) -> Result<Options, String>
 }
 
 /// What differs, and where.
-fn compared(name: &str, found: &Cells, expected: &Cells, bits: bool) -> Verdict {
+fn compared(name: &str, found: &Cells, expected: &Cells, options: &Options) -> Verdict {
     let places: Vec<&String> = found.keys().chain(expected.keys().filter(|place| !found.contains_key(*place))).collect();
     let differ: Vec<&String> = places.into_iter().filter(|place| found.get(*place) != expected.get(*place)).collect();
     let (build, values): (Vec<&String>, Vec<&String>) = differ.into_iter().partition(|place| OF_THE_BUILD.contains(&place.as_str()));
@@ -105,9 +105,12 @@ fn compared(name: &str, found: &Cells, expected: &Cells, bits: bool) -> Verdict 
         told += &format!("and {} more\n", values.len() - TOLD);
     }
     if values.iter().any(|place| *place == "factors_sha256") {
-        told += "the factors differ: this host's exp is not the one that the sheet was made with, or the record was altered\n";
+        told += match options.house {
+            true => "the factors differ: those of the house are the same on every host, so the record was altered\n",
+            false => "the factors differ: this host's exp is not the one that the sheet was made with, or the record was altered\n",
+        };
     }
-    let how = if bits { "bit for bit" } else { "digit by digit" };
+    let how = if options.bits { "bit for bit" } else { "digit by digit" };
     told += &match values.len() {
         0 => format!("{name}: all {} cells agree, {how}\n", expected.len() - OF_THE_BUILD.len()),
         many => format!("{name}: {many} of {} cells differ\n", expected.len() - OF_THE_BUILD.len()),

@@ -97,6 +97,34 @@ fn betas_that_cannot_be() {
 }
 
 #[test]
+fn couplings_that_have_no_house_factor() {
+    let told = |more: &str, message: &str| {
+        for which in ["--signs plus", "--enumerate", "--sample 4 --chunks 3 --threads 2"] {
+            refused(&format!("{SMALL} {which} --house {more}"), &format!("{message}, or leave --house out (refusal 23)"));
+        }
+    };
+    let one = "beta 0.44 times magnitude 1 is 0.44, which is no multiple of 1/128, the nearest is 0.4375: use --beta 0.4375";
+    told("--beta 0.44", one);
+    told("--beta 0.25,0.44,0.6", &one.replace("--beta 0.4375", "--beta 0.25,0.4375,0.6015625"));
+    told("--beta 5", "beta 5 times magnitude 1 is 5; couplings of house factors go up to 4 in size, the nearest is 4: use --beta 4");
+    let below = "beta -4.5 times magnitude 1 is -4.5; couplings of house factors go up to 4 in size, the nearest is -4: use --beta -4,0.5";
+    told("--beta -4.5,0.5", below);
+    let three = "beta 0.1 times magnitude 3 is 0.30000000000000004, which is no multiple of 1/128, the nearest is 0.296875: use --beta ";
+    told("--beta 0.1 --dilute 0.9,3,3,11", &format!("{three}0.09895833333333333"));
+    // the nearest is no coupling at all, and the next one is meant
+    let weak = "beta -0.001 times magnitude 1 is -0.001, which is no multiple of 1/128, the nearest is 0: use --beta -0.0078125";
+    told("--beta -0.001", weak);
+    // drawn magnitudes
+    let drawn =
+        "beta 0.5 times magnitude 1.0250879674245854 is 0.5125439837122927, which is no multiple of 1/128, the nearest is 0.515625: \
+                 magnitudes drawn from a range hardly ever fit, use equal bounds, as --dilute 0.9,1,1,11";
+    told("--beta 0.5 --dilute 0.9,0.5,1.5,11", drawn);
+    let tiny = "beta 1 times magnitude 1e-200 is 1e-200, which is no multiple of 1/128, the nearest is 0: use another beta";
+    told("--beta 1 --dilute 0.9,1e-200,1e-200,11", tiny);
+    assert_eq!(sheet(&format!("{SMALL} --signs plus --house --beta 0.3333333333333333 --dilute 0.9,3,3,11")).status.code(), Some(0));
+}
+
+#[test]
 fn configurations_that_are_too_many() {
     let line = "--kind sq --width 2 --length 37 --beta 1";
     refused(&format!("{line} --enumerate"), "36 free edges; --enumerate takes at most 34, use --sample (refusal 9)");

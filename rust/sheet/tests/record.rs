@@ -1,15 +1,9 @@
 //! What a sheet says of itself: one record, the same in every format.
 
 mod common;
-use common::{printed, table};
+use common::{entries, printed, recorded, sha256, table};
 
 const JOB: &str = "--kind hex --width 4 --length 9 --cylinder --beta 0.50,1e0 --dilute 0.9,0.5,1.50,11 --seed 7";
-
-/// The record's entries, as comma-separated values have them.
-fn entries(csv: &str) -> Vec<(String, String)> {
-    let entry = |line: &str| line[2..].split_once(": ").map(|(key, value)| (key.to_string(), value.to_string())).unwrap();
-    csv.lines().take_while(|line| line.starts_with("# ")).map(entry).collect()
-}
 
 fn dense(text: &str) -> String {
     text.split_whitespace().collect()
@@ -17,8 +11,9 @@ fn dense(text: &str) -> String {
 
 #[test]
 fn it_is_the_same_in_every_format() {
-    for which in ["", "--signs plus", "--sample 3 --chunks 2..5"] {
-        let job = if which.is_empty() { JOB.to_string() } else { JOB.replace("--seed 7", which) };
+    let house = JOB.replace("0.5,1.50", "1,1") + " --house";
+    let others = ["--signs plus", "--sample 3 --chunks 2..5"].map(|which| JOB.replace("--seed 7", which));
+    for job in [JOB.to_string(), house].into_iter().chain(others) {
         let entries = entries(&printed(&format!("{job} --format csv")));
         let json = printed(&format!("{job} --format json"));
         let (text, svg) = (printed(&job), printed(&format!("{job} --format svg")));
@@ -70,13 +65,9 @@ fn it_has_all_of_the_job() {
 #[test]
 fn the_factors_digest_is_of_their_bytes() {
     let factors = "--kind sq --width 1 --length 2 --beta 0.5 --format csv";
-    let digest = entries(&printed(factors)).into_iter().find(|entry| entry.0 == "factors_sha256").unwrap().1;
+    let digest = recorded(&printed(factors), "factors_sha256");
     let bytes: Vec<u8> = [0.5f64.exp(), (-0.5f64).exp()].iter().flat_map(|x| x.to_bits().to_le_bytes()).collect();
-    let mut child =
-        std::process::Command::new("sha256sum").stdin(std::process::Stdio::piped()).stdout(std::process::Stdio::piped()).spawn().unwrap();
-    std::io::Write::write_all(&mut child.stdin.take().unwrap(), &bytes).unwrap();
-    let summed = String::from_utf8(child.wait_with_output().unwrap().stdout).unwrap();
-    assert_eq!(digest, summed.split(' ').next().unwrap());
+    assert_eq!(digest, sha256(&bytes));
 }
 
 /// All signs stand there, over 64 too.
@@ -95,11 +86,12 @@ fn long_signs_are_whole() {
 fn the_command_asks_for_the_same_numbers() {
     for line in [
         JOB,
+        "--house --kind sq --width 3 --length 3 --beta 0.5 --signs plus",
         "--kind sq --width 3 --length 3 --beta 0.4 --pairs 0-1,8-2",
         "--kind tri --width 3 --length 3 --beta 1 --sample 4 --threads 3",
     ] {
         let csv = printed(&format!("{line} --format csv --bits"));
-        let command = entries(&csv).into_iter().find(|entry| entry.0 == "command").unwrap().1;
+        let command = recorded(&csv, "command");
         assert_eq!(printed(&format!("{} --format csv --bits", command.strip_prefix("sheet ").unwrap())), csv);
         assert!(table(&csv).lines().count() > 1);
     }

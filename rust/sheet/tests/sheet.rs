@@ -1,7 +1,7 @@
 //! The program as it is run: what it prints, writes and refuses.
 
 mod common;
-use common::{body, folder, printed, table, SQUARE};
+use common::{body, folder, labels_and_bits, printed, table, SQUARE};
 use oracle::glass::{correlations, exhaustive, sample, Acc, Plan};
 use oracle::lattice::{Graph, Kind, Strip};
 use oracle::rng::Rng;
@@ -49,14 +49,6 @@ fn original(strip: &Strip, graph: &Graph, beta: f64, seed: u64) -> Vec<(String, 
     let mut out = vec![0.0; pairs.len()];
     correlations(&plan, &couplings, &mut plan.work(), &mut out);
     strip.pairs().into_iter().zip(out).map(|(p, x)| (p.0, x.to_bits())).collect()
-}
-
-/// Labels, and the bits of a column of a table of comma-separated values.
-fn labels_and_bits(csv: &str, column: &str) -> Vec<(String, u64)> {
-    let csv = table(csv);
-    let place = csv.lines().next().unwrap().split(',').position(|name| name == format!("{column}_bits")).unwrap();
-    let cell = |line: &str, i: usize| line.split(',').nth(i).unwrap().to_string();
-    csv.lines().skip(1).map(|line| (cell(line, 5), u64::from_str_radix(&cell(line, place)[2..], 16).unwrap())).collect()
 }
 
 #[test]

@@ -4,11 +4,14 @@ mod common;
 use common::{folder, printed, sheet};
 use std::path::Path;
 
-const JOBS: [&str; 4] = [
+const JOBS: [&str; 7] = [
     "--kind square --width 3 --length 4 --beta 0.44,0.6",
     "--kind tri --width 3 --length 8 --cylinder --beta 0.3 --seed 7 --manner element",
     "--kind tri --width 3 --length 9 --beta 0.5,1 --sample 10 --chunks 4 --threads 2",
     "--kind honey --width 4 --length 5 --beta 1 --dilute 0.9,0.5,1.5,11 --pairs 0-19,0-1 --signs plus",
+    "--kind square --width 3 --length 4 --beta 0.4375,0.6015625 --house",
+    "--kind tri --width 3 --length 9 --beta 0.5,1 --sample 10 --chunks 4 --threads 2 --house --tester",
+    "--kind honey --width 4 --length 5 --beta -4 --dilute 0.9,1,1,11 --seed 3 --house --less-room",
 ];
 
 /// The exit status, and what is told on standard output and on standard error.

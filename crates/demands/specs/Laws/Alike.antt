@@ -1,104 +1,19 @@
--- Two requests that differ in what one check reads: where its number refuses neither, both are answered alike.
-use mathlib.Core.Path.{_≡_, refl, sym, _∙_}
-use mathlib.Core.Bool.{Bool, true, false, cond, _&&_}
-use mathlib.Core.List.{List, [], _∷_}
-use mathlib.Core.Logic.{_⊎_, inl, inr}
-use Prim.Native.Nat.{ℕ}
-use native.Mathlib.Omega.{arith}
+-- Two calls that differ in the arrangement alone: only 13 reads it.
+use mathlib.Core.Path.{_≡_, refl}
+use mathlib.Core.List.{List}
+use mathlib.Core.Logic.{inl, inr}
 use Rattle.transfer_matrix.specs.Room as Room
-use Rattle.refusals.specs.Key.{Key, among}
+use Rattle.refusals.specs.Key.{Key}
 use Rattle.refusals.specs.Request.{Request}
-use Rattle.refusals.specs.Refusal.{Check, checks, first, refusal}
-
-module _ (k : ℕ) (r s : Request) where
-  -- a check has this number, or fits both or neither
-  abbrev Alike : Check Request → Type 0
-  Alike c = (c .number ≡ k) ⊎ (c .fits r ≡ c .fits s)
-
-  abbrev AllAlike : List (Check Request) → Type 0
-  AllAlike [] = Unit
-  AllAlike (c ∷ cs) = Alike c × AllAlike cs
-
-  first-alike : (concerned : List Key) (cs : List (Check Request)) → AllAlike cs → (first cs concerned r ≡ k → ⊥) → (first cs concerned s ≡ k → ⊥)
-      → first cs concerned r ≡ first cs concerned s
-  first-alike concerned [] a h i = refl
-  first-alike concerned (c ∷ cs) a h i = go (among concerned (c .key)) (c .fits r) (c .fits s) (a .0) (first-alike concerned cs (a .1)) h i
-    where
-      go : (asked t u : Bool) → (c .number ≡ k) ⊎ (t ≡ u)
-          → ((first cs concerned r ≡ k → ⊥) → (first cs concerned s ≡ k → ⊥) → first cs concerned r ≡ first cs concerned s)
-          → (cond (asked && t) (c .number) (first cs concerned r) ≡ k → ⊥) → (cond (asked && u) (c .number) (first cs concerned s) ≡ k → ⊥)
-          → cond (asked && t) (c .number) (first cs concerned r) ≡ cond (asked && u) (c .number) (first cs concerned s)
-      go false t u e later h i = later h i
-      go true true true e later h i = refl
-      go true false false e later h i = later h i
-      go true true false (inl n) later h i = absurd (h n)
-      go true false true (inl n) later h i = absurd (i n)
-      go true true false (inr n) later h i = absurd (let z : _≡_ {A = ℕ} 0 1 = cc in omega arith)
-      go true false true (inr n) later h i = absurd (let z : _≡_ {A = ℕ} 0 1 = cc in omega arith)
+use Rattle.refusals.specs.Refusal.{checks, refusal}
+use Rattle.refusals.specs.Laws.Alike.{calledBy, AllAlike, first-alike}
 
 -- the same call in another arrangement
 abbrev pub inArrangement : Room.Arrangement → Request → Request
-inArrangement arrangement r = record {
-  caller = r .caller;
-  vertices = r .vertices;
-  ones = r .ones;
-  others = r .others;
-  magnitudes = r .magnitudes;
-  floor = r .floor;
-  firsts = r .firsts;
-  seconds = r .seconds;
-  betas = r .betas;
-  configurations = r .configurations;
-  factors = r .factors;
-  factorCount = r .factorCount;
-  misfit = r .misfit;
-  arrangement = arrangement;
-  work = r .work;
-  unsound = r .unsound;
-}
+inArrangement arrangement r = calledBy (r .caller) arrangement r
 
--- only 13 reads the arrangement
 checks-alike : (A B : Room.Arrangement) (r : Request) → AllAlike 13 (inArrangement A r) (inArrangement B r) checks
-checks-alike A B r = (
-  inr refl,
-  (
-    inr refl,
-    (
-      inr refl,
-      (
-        inr refl,
-        (
-          inr refl,
-          (
-            inr refl,
-            (
-              inr refl,
-              (
-                inr refl,
-                (
-                  inr refl,
-                  (
-                    inr refl,
-                    (
-                      inr refl,
-                      (
-                        inr refl,
-                        (
-                          inr refl,
-                          (inr refl, (inr refl, (inr refl, (inl refl, (inr refl, tt))))),
-                        ),
-                      ),
-                    ),
-                  ),
-                ),
-              ),
-            ),
-          ),
-        ),
-      ),
-    ),
-  ),
-)
+checks-alike A B r = (inr refl, (inr refl, (inr refl, (inr refl, (inr refl, (inr refl, (inr refl, (inr refl, (inr refl, (inr refl, (inr refl, (inr refl, (inr refl, (inr refl, (inr refl, (inr refl, (inr refl, (inl refl, (inr refl, tt)))))))))))))))))))
 
 pub arrangements-alike : (concerned : List Key) (A B : Room.Arrangement) (r : Request) → (refusal concerned (inArrangement A r) ≡ 13 → ⊥)
     → (refusal concerned (inArrangement B r) ≡ 13 → ⊥) → refusal concerned (inArrangement A r) ≡ refusal concerned (inArrangement B r)

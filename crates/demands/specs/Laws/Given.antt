@@ -1,11 +1,11 @@
 -- The job of a call that passes its checks is what the theorems of the definition ask for.
-use mathlib.Core.Path.{_≡_, refl, sym, ap, _∙_, subst}
-use mathlib.Core.Bool.{Bool, true, false, cond, not, _&&_}
+use mathlib.Core.Path.{_≡_, sym, _∙_}
+use mathlib.Core.Bool.{Bool, true, false, cond}
 use mathlib.Core.List.{List}
 use Prim.Native.Nat.{ℕ, _+_, _-_, _*_, _≤_, _<_}
 use native.Mathlib.Nat.{mul-le-mul-right}
 use native.Mathlib.Omega.{arith}
-use lib.Dec.{T, eqb}
+use lib.Dec.{T}
 use lib.Ieee.{Float, nan}
 use lib.Ieee.Positive.{positive}
 use lib.ListN.{length, getD, length-map}
@@ -16,7 +16,7 @@ use Rattle.list_laws.specs.Laws.Search.{none-at}
 use Rattle.list_laws.specs.Laws.Most.{most-above}
 use Rattle.transfer_matrix.specs.Job.{Edge, Manner, Job, longest, windowOf}
 use Rattle.transfer_matrix.specs.Configuration.{lentAt, edgesWith, configured}
-use Rattle.transfer_matrix.specs.Checked.{Kept, SameEnds, Checked}
+use Rattle.transfer_matrix.specs.Checked.{Kept, Checked}
 use Rattle.refusals.specs.Edges.{kept, windowFrom, keptEarly, keptLate}
 use Rattle.refusals.specs.Request.{sameEnds, joinedTwice, signedFactors}
 use Rattle.refusals.specs.Laws.Accepted.{kept-inside}

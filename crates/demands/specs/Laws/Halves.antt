@@ -1,5 +1,5 @@
 -- The lower halves that stand in the room for a propagated and a forward vector: no entry of the one exceeds the other's in size.
-use mathlib.Core.Path.{sym, subst}
+use mathlib.Core.Path.{subst}
 use Prim.Native.Nat.{ℕ, _+_, _-_, _^_, _≤_, _<_}
 use native.Mathlib.Omega.{arith}
 use lib.Dec.{T}

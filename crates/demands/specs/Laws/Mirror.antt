@@ -13,7 +13,7 @@ use Rattle.list_laws.specs.Laws.Power.{pow-double}
 use Rattle.rounding.specs.Alike.{Alike, same, zeros}
 use Rattle.rounding.specs.Laws.Alike.{alike-sym, alike-trans, alike-neg}
 use Rattle.rounding.specs.Laws.Negation.{neg-neg}
-use Rattle.transfer_matrix.specs.Job.{Edge, Job, Back, Step, stepOf, prepend, backEdge, backEdges}
+use Rattle.transfer_matrix.specs.Job.{Edge, Job, Back, stepOf, prepend, backEdge, backEdges}
 use Rattle.transfer_matrix.specs.Rounded.{ieee}
 use Rattle.transfer_matrix.specs.Sweep as S
 use Rattle.half_vectors.specs.Half.{forwardHalf}

@@ -19,8 +19,8 @@ use Rattle.transfer_matrix.specs.Job.{windowOf}
 use Rattle.transfer_matrix.specs.Room as Room
 use Rattle.refusals.specs.Edges.{kept, windowFrom, keptEarly, keptLate}
 use Rattle.refusals.specs.Key.{Key}
-use Rattle.refusals.specs.Request.{Request, jobRequest, callRequest, correlationRequest, outside, badEnds, badFactorList, passes}
-use Rattle.refusals.specs.Refusal.{checks, refusal, ofGraph, ofKept, ofJob, ofLists, ofSweeps, ofCorrelations}
+use Rattle.refusals.specs.Request.{Request, Source, lent, house, jobRequest, callRequest, correlationRequest, outside, badEnds, badFactorList, passes}
+use Rattle.refusals.specs.Refusal.{checks, refusal, ofGraph, ofKept, ofJob, ofLists, ofSweeps, ofCorrelations, housed, sourced}
 use Rattle.refusals.specs.Laws.First.{unless, passed-at}
 use Rattle.refusals.specs.Laws.Later.{and-true, orElse, both-passed, inOrder, refusal-in-parts, answerable, is-among}
 use Rattle.refusals.specs.Accepted.{AcceptedBetas}
@@ -29,6 +29,11 @@ use Rattle.refusals.specs.AcceptedJob.{buffersRefusal, listsRefusal, Acc
 
 -- ---- in parts
 
+-- a call that sweeps is asked the checks of a job, then of the lists that it is lent, then of every Z
+pub behind-job : (r : Request) (lists : List Key) → inOrder checks ofJob (lists ++ ofSweeps) ≡ true → inOrder checks lists ofSweeps ≡ true
+    → refusal (ofJob ++ (lists ++ ofSweeps)) r ≡ orElse (refusal ofJob r) (orElse (refusal lists r) (refusal ofSweeps r))
+behind-job r lists o p = refusal-in-parts ofJob (lists ++ ofSweeps) r o ∙ ap (orElse (refusal ofJob r)) (refusal-in-parts lists ofSweeps r p)
+
 module _ (caller : Caller) (n floor : ℕ) (a b : List ℕ) (m : List Float) (us vs : List ℕ) where
   -- a job is asked the graph's checks, then those of the kept edges and the pairs
   pub job-in-parts : (betas : List Float) → refusal ofJob (callRequest caller n floor a b m us vs betas)
@@ -36,15 +41,21 @@ module _ (caller : Caller) (n floor : ℕ) (a b : List ℕ) (m : List Float) (us
       (refusal (ofKept ++ (Key.testerWindow ∷ [])) (callRequest caller n floor a b m us vs []))
   job-in-parts betas = refusal-in-parts ofGraph (ofKept ++ (Key.testerWindow ∷ [])) (callRequest caller n floor a b m us vs betas) refl
 
-  -- `correlations` asks the checks of a job, then of the lists that it is lent, then of every Z
-  pub correlations-in-parts : (A : Room.Arrangement) (factors : List Float) (results work : ℕ) (unsound : Bool)
-      → refusal ofCorrelations (correlationRequest caller A n floor a b m us vs factors results work unsound)
+  -- so is `correlations`
+  pub correlations-in-parts : (source : Source) (A : Room.Arrangement) (list : List Float) (results work : ℕ) (unsound : Bool)
+      → refusal (sourced source ofCorrelations) (correlationRequest caller A n floor a b m us vs list results work unsound)
       ≡ orElse (refusal ofJob (callRequest caller n floor a b m us vs []))
-      (orElse (listsRefusal A n (windowFrom floor a b m) (length (kept a b m)) us vs factors results work) (cond unsound 14 0))
-  correlations-in-parts A factors results work unsound =
-      let r = correlationRequest caller A n floor a b m us vs factors results work unsound in
-      refusal-in-parts ofJob (ofLists ++ ofSweeps) r refl
-      ∙ ap (orElse (refusal ofJob (callRequest caller n floor a b m us vs []))) (refusal-in-parts ofLists ofSweeps r refl)
+      (orElse (listsRefusal source A n (windowFrom floor a b m) (length (kept a b m)) us vs list results work) (cond unsound 14 0))
+  correlations-in-parts source A list results work unsound = go source
+    where
+      r : Request
+      r = correlationRequest caller A n floor a b m us vs list results work unsound
+
+      go : (s : Source) → refusal (sourced s ofCorrelations) r
+          ≡ orElse (refusal ofJob (callRequest caller n floor a b m us vs []))
+          (orElse (listsRefusal s A n (windowFrom floor a b m) (length (kept a b m)) us vs list results work) (cond unsound 14 0))
+      go lent = behind-job r ofLists refl refl
+      go house = behind-job r (housed ofLists) refl refl
 
 -- ---- a job that the checks 1 to 8 pass
 
@@ -106,7 +117,7 @@ accepted-buffers A n w edges us vs misfit work h =
     (t12 .0, ltb-false _ _ (t13 .0))
 
 pub accepted-lists : (A : Room.Arrangement) (n w edges : ℕ) (us vs : List ℕ) (factors : List Float) (results work : ℕ)
-    → listsRefusal A n w edges us vs factors results work ≡ 0 → AcceptedLists A n w edges us vs factors results work
+    → listsRefusal lent A n w edges us vs factors results work ≡ 0 → AcceptedLists A n w edges us vs factors results work
 accepted-lists A n w edges us vs factors results work h =
     let t10 = unless (badFactorList factors edges) (omega arith) h in
     let f = accepted-factors factors edges (t10 .0) in

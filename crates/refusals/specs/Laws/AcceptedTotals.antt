@@ -1,5 +1,5 @@
 -- Laws of what specs/AcceptedTotals defines.
-use mathlib.Core.Path.{_≡_, refl, sym, ap, _∙_}
+use mathlib.Core.Path.{_≡_, refl, sym, _∙_}
 use mathlib.Core.Bool.{Bool, true, false, cond, _||_, _&&_, not}
 use mathlib.Core.List.{List, [], _∷_, _++_}
 use mathlib.Core.Logic.{_⊎_}
@@ -15,17 +15,18 @@ use Rattle.limits.specs.declared.Caller.{Caller}
 use Rattle.limits.specs.Callers.{overLimit}
 use Rattle.limits.specs.Limits.{mostSamples, testerFree}
 use Rattle.refusals.specs.Edges.{kept, windowFrom}
+use Rattle.refusals.specs.Request.{Request, Source, lent, house, enumerated, sampled, sweepRequest}
 use Rattle.refusals.specs.Request.{couplingRequest, jobRequest, callRequest, enumerationRequest, samplingRequest, signedFactors}
 use Rattle.refusals.specs.Request.{badFactorList, tooManyChunks}
 use Rattle.refusals.specs.Key.{Key}
-use Rattle.refusals.specs.Refusal.{refusal, ofGraph, ofJob, ofCouplings, ofEnumeration, ofEnumerationLists, ofSampling, ofSamplingLists, ofSweeps}
+use Rattle.refusals.specs.Refusal.{refusal, ofGraph, ofJob, ofCouplings, ofEnumeration, ofEnumerationLists, ofSampling, ofSamplingLists, housed, sourced}
 use Rattle.refusals.specs.Laws.First.{unless}
 use Rattle.refusals.specs.Laws.Later.{orElse, both-passed, refusal-in-parts, Then}
 use Rattle.refusals.specs.Accepted.{Accepted, AcceptedBetas}
 use Rattle.transfer_matrix.specs.Room as Room
 use Rattle.refusals.specs.Laws.Accepted.{accepted-graph}
 use Rattle.refusals.specs.AcceptedJob.{buffersRefusal}
-use Rattle.refusals.specs.Laws.AcceptedJob.{before-14, accepted-with, accepted-factors, accepted-buffers}
+use Rattle.refusals.specs.Laws.AcceptedJob.{behind-job, before-14, accepted-with, accepted-factors, accepted-buffers}
 use Rattle.refusals.specs.AcceptedTotals.{enumerationLists, samplingLists, misfits, AcceptedTotals}
 
 -- ---- in parts
@@ -42,27 +43,35 @@ pub couplings-in-parts : (n : ℕ) (a b : List ℕ) (m betas : List Float) (misf
     → Then (refusal ofCouplings (couplingRequest n a b m betas misfit)) (refusal ofGraph (jobRequest n 0 a b m [] [] betas)) misfit 12
 couplings-in-parts n a b m betas misfit = record { is = refusal-in-parts ofGraph (Key.buffers ∷ []) (couplingRequest n a b m betas misfit) refl }
 
-module _ (caller : Caller) (A : Room.Arrangement) (n floor : ℕ) (a b : List ℕ) (m : List Float) (us vs : List ℕ) (betas factors : List Float) where
-  -- totals ask a job's checks, then of the configurations and the lists that they are lent, then of every Z
-  pub enumeration-in-parts : (free most : ℕ) (misfit : Bool) (work : ℕ) (unsound : Bool)
-      → refusal ofEnumeration (enumerationRequest caller A n floor a b m us vs betas factors free most misfit work unsound)
+module _ (caller : Caller) (A : Room.Arrangement) (n floor : ℕ) (a b : List ℕ) (m : List Float) (us vs : List ℕ) (betas list : List Float) (count : ℕ) where
+  -- totals ask a job's checks, then of the configurations and the lists, then of every Z
+  pub enumeration-in-parts : (source : Source) (free most : ℕ) (misfit : Bool) (work : ℕ) (unsound : Bool)
+      → refusal (sourced source ofEnumeration) (sweepRequest caller A n floor a b m us vs betas (enumerated free most) list count misfit work unsound)
       ≡ orElse (refusal ofJob (callRequest caller n floor a b m us vs betas))
-      (orElse (enumerationLists caller A n (windowFrom floor a b m) (length (kept a b m)) us vs (length betas) factors free most misfit work)
-      (cond unsound 14 0))
-  enumeration-in-parts free most misfit work unsound =
-      let r = enumerationRequest caller A n floor a b m us vs betas factors free most misfit work unsound in
-      refusal-in-parts ofJob (ofEnumerationLists ++ ofSweeps) r refl
-      ∙ ap (orElse (refusal ofJob (callRequest caller n floor a b m us vs betas))) (refusal-in-parts ofEnumerationLists ofSweeps r refl)
+      (orElse (enumerationLists source caller A n (windowFrom floor a b m) (length (kept a b m)) us vs list count free most misfit work) (cond unsound 14 0))
+  enumeration-in-parts source free most misfit work unsound = go source
+    where
+      r : Request
+      r = sweepRequest caller A n floor a b m us vs betas (enumerated free most) list count misfit work unsound
 
-  pub sampling-in-parts : (free start end samples : ℕ) (misfit : Bool) (work : ℕ) (unsound : Bool)
-      → refusal ofSampling (samplingRequest caller A n floor a b m us vs betas factors free start end samples misfit work unsound)
+      go : (s : Source) → refusal (sourced s ofEnumeration) r ≡ orElse (refusal ofJob (callRequest caller n floor a b m us vs betas))
+          (orElse (enumerationLists s caller A n (windowFrom floor a b m) (length (kept a b m)) us vs list count free most misfit work) (cond unsound 14 0))
+      go lent = behind-job r ofEnumerationLists refl refl
+      go house = behind-job r (housed ofEnumerationLists) refl refl
+
+  pub sampling-in-parts : (source : Source) (free start end samples : ℕ) (misfit : Bool) (work : ℕ) (unsound : Bool)
+      → refusal (sourced source ofSampling) (sweepRequest caller A n floor a b m us vs betas (sampled free start end samples) list count misfit work unsound)
       ≡ orElse (refusal ofJob (callRequest caller n floor a b m us vs betas))
-      (orElse (samplingLists A n (windowFrom floor a b m) (length (kept a b m)) us vs (length betas) factors start end samples misfit work)
-      (cond unsound 14 0))
-  sampling-in-parts free start end samples misfit work unsound =
-      let r = samplingRequest caller A n floor a b m us vs betas factors free start end samples misfit work unsound in
-      refusal-in-parts ofJob (ofSamplingLists ++ ofSweeps) r refl
-      ∙ ap (orElse (refusal ofJob (callRequest caller n floor a b m us vs betas))) (refusal-in-parts ofSamplingLists ofSweeps r refl)
+      (orElse (samplingLists source A n (windowFrom floor a b m) (length (kept a b m)) us vs list count start end samples misfit work) (cond unsound 14 0))
+  sampling-in-parts source free start end samples misfit work unsound = go source
+    where
+      r : Request
+      r = sweepRequest caller A n floor a b m us vs betas (sampled free start end samples) list count misfit work unsound
+
+      go : (s : Source) → refusal (sourced s ofSampling) r ≡ orElse (refusal ofJob (callRequest caller n floor a b m us vs betas))
+          (orElse (samplingLists s A n (windowFrom floor a b m) (length (kept a b m)) us vs list count start end samples misfit work) (cond unsound 14 0))
+      go lent = behind-job r ofSamplingLists refl refl
+      go house = behind-job r (housed ofSamplingLists) refl refl
 
 -- ---- chunks times samples, without their product
 
@@ -133,7 +142,7 @@ module _ (caller : Caller) (A : Room.Arrangement) (n floor : ℕ) (a b : List �
   accepted-enumeration free most misfit work unsound r e h =
       let q = enumerationRequest caller A n floor a b m us vs betas factors free most misfit work unsound in
       let z = before-14 (ofJob ++ ofEnumerationLists) q r refl refl e h in
-      let lists = enumerationLists caller A n (windowFrom floor a b m) (length (kept a b m)) us vs (length betas) factors free most misfit work in
+      let lists = enumerationLists lent caller A n (windowFrom floor a b m) (length (kept a b m)) us vs factors (signedFactors (length betas) (length (kept a b m))) free most misfit work in
       let parts = both-passed (refusal ofJob (callRequest caller n floor a b m us vs betas)) lists
       (sym (refusal-in-parts ofJob ofEnumerationLists q refl) ∙ z) in
       let t9 = unless (ltb most free) (omega arith) (parts .1) in
@@ -148,7 +157,7 @@ module _ (caller : Caller) (A : Room.Arrangement) (n floor : ℕ) (a b : List �
   accepted-sampling free start end samples misfit work unsound r e h =
       let q = samplingRequest caller A n floor a b m us vs betas factors free start end samples misfit work unsound in
       let z = before-14 (ofJob ++ ofSamplingLists) q r refl refl e h in
-      let lists = samplingLists A n (windowFrom floor a b m) (length (kept a b m)) us vs (length betas) factors start end samples misfit work in
+      let lists = samplingLists lent A n (windowFrom floor a b m) (length (kept a b m)) us vs factors (signedFactors (length betas) (length (kept a b m))) start end samples misfit work in
       let parts = both-passed (refusal ofJob (callRequest caller n floor a b m us vs betas)) lists
       (sym (refusal-in-parts ofJob ofSamplingLists q refl) ∙ z) in
       let t10 = unless (badFactorList factors (signedFactors (length betas) (length (kept a b m)))) (omega arith) (parts .1) in

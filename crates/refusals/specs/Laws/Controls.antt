@@ -3,20 +3,23 @@ use mathlib.Core.Path.{_≡_, refl}
 use mathlib.Core.Bool.{Bool, true, false}
 use mathlib.Core.List.{List, [], _∷_}
 use Prim.Native.Nat.{ℕ, zero, suc}
-use lib.IntN.{pos}
-use lib.Ieee.{Float, nan, inf, fin, eq, le, lt, neg, ofBits}
+use lib.IntN.{pos, negsuc}
+use lib.Ieee.{Float, nan, inf, fin, eq, le, lt, neg, ofBits, mul, round}
 use lib.ListN.{replicate}
 use Rattle.limits.specs.declared.Caller.{Caller}
 use Rattle.limits.specs.declared.Caller.the-variants.{Desk, Tester}
+use Rattle.coupling_grid.specs.Grid.{offGrid}
 use Rattle.list_laws.specs.Search.{some}
+use Rattle.list_laws.specs.Tabulate.{tabulate}
 use Rattle.transfer_matrix.specs.Job.{windowOf, tooManyNear}
 use Rattle.transfer_matrix.specs.Configuration.{edgesWith}
 use Rattle.transfer_matrix.specs.Room.{Arrangement, keepAll, lessRoom, room}
 use Rattle.refusals.specs.Edges.{keptOf}
 use Rattle.refusals.specs.Request.{graphRequest, distanceRequest, roomRequest, correlationRequest}
 use Rattle.refusals.specs.Request.{couplingRequest, enumerationRequest, samplingRequest, mostCounted, mostStored}
+use Rattle.refusals.specs.Request.{houseEnumerationRequest, houseSamplingRequest}
 use Rattle.refusals.specs.Refusal.{refusal, ofGraph, ofGraphWithBuffers, ofDistance, ofRoom, ofCorrelations}
-use Rattle.refusals.specs.Refusal.{ofCouplings, ofEnumeration, ofSampling}
+use Rattle.refusals.specs.Refusal.{ofCouplings, ofEnumeration, ofSampling, housed}
 
 abbrev one : Float
 one = fin false 1 (pos 0)
@@ -249,3 +252,44 @@ pub tester-sampling : refusal ofSampling
     (samplingRequest Tester keepAll 2 0 (0 ∷ []) (1 ∷ []) (one ∷ []) (0 ∷ []) (1 ∷ []) (one ∷ []) (one ∷ one ∷ []) 17 0 1 1 false 13 false) ≡ 0
 unfolding some keptOf eq le lt neg ofBits windowOf tooManyNear edgesWith room
 tester-sampling = refl
+
+-- ---- house calls
+
+-- 1/256, which is off the grid
+abbrev half-step : Float
+half-step = fin false 1 (negsuc 7)
+
+-- two vertices, the edge 0-1, the pair u-v, and couplings
+abbrev housedSingle : ℕ → ℕ → List Float → (results work : ℕ) → ℕ
+housedSingle u v couplings results work =
+    refusal (housed ofCorrelations) (correlationRequest Desk keepAll 2 0 (0 ∷ []) (1 ∷ []) (one ∷ []) (u ∷ []) (v ∷ []) couplings results work false)
+
+-- a pair with equal ends, and a coupling that is no number; a coupling off the grid, and results of another length
+pub first-23 : (housedSingle 0 0 (nan ∷ []) 2 0 ≡ 8) × (housedSingle 0 1 (nan ∷ []) 2 0 ≡ 23) × (housedSingle 0 1 (inf true ∷ []) 2 0 ≡ 23)
+    × (housedSingle 0 1 (half-step ∷ []) 2 0 ≡ 23) × (housedSingle 0 1 (fin false 5 (pos 0) ∷ []) 2 0 ≡ 23)
+unfolding some keptOf eq le lt neg ofBits windowOf tooManyNear edgesWith offGrid
+first-23 = (refl, refl, refl, refl, refl)
+
+-- one coupling too few or too many, though all are on the grid; the grid goes from -4 to 4, zeros of either sign are on it, and no factor is asked of
+pub coupling-each : (housedSingle 0 1 [] 2 0 ≡ 23) × (housedSingle 0 1 (one ∷ one ∷ []) 2 0 ≡ 23) × (housedSingle 0 1 (fin true 4 (pos 0) ∷ []) 1 13 ≡ 0)
+    × (housedSingle 0 1 (fin false 4 (pos 0) ∷ []) 1 13 ≡ 0) × (housedSingle 0 1 (fin true 0 (pos 0) ∷ []) 1 13 ≡ 0)
+unfolding some keptOf eq le lt neg ofBits windowOf tooManyNear edgesWith room offGrid
+coupling-each = (refl, refl, refl, refl, refl)
+
+-- totals: the coupling is a beta times the magnitude 1
+abbrev housedCounted : Caller → (free : ℕ) → (beta : Float) → (misfit : Bool) → (work : ℕ) → ℕ
+housedCounted caller free beta misfit work =
+    refusal (housed ofEnumeration)
+    (houseEnumerationRequest caller keepAll 2 0 (0 ∷ []) (1 ∷ []) (one ∷ []) (0 ∷ []) (1 ∷ []) (beta ∷ []) free mostCounted misfit work false)
+
+abbrev housedDrawn : (samples : ℕ) → (beta : Float) → (misfit : Bool) → (work : ℕ) → ℕ
+housedDrawn samples beta misfit work =
+    refusal (housed ofSampling)
+    (houseSamplingRequest Desk keepAll 2 0 (0 ∷ []) (1 ∷ []) (one ∷ []) (0 ∷ []) (1 ∷ []) (beta ∷ []) 0 0 1 samples misfit work false)
+
+-- free edges come before the grid, the grid before samples and buffers
+pub grid-of-totals : (housedCounted Desk 35 half-step true 0 ≡ 9) × (housedCounted Tester 17 half-step true 0 ≡ 22) × (housedCounted Tester 16 half-step true 0 ≡ 23)
+    × (housedCounted Desk 34 one true 0 ≡ 12) × (housedDrawn 4294967297 half-step true 0 ≡ 23) × (housedDrawn 4294967297 one true 0 ≡ 11)
+    × (housedDrawn 1 one false 13 ≡ 0)
+unfolding some tabulate keptOf eq le lt neg ofBits mul round windowOf tooManyNear edgesWith room offGrid
+grid-of-totals = (refl, refl, refl, refl, refl, refl, refl)

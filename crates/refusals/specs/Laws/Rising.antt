@@ -1,5 +1,5 @@
 -- Betas that 21 passes rise strictly: each is less than every later one, not the next alone.
-use mathlib.Core.Path.{_≡_, refl, sym, ap, _∙_}
+use mathlib.Core.Path.{_≡_, refl, sym}
 use mathlib.Core.Bool.{Bool, true, false, not}
 use mathlib.Core.List.{List}
 use Prim.Native.Nat.{ℕ, zero, suc, _+_, _-_, _<_}
@@ -8,7 +8,7 @@ use lib.Ieee.{Float, nan, lt}
 use lib.ListN.{length, getD}
 use borrow.Author.Tests.{not-false}
 use Rattle.list_laws.specs.Search.{some}
-use Rattle.list_laws.specs.Laws.Search.{some-at, none-at, none-of}
+use Rattle.list_laws.specs.Laws.Search.{none-at, none-of}
 use Rattle.rounding.specs.Laws.Order.{lt-trans}
 use Rattle.refusals.specs.Request.{unordered}
 use Rattle.refusals.specs.Accepted.{Rising}

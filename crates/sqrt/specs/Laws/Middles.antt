@@ -7,31 +7,17 @@ use native.Mathlib.Nat.{mul-pos, mul-assoc, mul-comm, mul-left-comm, mul-right-c
 use native.Mathlib.Nat.{mul-le-mul, mul-le-mul-left, mul-le-mul-right, mul-lt-mul-of-pos-right, lt-of-mul-lt-mul-right}
 use native.Mathlib.Omega.{arith}
 use mathlib.Core.Bool.{Bool, true, false, not}
-use lib.Dec.{T, leb, leb→le, ltb→lt, nleb→lt, lit≤}
-use lib.Pow.{pow-add, pow-pos, pow-mono}
-use lib.Ieee.{Float, nan, inf, fin, Format, binary32, binary64, prec, emax, low, up, down, fits, lt}
+use lib.Dec.{T, leb, leb→le, nleb→lt, lit≤}
+use lib.Pow.{pow-pos, pow-mono}
+use lib.Ieee.{Float, Format, binary32, binary64, prec, emax, low, fits}
 use lib.Ieee.Exact.{HasValue}
 use lib.Ieee.Fits.{two}
 use lib.Ieee.Positive.{num, den, positive, den-pos, value→cross, positive-of-value}
-use Rattle.sqrt.specs.Nearest.{nonnegative, NearestRoot}
+use Rattle.nearest.specs.Laws.Smallest.{in-smallest}
+use Rattle.nearest.specs.Laws.Values.{on-grid, order-of, nonnegative-of, lt→cross}
+use Rattle.sqrt.specs.Nearest.{NearestRoot}
 use Rattle.sqrt.specs.Sqrt.{doubledSquare, places}
-use Rattle.sqrt.specs.Laws.Smallest.{in-smallest}
 use Rattle.sqrt.specs.Laws.Halves.{Halves}
-
--- ---- in smallest values: a value of the format from 2 ^ (p - 1 + k) of them on is a multiple of 2 ^ k
-on-grid : (p k m i : ℕ) → 2 ≤ p → m < 2 ^ p → 2 ^ (p - 1) * 2 ^ k ≤ m * 2 ^ i → (j : ℕ) × (m * 2 ^ i ≡ j * 2 ^ k)
-on-grid p k m i P M h = go (leb k i) (leb→le k i) (nleb→lt k i)
-  where
-    go : (b : Bool) → (T b → k ≤ i) → (T (not b) → i < k) → (j : ℕ) × (m * 2 ^ i ≡ j * 2 ^ k)
-    go true l g =
-        let k-le = l tt in
-        let e : i - k + k ≡ i = omega arith in
-        (m * 2 ^ (i - k), sym (mul-assoc m (2 ^ (i - k)) (2 ^ k) ∙ ap (λ (z : ℕ). m * z) (sym (pow-add 2 (i - k) k) ∙ ap (λ (z : ℕ). 2 ^ z) e)))
-    go false l g =
-        let i-lt = g tt in
-        let wide : 2 ^ p * 2 ^ i ≤ 2 ^ (p - 1) * 2 ^ k =
-        le-trans (le-of-eq (sym (pow-add 2 p i))) (le-trans (pow-mono {j = p - 1 + k} (omega arith)) (le-of-eq (pow-add 2 (p - 1) k))) in
-        absurd (lt-irrefl (m * 2 ^ i) (lt-of-lt-of-le (mul-lt-mul-of-pos-right M (pow-pos i)) (le-trans wide h)))
 
 square-lt : (a b : ℕ) → a < b → a * a < b * b
 square-lt a b h = lt-of-le-of-lt (mul-le-mul-left a (le-of-lt h)) (mul-lt-mul-of-pos-right h (omega arith))
@@ -170,29 +156,6 @@ module _ (l a b c A B X w z n : ℕ) (Ca : 0 < a) (Cb : 0 < b) (Cc : 0 < c) (ea 
   sum-above h =
       lt-of-mul-lt-mul-right (l * l)
       (lt-of-le-of-lt (le-of-eq right-is) (lt-of-lt-of-le (mul-lt-mul-of-pos-right h bottom-pos) (le-of-eq (sym left-is))))
-
-order-of : (l a b A B w z : ℕ) → 0 < l → A * l ≡ w * a → B * l ≡ z * b → A * b < B * a → w < z
-order-of l a b A B w z L ea eb h =
-    let left : A * b * l ≡ w * (a * b) = mul-right-comm A b l ∙ ap (λ (x : ℕ). x * b) ea ∙ mul-assoc w a b in
-    let right : B * a * l ≡ z * (a * b) =
-    mul-right-comm B a l ∙ ap (λ (x : ℕ). x * a) eb ∙ mul-assoc z b a ∙ ap (λ (x : ℕ). z * x) (mul-comm b a) in
-    lt-of-mul-lt-mul-right (a * b) (lt-of-le-of-lt (le-of-eq (sym left)) (lt-of-lt-of-le (mul-lt-mul-of-pos-right h L) (le-of-eq right)))
-
-lt→cross : (y v : Float) → T (nonnegative y) → T (nonnegative v) → T (lt y v) → num y * den v < num v * den y
-unfolding lt
-lt→cross nan v p q h = absurd p
-lt→cross (inf s) v p q h = absurd p
-lt→cross (fin true m e) v p q h = absurd p
-lt→cross (fin false m e) nan p q h = absurd q
-lt→cross (fin false m e) (inf t) p q h = absurd q
-lt→cross (fin false m e) (fin true n d) p q h = absurd q
-lt→cross (fin false m e) (fin false n d) p q h = ltb→lt (m * up e * down d) (n * up d * down e) h
-
-pub nonnegative-of : (x : Float) → T (positive x) → T (nonnegative x)
-nonnegative-of nan p = absurd p
-nonnegative-of (inf s) p = absurd p
-nonnegative-of (fin true m e) p = absurd p
-nonnegative-of (fin false m e) p = tt
 
 doubled-is : (f : Format) (n : ℕ) → n * (2 ^ low f * 4) ≡ doubledSquare f n
 doubled-is f n =

@@ -1,22 +1,22 @@
 -- What the theorems of `sqrt` rest on: the root of a value's units, and what two nearest values would be.
-use mathlib.Core.Path.{_≡_, refl, sym, ap, _∙_, subst}
-use Prim.Native.Nat.{ℕ, zero, suc, _+_, _-_, _*_, _/_, _^_, _≤_, _<_}
-use native.Mathlib.Nat.{pow-suc, lt-irrefl, lt-trans, lt-of-le-of-lt, mul-comm, mul-right-comm, add-comm, mul-div-cancel}
+use mathlib.Core.Path.{_≡_, sym, ap, _∙_, subst}
+use Prim.Native.Nat.{ℕ, zero, suc, _+_, _*_, _/_, _^_, _≤_, _<_}
+use native.Mathlib.Nat.{pow-suc, lt-irrefl, lt-trans, lt-of-le-of-lt, mul-comm, add-comm, mul-div-cancel}
 use native.Mathlib.Omega.{arith}
 use mathlib.Core.Bool.{Bool, true, false, cond}
 use lib.Dec.{T, ltb, lt→ltb, ltb→lt}
 use lib.Pow.{pow-lt}
-use lib.Ieee.{Float, nan, inf, fin, Format, prec, emax, low, up, down, size, odd, units, hid, fits, lt, ofBits, toBits}
-use lib.Ieee.Bits.{ofBits-toBits, is-true}
+use lib.Ieee.{Float, nan, inf, fin, Format, prec, emax, low, down, odd, units, fits, lt}
+use lib.Ieee.Bits.{is-true}
 use lib.Ieee.Exact.{units-val}
 use lib.Ieee.Fits.{down-pos, odd-fits}
-use lib.Ieee.Nearest.{div-same}
-use lib.Ieee.Positive.{num, den, positive, den-pos}
+use lib.Ieee.Positive.{num, den, positive}
+use Rattle.nearest.specs.Laws.Smallest.{Smallest}
+use Rattle.nearest.specs.Laws.Values.{nonnegative-of, cross→lt}
 use Rattle.sqrt.specs.Nearest.{NearestRoot}
 use Rattle.sqrt.specs.Sqrt.{sqrt, rootOf, halves, dropped, places}
-use Rattle.sqrt.specs.Laws.Smallest.{Smallest}
 use Rattle.sqrt.specs.Laws.Halves.{Halves, halves-are}
-use Rattle.sqrt.specs.Laws.Middles.{root-bounded, nonnegative-of, places-nearest}
+use Rattle.sqrt.specs.Laws.Middles.{root-bounded, places-nearest}
 
 -- ---- it is the nearest
 units-fits : (f : Format) (q k : ℕ) → q ≤ 2 ^ prec f → q * 2 ^ k < 2 ^ (low f + suc (emax f)) → T (fits f (units f false q k))
@@ -46,34 +46,6 @@ root-nearest f x m i M u =
     places-nearest f x (units f false (places h) k) n h k (u .same) r (units-fits f (places h) k q b) (units-val f false (places h) k b)
 
 -- ---- it is the only one
-cross→lt : (y v : Float) → T (positive y) → T (positive v) → num y * den v < num v * den y → T (lt y v)
-unfolding lt
-cross→lt nan v p q h = absurd p
-cross→lt (inf s) v p q h = absurd p
-cross→lt (fin true m e) v p q h = absurd p
-cross→lt (fin false m e) nan p q h = absurd q
-cross→lt (fin false m e) (inf t) p q h = absurd q
-cross→lt (fin false m e) (fin true n d) p q h = absurd q
-cross→lt (fin false m e) (fin false n d) p q h = lt→ltb (m * up e * down d) (n * up d * down e) h
-
--- values of one size have one pattern
-bits-of : (f : Format) (x : Float) → T (positive x)
-    → let n = num x * 2 ^ low f / den x in toBits f x ≡ 0 + (size n - prec f) * hid f + n / 2 ^ (size n - prec f)
-unfolding toBits
-bits-of f nan p = absurd p
-bits-of f (inf s) p = absurd p
-bits-of f (fin true m e) p = absurd p
-bits-of f (fin false m e) p = refl
-
-pub same-value : (f : Format) (x y : Float) → T (fits f x) → T (fits f y) → T (positive x) → T (positive y) → num x * den y ≡ num y * den x → x ≡ y
-same-value f x y fx fy p q e =
-    let l = 2 ^ low f in
-    let cross = mul-right-comm (num x) l (den y) ∙ ap (λ (z : ℕ). z * l) e ∙ mul-right-comm (num y) (den x) l in
-    let s : num x * l / den x ≡ num y * l / den y = div-same (num x * l) (den x) (num y * l) (den y) (den-pos x) (den-pos y) cross in
-    sym (ofBits-toBits f x fx)
-    ∙ ap (ofBits f) (bits-of f x p ∙ ap (λ (n : ℕ). 0 + (size n - prec f) * hid f + n / 2 ^ (size n - prec f)) s ∙ sym (bits-of f y q))
-    ∙ ofBits-toBits f y fy
-
 -- the middle of two nearest values would be both below and above the root
 pub clash : (f : Format) (x r s : Float) → NearestRoot f x r → NearestRoot f x s → num r * den s < num s * den r → ⊥
 clash f x r s R S h =

@@ -1,5 +1,5 @@
 -- A call that its checks pass, from the fronts of the lists that its kept edges stand in.
-use mathlib.Core.Path.{_≡_, sym, ap, _∙_, subst}
+use mathlib.Core.Path.{_≡_, refl, sym, ap, _∙_, subst}
 use mathlib.Core.Bool.{Bool, true, false, not}
 use mathlib.Core.List.{List, _++_}
 use Prim.Native.Nat.{ℕ, _-_, _*_, _≤_, _<_}
@@ -22,7 +22,7 @@ use Rattle.transfer_matrix.specs.Room.{Arrangement, room}
 use Rattle.transfer_matrix.specs.Rounded.{ieee}
 use Rattle.transfer_matrix.specs.Totals.{square, fourth}
 use Rattle.refusals.specs.Edges.{kept, windowFrom, keptEarly, keptLate}
-use Rattle.refusals.specs.Request.{badFactorList, signedFactors, tooManyChunks}
+use Rattle.refusals.specs.Request.{Source, lent, badFactorList, signedFactors, tooManyChunks}
 use Rattle.refusals.specs.Laws.First.{unless}
 use Rattle.refusals.specs.AcceptedJob.{buffersRefusal}
 use Rattle.refusals.specs.Laws.AcceptedJob.{accepted-factors, accepted-buffers}
@@ -65,6 +65,19 @@ fits-both wanted squares fourths h =
     let o = or-false (not (eqb squares wanted)) (not (eqb fourths wanted)) h in
     (eqb-true squares wanted (not-false _ (o .0)), eqb-true fourths wanted (not-false _ (o .1)))
 
+-- one result list of the length that is wanted, which is known where free edges are few enough
+pub stored-misfit : (source : Source) (caller : Caller) (A : Arrangement) (n w k : ℕ) (us vs : List ℕ) (list : List Float) (count free wanted wanted′ stored work : ℕ) → (free ≤ 24 → wanted ≡ wanted′)
+    → enumerationLists source caller A n w k us vs list count free 24 (misfits wanted stored stored) work
+    ≡ enumerationLists source caller A n w k us vs list count free 24 (not (eqb stored wanted′)) work
+stored-misfit source caller A n w k us vs list count free wanted wanted′ stored work h = go (decLt 24 free)
+  where
+    go : Dec (24 < free) → enumerationLists source caller A n w k us vs list count free 24 (misfits wanted stored stored) work
+        ≡ enumerationLists source caller A n w k us vs list count free 24 (not (eqb stored wanted′)) work
+    go (yes l) = rw (lt-ltb 24 free l)
+    go (no l) =
+        ap (λ (t : Bool). enumerationLists source caller A n w k us vs list count free 24 t work)
+        (misfits-alone wanted stored ∙ ap (λ (j : ℕ). not (eqb stored j)) (h (omega arith)))
+
 module _ {n floor : ℕ} {a b : List ℕ} {m : List Float} {us vs : List ℕ} {k w : ℕ} {early early′ late late′ : List ℕ} {mag mag′ : List Float}
     (g : ReadyJob n floor a b m us vs k w early early′ late late′ mag mag′) where
   passed-lists : (A : Arrangement) (factors : List Float) (betas : ℕ) (misfit : Bool) (work : ℕ) → betas ≤ 64 → badFactorList factors (signedFactors betas k) ≡ false
@@ -99,13 +112,19 @@ module _ {n floor : ℕ} {a b : List ℕ} {m : List Float} {us vs : List ℕ} {k
   pub joined : Paths.Edges n (take k early′) (take k late′)
   joined = rw (front-early (g .written), front-late (g .written)) (joins (g .edges))
 
+  pub all-listed : (source : Source) (caller : Caller) (A B : Arrangement) → A ≡ B → (list list′ : List Float) → list ≡ list′ → (count count′ : ℕ) → count ≡ count′
+      → (free free′ most : ℕ) (misfit : Bool) (work r : ℕ) → free ≡ free′ → r ≡ enumerationLists source caller A n w k us vs list count free most misfit work
+      → r ≡ enumerationLists source caller B n (windowFrom floor a b m) (length (kept a b m)) us vs list′ count′ free′ most misfit work
+  all-listed source caller A B eA list list′ eL count count′ eC free free′ most misfit work r e h = rw (eA, g .window, g .written .edges, eL, eC, e) at h
+
   pub all-lists : (caller : Caller) (A B : Arrangement) → A ≡ B → (betas : ℕ) (factors : List Float) (free free′ most : ℕ) (misfit : Bool) (work r : ℕ) → free ≡ free′
-      → r ≡ enumerationLists caller A n w k us vs betas factors free most misfit work
-      → r ≡ enumerationLists caller B n (windowFrom floor a b m) (length (kept a b m)) us vs betas factors free′ most misfit work
-  all-lists caller A B eA betas factors free free′ most misfit work r e h = rw (eA, g .window, g .written .edges, e) at h
+      → r ≡ enumerationLists lent caller A n w k us vs factors (signedFactors betas k) free most misfit work
+      → r ≡ enumerationLists lent caller B n (windowFrom floor a b m) (length (kept a b m)) us vs factors (signedFactors betas (length (kept a b m))) free′ most misfit work
+  all-lists caller A B eA betas factors free free′ most misfit work r e h =
+      all-listed lent caller A B eA factors factors refl _ _ (ap (signedFactors betas) (g .written .edges)) free free′ most misfit work r e h
 
   pub all-passed : (caller : Caller) (A : Arrangement) (betas : ℕ) (factors : List Float) (free most : ℕ) (misfit : Bool) (work r : ℕ) → betas ≤ 64
-      → r ≡ enumerationLists caller A n w k us vs betas factors free most misfit work → r ≡ 0
+      → r ≡ enumerationLists lent caller A n w k us vs factors (signedFactors betas k) free most misfit work → r ≡ 0
       → Passed A n w (take k early′) (take k late′) us vs (length factors) betas work × (misfit ≡ false) × (free ≤ most)
   all-passed caller A betas factors free most misfit work r few h z =
       let t9 = unless (ltb most free) {k = 9} (omega arith) (sym h ∙ z) in
@@ -121,27 +140,27 @@ module _ {n floor : ℕ} {a b : List ℕ} {m : List Float} {us vs : List ℕ} {k
   -- ---- of an enumeration that stores each correlation
 
   pub stored-lists : (caller : Caller) (A B : Arrangement) → A ≡ B → (betas : ℕ) (factors : List Float) (free free′ wanted wanted′ stored work r : ℕ) → free ≡ free′ → (free ≤ 24 → wanted ≡ wanted′)
-      → r ≡ enumerationLists caller A n w k us vs betas factors free 24 (misfits wanted stored stored) work
-      → r ≡ enumerationLists caller B n (windowFrom floor a b m) (length (kept a b m)) us vs betas factors free′ 24 (not (eqb stored wanted′)) work
+      → r ≡ enumerationLists lent caller A n w k us vs factors (signedFactors betas k) free 24 (misfits wanted stored stored) work
+      → r ≡ enumerationLists lent caller B n (windowFrom floor a b m) (length (kept a b m)) us vs factors (signedFactors betas (length (kept a b m))) free′ 24 (not (eqb stored wanted′)) work
   stored-lists caller A B eA betas factors free free′ wanted wanted′ stored work r e h q =
-      all-lists caller A B eA betas factors free free′ 24 (not (eqb stored wanted′)) work r e (q ∙ go (decLt 24 free))
-    where
-      go : Dec (24 < free) → enumerationLists caller A n w k us vs betas factors free 24 (misfits wanted stored stored) work
-          ≡ enumerationLists caller A n w k us vs betas factors free 24 (not (eqb stored wanted′)) work
-      go (yes l) = rw (lt-ltb 24 free l)
-      go (no l) =
-          ap (λ (t : Bool). enumerationLists caller A n w k us vs betas factors free 24 t work)
-          (misfits-alone wanted stored ∙ ap (λ (j : ℕ). not (eqb stored j)) (h (omega arith)))
+      all-lists caller A B eA betas factors free free′ 24 (not (eqb stored wanted′)) work r e
+      (q ∙ stored-misfit lent caller A n w k us vs factors (signedFactors betas k) free wanted wanted′ stored work h)
 
   -- ---- of a sampling
 
+  pub drawn-listed : (source : Source) (A B : Arrangement) → A ≡ B → (list list′ : List Float) → list ≡ list′ → (count count′ : ℕ) → count ≡ count′
+      → (from to samples : ℕ) (misfit : Bool) (work r : ℕ) → r ≡ samplingLists source A n w k us vs list count from to samples misfit work
+      → r ≡ samplingLists source B n (windowFrom floor a b m) (length (kept a b m)) us vs list′ count′ from to samples misfit work
+  drawn-listed source A B eA list list′ eL count count′ eC from to samples misfit work r h = rw (eA, g .window, g .written .edges, eL, eC) at h
+
   pub drawn-lists : (A B : Arrangement) → A ≡ B → (betas : ℕ) (factors : List Float) (from to samples : ℕ) (misfit : Bool) (work r : ℕ)
-      → r ≡ samplingLists A n w k us vs betas factors from to samples misfit work
-      → r ≡ samplingLists B n (windowFrom floor a b m) (length (kept a b m)) us vs betas factors from to samples misfit work
-  drawn-lists A B eA betas factors from to samples misfit work r h = rw (eA, g .window, g .written .edges) at h
+      → r ≡ samplingLists lent A n w k us vs factors (signedFactors betas k) from to samples misfit work
+      → r ≡ samplingLists lent B n (windowFrom floor a b m) (length (kept a b m)) us vs factors (signedFactors betas (length (kept a b m))) from to samples misfit work
+  drawn-lists A B eA betas factors from to samples misfit work r h =
+      drawn-listed lent A B eA factors factors refl _ _ (ap (signedFactors betas) (g .written .edges)) from to samples misfit work r h
 
   pub drawn-passed : (A : Arrangement) (betas : ℕ) (factors : List Float) (from to samples : ℕ) (misfit : Bool) (work r : ℕ) → betas ≤ 64
-      → r ≡ samplingLists A n w k us vs betas factors from to samples misfit work → r ≡ 0
+      → r ≡ samplingLists lent A n w k us vs factors (signedFactors betas k) from to samples misfit work → r ≡ 0
       → Passed A n w (take k early′) (take k late′) us vs (length factors) betas work × (misfit ≡ false) × ((to - from) * samples ≤ 4294967296)
   drawn-passed A betas factors from to samples misfit work r few h z =
       let t10 = unless (badFactorList factors (signedFactors betas k)) {k = 10} (omega arith) (sym h ∙ z) in

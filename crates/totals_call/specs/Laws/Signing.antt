@@ -8,7 +8,7 @@ use lib.Ieee.{Float, nan}
 use lib.ListN.{length, getD}
 use Rattle.list_laws.specs.Bits.{bit}
 use Rattle.list_laws.specs.Tabulate.{tabulate}
-use Rattle.list_laws.specs.Laws.Tabulate.{tabulate-length, tabulate-at, tabulate-ext}
+use Rattle.list_laws.specs.Laws.Tabulate.{tabulate-at, tabulate-ext}
 use Rattle.edge_bits.specs.Having.{hasBit}
 use Rattle.forest.specs.FreeEdges.{freeCount, bitOf, bitsOf}
 use Rattle.forest.specs.Laws.FreeEdges.{bits-long, bits-at, bit-below}

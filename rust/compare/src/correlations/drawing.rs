@@ -28,7 +28,16 @@ pub fn sound(draw: &mut Draw) -> Job {
     let style = if is_large(&edges) { 0 } else { draw.below(10) };
     let (couplings, factors) = factors(draw, &edges, style);
     let (results, gentle) = (pairs.us.len(), style <= GENTLE);
-    Job { edges, pairs, couplings, factors, options: draw.options(), results, spare: draw.below(9) as isize, gentle, wide: false }
+    let (options, spare) = (draw.options(), draw.below(9) as isize);
+    Job { edges, pairs, couplings, factors, house: None, options, results, spare, gentle, wide: false }
+}
+
+/// The same for house factors.
+pub fn sound_house(draw: &mut Draw) -> Job {
+    let job = sound(draw);
+    let style = if is_large(&job.edges) { 0 } else { draw.below(3) };
+    let couplings = job.edges.kept().iter().map(|_| draw.house_coupling(style)).collect();
+    Job { house: Some(couplings), couplings: None, factors: Vec::new(), ..job }
 }
 
 /// Up to this style couplings are small.
@@ -61,7 +70,7 @@ pub fn factors(draw: &mut Draw, edges: &Edges, style: usize) -> (Option<Vec<f64>
 
 /// One thing that document 01 may refuse.
 pub fn spoil(draw: &mut Draw, job: &mut Job) {
-    let (n, pairs, edges) = (job.edges.n, job.pairs.us.len(), job.factors.len());
+    let (n, pairs, edges) = (job.edges.n, job.pairs.us.len(), job.lent().len());
     let (pair, edge) = (pairs.checked_sub(1).map(|last| draw.within(0, last)), edges.checked_sub(1).map(|last| draw.within(0, last)));
     match draw.below(16) {
         0..=3 => spoil_graph(draw, &mut job.edges),
@@ -80,16 +89,17 @@ pub fn spoil(draw: &mut Draw, job: &mut Job) {
         }
         10 => {
             if let Some(i) = edge {
-                job.factors[i] = draw.no_factor();
+                let bad = if job.house.is_some() { draw.no_house_coupling() } else { draw.no_factor() };
+                job.lent_mut()[i] = bad;
                 job.couplings = None;
             }
         }
         11 => {
             job.couplings = None;
             if draw.once_in(2) {
-                job.factors.push(1.0);
+                job.lent_mut().push(1.0);
             } else {
-                job.factors.pop();
+                job.lent_mut().pop();
             }
         }
         12 | 13 => job.results = draw.of(&[job.results + 1, job.results.saturating_sub(1), 0]),
@@ -97,12 +107,13 @@ pub fn spoil(draw: &mut Draw, job: &mut Job) {
     }
 }
 
-/// Edges that are added, with a factor for each.
+/// Edges that are added, with a factor or a coupling for each.
 fn link(job: &mut Job, add: impl FnOnce(&mut Edges)) {
     let before = job.edges.a.len();
     add(&mut job.edges);
     for _ in before..job.edges.a.len() {
-        job.factors.push(0.5f64.exp());
+        let one = if job.house.is_some() { 0.5 } else { 0.5f64.exp() };
+        job.lent_mut().push(one);
         if let Some(couplings) = &mut job.couplings {
             couplings.push(0.5);
         }

@@ -3,7 +3,7 @@
 use super::jobs::{is_large, Job};
 use oracle::glass::{correlations as original, Plan};
 use oracle::lattice::Graph;
-use oracle::rules::refusals::{call_refusal, factor_refusal, first, is_sound, unless};
+use oracle::rules::refusals::{call_refusal, first, is_sound, unless};
 use oracle::rules::sweeps::Model;
 
 /// What the results and the work memory hold before a call.
@@ -24,8 +24,7 @@ pub struct Outcome {
 pub fn outcome(job: &Job, before: &Before) -> Result<Outcome, String> {
     let (e, p) = (&job.edges, &job.pairs);
     let number = first(call_refusal(e, p, &[], job.tester()), || {
-        let factors = factor_refusal(&job.factors, e.kept().len());
-        first(factors, || first(unless(job.results == p.us.len(), 12), || unless(before.work.len() >= job.room(), 13)))
+        first(job.lent_refusal(), || first(unless(job.results == p.us.len(), 12), || unless(before.work.len() >= job.room(), 13)))
     });
     if number != 0 {
         return Ok(Outcome { number, results: before.results.clone(), cleared: 0 });

@@ -1,7 +1,9 @@
 //! Jobs for correlations, and what follows from what they lend.
 
+use crate::exponentials::are_exponentials;
+use oracle::rules::house;
 use oracle::rules::lists::{room, Edges, Pairs};
-use oracle::rules::refusals::call_refusal;
+use oracle::rules::refusals::{call_refusal, coupling_refusal, factor_refusal};
 
 /// The most doubles that are lent as work memory, but to wide jobs; a job whose room is larger is lent too few.
 const MOST_LENT: usize = 1 << 23;
@@ -15,6 +17,8 @@ pub struct Job {
     pub pairs: Pairs,
     pub couplings: Option<Vec<f64>>,
     pub factors: Vec<f64>,
+    /// The couplings that a call for house factors is lent; `None` for one that is lent factors.
+    pub house: Option<Vec<f64>>,
     /// As the call takes them; [`Job::each`], [`Job::less`] and [`Job::tester`] are what they say.
     pub options: usize,
     pub results: usize,
@@ -45,6 +49,34 @@ impl Job {
     /// The room, of a job that passed checks 1 to 8.
     pub fn room(&self) -> usize {
         room(&self.edges, &self.pairs, self.less())
+    }
+
+    /// The list of doubles for the kept edges that the call is lent: factors, or couplings for house factors.
+    pub fn lent(&self) -> &[f64] {
+        self.house.as_ref().unwrap_or(&self.factors)
+    }
+
+    pub fn lent_mut(&mut self) -> &mut Vec<f64> {
+        self.house.as_mut().unwrap_or(&mut self.factors)
+    }
+
+    /// Check 10 of that list, or 23 in its place.
+    pub fn lent_refusal(&self) -> usize {
+        let kept = self.edges.kept().len();
+        match &self.house {
+            None => factor_refusal(&self.factors, kept),
+            Some(couplings) => coupling_refusal(couplings, kept),
+        }
+    }
+
+    /// The factors of a call for house factors, where its couplings have some. The original takes the couplings where it has the same.
+    pub fn settle_house(&mut self) {
+        let couplings = self.house.clone().unwrap_or_default();
+        if couplings.iter().all(|&x| house::place(x).is_some()) {
+            self.factors = couplings.iter().map(|&x| house::factor(x, false)).collect();
+            self.gentle = couplings.iter().all(|x| x.abs() <= 1.5);
+            self.couplings = are_exponentials(&self.factors, &couplings).then_some(couplings);
+        }
     }
 
     /// Whether the call is the tester's.

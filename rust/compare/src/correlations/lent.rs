@@ -4,7 +4,7 @@ use super::jobs::Job;
 use crate::guarded::Guarded;
 use copperhook::sys;
 
-/// A job's lists, lent: a, b, us and vs, the pairs as records, the magnitudes and the factors.
+/// A job's lists, lent: a, b, us and vs, the pairs as records, the magnitudes, and the factors or couplings.
 pub struct Lent<'a> {
     job: &'a Job,
     numbers: [Guarded<usize>; 4],
@@ -17,7 +17,7 @@ impl Lent<'_> {
     pub fn new(job: &Job) -> Lent<'_> {
         let (e, p) = (&job.edges, &job.pairs);
         let numbers = [&e.a, &e.b, &p.us, &p.vs].map(|list| Guarded::new(list));
-        let (records, m, factors) = (Guarded::new(&p.records()), Guarded::new(&e.m), Guarded::new(&job.factors));
+        let (records, m, factors) = (Guarded::new(&p.records()), Guarded::new(&e.m), Guarded::new(job.lent()));
         Lent { job, numbers, records, m, factors }
     }
 
@@ -27,13 +27,15 @@ impl Lent<'_> {
         unsafe { sys::copperhook_room(e.n, e.floor, a.0, a.1, b.0, b.1, m.0, m.1, us.0, us.1, vs.0, vs.1, self.job.options, room) }
     }
 
+    /// The call with two lists of ends, with lent factors or for house factors: both take the same arguments.
     #[rustfmt::skip]
     pub fn correlations(&self, results: &mut Guarded<f64>, work: &mut Guarded<f64>) -> usize {
         let [a, b, us, vs] = self.numbers.each_ref().map(|list| (list.pointer(), list.len()));
         let (e, m, f) = (&self.job.edges, (self.m.pointer(), self.m.len()), (self.factors.pointer(), self.factors.len()));
         let (results, work) = ((results.pointer_mut(), results.len()), (work.pointer_mut(), work.len()));
+        let entry = if self.job.house.is_some() { sys::copperhook_house_correlations } else { sys::copperhook_correlations };
         unsafe {
-            sys::copperhook_correlations(
+            entry(
                 e.n, e.floor, a.0, a.1, b.0, b.1, m.0, m.1, us.0, us.1, vs.0, vs.1, f.0, f.1, self.job.options,
                 results.0, results.1, work.0, work.1,
             )
@@ -60,6 +62,6 @@ impl Lent<'_> {
         self.numbers.iter().zip(named).try_for_each(|(list, (name, lent))| list.holds(name, lent))?;
         self.records.holds("records", &p.records())?;
         self.m.holds("m", &e.m)?;
-        self.factors.holds("factors", &self.job.factors)
+        self.factors.holds("factors or couplings", self.job.lent())
     }
 }

@@ -2,7 +2,7 @@
 
 use oracle::rules::configurations::{Drawn, Entry};
 use oracle::rules::lists::{room, Edges, Pairs};
-use oracle::rules::totals::Totals;
+use oracle::rules::totals::{Factors, Totals};
 
 /// A call as it is lent.
 #[derive(Clone)]
@@ -12,6 +12,8 @@ pub struct Call {
     pub pairs: Pairs,
     pub betas: Vec<f64>,
     pub factors: Vec<f64>,
+    /// Whether the call is one for house factors, and is lent none.
+    pub house: bool,
     /// Whether the factors are the exponentials of the couplings, as the original takes them.
     pub exponentials: bool,
     /// As the call takes them; [`Call::each`], [`Call::less`] and [`Call::tester`] are what they say.
@@ -61,14 +63,15 @@ impl Call {
         let (n, floor, edges) = (self.edges.n, self.edges.floor, self.edges.a.len());
         let (pairs, betas) = (self.pairs.us.len(), self.betas.len());
         format!(
-            "{:?}, {n} vertices, floor {floor}, {edges} edges, {pairs} pairs, {betas} betas, options {options}, {:?}",
-            self.entry, self.by
+            "{:?}, {n} vertices, floor {floor}, {edges} edges, {pairs} pairs, {betas} betas, options {options}, house {}, {:?}",
+            self.entry, self.house, self.by
         )
     }
 
     /// The call as the rules take it.
     pub fn by_rules(&self) -> Totals<'_> {
-        let Call { entry, edges, pairs, betas, factors, by, .. } = self;
+        let Call { entry, edges, pairs, betas, by, .. } = self;
+        let factors = if self.house { Factors::House } else { Factors::Lent(&self.factors) };
         Totals { entry: *entry, edges, pairs, betas, factors, each: self.each(), by: *by, tester: self.tester() }
     }
 

@@ -1,6 +1,7 @@
 //! Drawn calls for totals, sound ones, and what spoils them.
 
 use super::calls::Call;
+use super::house::leave_grid;
 use crate::betas::{disorder, risen};
 use crate::draw::Draw;
 use crate::shapes::{long_edge, pairs, short_edges, spoil_graph, swept_graph, Reach};
@@ -36,6 +37,7 @@ pub fn small(draw: &mut Draw) -> Call {
         pairs,
         betas,
         factors: Vec::new(),
+        house: false,
         exponentials: true,
         options: draw.options(),
         by,
@@ -125,7 +127,7 @@ pub fn vast(draw: &mut Draw) -> Call {
         (0, usize::MAX),
     ]);
     let by = Drawn { seed: draw.word(), from: 0, to, samples };
-    Call { entry, edges, pairs, betas, factors: Vec::new(), exponentials: true, options, by, misfits: [0; 2], spare: 0 }
+    Call { entry, edges, pairs, betas, factors: Vec::new(), house: false, exponentials: true, options, by, misfits: [0; 2], spare: 0 }
 }
 
 /// One thing of the graph, the pairs, the betas or the samples that document 01 may refuse.
@@ -167,9 +169,10 @@ pub fn lend_factors(draw: &mut Draw, call: &mut Call) {
     }
 }
 
-/// One thing of the factors, the result lists or the work memory that document 01 may refuse.
+/// One thing of the factors or couplings, the result lists or the work memory that documents 01 and 02 may refuse.
 pub fn spoil_lists(draw: &mut Draw, call: &mut Call) {
     match draw.below(8) {
+        0..=2 if call.house => leave_grid(draw, call),
         0 => spoil_factors(draw, call, |draw, factors| {
             if let Some(last) = factors.len().checked_sub(1) {
                 factors[draw.within(0, last)] = draw.no_factor();

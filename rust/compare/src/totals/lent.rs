@@ -5,7 +5,7 @@ use crate::guarded::Guarded;
 use copperhook::sys;
 use oracle::rules::configurations::Entry;
 
-/// A call's lists, lent: a, b, us and vs; m, betas and factors.
+/// A call's lists, lent: a, b, us and vs; m, betas and factors, of which a call for house factors takes none.
 pub struct Lent<'a> {
     call: &'a Call,
     numbers: [Guarded<usize>; 4],
@@ -28,6 +28,18 @@ impl Lent<'_> {
         let work = (work.pointer_mut(), work.len());
         unsafe {
             match self.call.entry {
+                Entry::Enumerated if self.call.house => sys::copperhook_house_exhaustive(
+                    e.n, e.floor, a.0, a.1, b.0, b.1, m.0, m.1, us.0, us.1, vs.0, vs.1, betas.0, betas.1, options,
+                    r[0].0, r[0].1, r[1].0, r[1].1, work.0, work.1, count,
+                ),
+                Entry::Stored if self.call.house => sys::copperhook_house_exhaustive_c(
+                    e.n, e.floor, a.0, a.1, b.0, b.1, m.0, m.1, us.0, us.1, vs.0, vs.1, betas.0, betas.1, options,
+                    r[0].0, r[0].1, work.0, work.1, count,
+                ),
+                Entry::Sampled if self.call.house => sys::copperhook_house_sample(
+                    e.n, e.floor, a.0, a.1, b.0, b.1, m.0, m.1, us.0, us.1, vs.0, vs.1, betas.0, betas.1, options,
+                    by.seed, by.from, by.to, by.samples, r[0].0, r[0].1, r[1].0, r[1].1, work.0, work.1, count,
+                ),
                 Entry::Enumerated => sys::copperhook_exhaustive(
                     e.n, e.floor, a.0, a.1, b.0, b.1, m.0, m.1, us.0, us.1, vs.0, vs.1, betas.0, betas.1, f.0, f.1, options,
                     r[0].0, r[0].1, r[1].0, r[1].1, work.0, work.1, count,

@@ -2,12 +2,11 @@
 //! for, and small strips of eight neighbours, which the original does not have. The worst error over its bound is printed. `cargo test --release --package compare --test exact -- 100000` takes as many jobs, and the
 //! seed is from the clock then and printed; `COPPERHOOK_SEED=N` takes another.
 
-mod natural;
 mod sums;
 
 use copperhook::{estimate, Estimate, ForestEdge, Graph, Job, Kind, Manner, Sampling, Strip};
-use natural::Natural;
 use oracle::rng::Rng;
+use oracle::rules::natural::Natural;
 use oracle::rules::strips::eight_edges;
 use std::time::{Instant, SystemTime, UNIX_EPOCH};
 use sums::{parts, Sums};
@@ -335,7 +334,6 @@ fn take_means(found: &mut Found, exact: &Squares, (squares, fourths): (&[f64], &
 }
 
 fn main() {
-    natural::is_sound();
     past_the_condition();
     let asked = std::env::args().skip(1).find_map(|word| word.parse::<u64>().ok());
     let clock = || SystemTime::now().duration_since(UNIX_EPOCH).unwrap().as_nanos() as u64;

@@ -1,7 +1,7 @@
 //! The exact sums over all spin settings, in whole numbers: every factor is a whole number times a power of two, and the weight of a setting
 //! times the product of all factors is the product of f^2 over the edges whose ends agree.
 
-use crate::natural::Natural;
+use oracle::rules::natural::Natural;
 
 /// x in [-1, 1] as m / 2^s, without its sign.
 pub fn parts(x: f64) -> (u64, usize) {

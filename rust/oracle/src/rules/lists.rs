@@ -54,6 +54,12 @@ impl Edges {
         self.raw().into_iter().filter(|e| e.2 != 0.0).map(|(a, b, m)| (a.min(b), a.max(b), m)).collect()
     }
 
+    /// Returns the couplings of the kept edges at each beta: beta times magnitude, rounded once.
+    pub fn couplings(&self, betas: &[f64]) -> Vec<f64> {
+        let kept = self.kept();
+        betas.iter().flat_map(|beta| kept.iter().map(move |e| beta * e.2)).collect()
+    }
+
     /// Returns each kept edge's place in the raw list.
     pub fn places(&self) -> Vec<usize> {
         (0..self.m.len()).filter(|&place| self.m[place] != 0.0).collect()

@@ -1,6 +1,7 @@
 //! What each call is refused by: the number of the first check that fits, in document 01's order; 0 for accepted.
 
 use super::configurations::Drawn;
+use super::house::place;
 use super::lists::{Edges, Pairs};
 use std::collections::HashSet;
 
@@ -88,6 +89,11 @@ pub fn call_refusal(edges: &Edges, pairs: &Pairs, betas: &[f64], tester: bool) -
 /// Check 10, of so many factors.
 pub fn factor_refusal(factors: &[f64], count: usize) -> usize {
     unless(factors.len() == count && factors.iter().all(|&x| x.is_finite() && x > 0.0), 10)
+}
+
+/// Check 23, in the place of 10 where a call takes house factors: of so many couplings.
+pub fn coupling_refusal(couplings: &[f64], count: usize) -> usize {
+    unless(couplings.len() == count && couplings.iter().all(|&x| place(x).is_some()), 23)
 }
 
 /// Check 11, of samples.

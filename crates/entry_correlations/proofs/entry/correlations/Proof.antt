@@ -2,13 +2,14 @@ use mathlib.Core.Path.{_≡_, sym, _∙_}
 use native.Mathlib.Omega.{arith}
 use lib.ListN.{length}
 use Rattle.kept_edges.specs.Laws.Fronts.{early-part, late-part, early-fits, late-fits}
+use Rattle.refusals.specs.Request.{lent}
 use Rattle.entry_correlations.proofs.Calling.{refused-early, refused-lists, accepted, refused-14, lists-of, passed-of, finished-of}
 use borrow.Author.Needs.{needs}
 use Rattle.entry_correlations.proofs.entry.correlations.Statement.{statement}
 use Rattle.entry_correlations.proofs.entry.correlations.Tie as tie
 
 returns : tie.Need-returns
-returns c = refused-early _ _ _ _ _ _ _ _ _ _ _ _ _ _ (c .before .before .before .before .check-job .ensures .refusal) (λ z. omega arith)
+returns c = refused-early lent _ _ _ _ _ _ _ _ _ _ _ _ _ _ (c .before .before .before .before .check-job .ensures .refusal) (λ z. omega arith)
 
 check-lists-requires : tie.Need-check-lists-requires
 check-lists-requires c κs =
@@ -21,8 +22,8 @@ returns-2 c =
     let j = c .before .before .before .before .before .before .before .check-job in
     let a = c .before .before .before .before .before .before .before .before .before .before .before .before .before .before .before .before .before .before .before .args in
     let g = j .ensures .ready (omega arith) in
-    refused-lists _ _ _ _ _ _ _ _ _ _ _ _ _ _ (omega (arith, j .ensures .refusal))
-    (c .before .check-lists .ensures ∙ lists-of g _ _ (c .before .before .takes-less .ensures) (a .factors .now) (length (a .results .now)) (length (a .work .now))) (λ z. omega arith)
+    refused-lists lent _ _ _ _ _ _ _ _ _ _ _ _ _ _ (omega (arith, j .ensures .refusal))
+    (c .before .check-lists .ensures ∙ lists-of g lent _ _ (c .before .before .takes-less .ensures) (a .factors .now) (length (a .results .now)) (length (a .work .now))) (λ z. omega arith)
 
 array-share-prefix-early : tie.Need-array-share-prefix-early
 array-share-prefix-early c = early-fits (c .before .before .before .before .before .before .before .before .check-job .ensures .ready (omega arith) .written)
@@ -47,9 +48,9 @@ returns-3 c =
     let g = j .ensures .ready passed in
     let none : c .before .before .before .before .before .before .before .before .before .before .before .before .check-lists .result ≡ 0 = omega arith in
     let z = sym (c .before .before .before .before .before .before .before .before .before .before .before .before .check-lists .ensures) ∙ none in
-    let l = sym z ∙ lists-of g _ _ (c .before .before .before .before .before .before .before .before .before .before .before .before .before .takes-less .ensures) (a .factors .now) (length (a .results .now)) (length (a .work .now)) in
+    let l = sym z ∙ lists-of g lent _ _ (c .before .before .before .before .before .before .before .before .before .before .before .before .before .takes-less .ensures) (a .factors .now) (length (a .results .now)) (length (a .work .now)) in
     let f = finished-of g _ _ (c .before .before .before .before .before .before .before .before .before .before .before .before .before .takes-less .ensures) (a .factors .now) (a .manner) (c .before .before .before .before .before .before .before .before .before .before .is-elementwise .result) _ _ _ _ (c .before .before .before .before .before .before .before .before .before .before .is-elementwise .ensures) (c .before .before .before .before .before .answer-job .ensures) in
-    accepted _ _ _ _ _ _ _ _ _ (a .arrangement) (a .caller) (a .results .now) (a .work .now) (sym passed ∙ j .ensures .refusal) l _ _ (passed-of g _ (a .factors .now) (length (a .results .now)) (length (a .work .now)) z .fitting) (rw (c .if3 .taken) at f)
+    accepted lent _ _ _ _ _ _ _ _ _ (a .arrangement) (a .caller) (a .results .now) (a .work .now) (sym passed ∙ j .ensures .refusal) l _ _ (passed-of g _ (a .factors .now) (length (a .results .now)) (length (a .work .now)) z .fitting) (rw (c .if3 .taken) at f)
 
 returns-4 : tie.Need-returns-4
 returns-4 c =
@@ -59,9 +60,9 @@ returns-4 c =
     let g = j .ensures .ready passed in
     let none : c .before .before .before .before .before .before .before .before .before .before .before .before .check-lists .result ≡ 0 = omega arith in
     let z = sym (c .before .before .before .before .before .before .before .before .before .before .before .before .check-lists .ensures) ∙ none in
-    let l = sym z ∙ lists-of g _ _ (c .before .before .before .before .before .before .before .before .before .before .before .before .before .takes-less .ensures) (a .factors .now) (length (a .results .now)) (length (a .work .now)) in
+    let l = sym z ∙ lists-of g lent _ _ (c .before .before .before .before .before .before .before .before .before .before .before .before .before .takes-less .ensures) (a .factors .now) (length (a .results .now)) (length (a .work .now)) in
     let f = finished-of g _ _ (c .before .before .before .before .before .before .before .before .before .before .before .before .before .takes-less .ensures) (a .factors .now) (a .manner) (c .before .before .before .before .before .before .before .before .before .before .is-elementwise .result) _ _ _ _ (c .before .before .before .before .before .before .before .before .before .before .is-elementwise .ensures) (c .before .before .before .before .before .answer-job .ensures) in
-    refused-14 _ _ _ _ _ _ _ _ _ (a .arrangement) (a .caller) (a .results .now) (a .work .now) (sym passed ∙ j .ensures .refusal) l _ _ (passed-of g _ (a .factors .now) (length (a .results .now)) (length (a .work .now)) z .fitting) (rw (c .if3 .left) at f)
+    refused-14 lent _ _ _ _ _ _ _ _ _ (a .arrangement) (a .caller) (a .results .now) (a .work .now) (sym passed ∙ j .ensures .refusal) l _ _ (passed-of g _ (a .factors .now) (length (a .results .now)) (length (a .work .now)) z .fitting) (rw (c .if3 .left) at f)
 
 pub correlations-spec : {M : Type 1} → statement M
 correlations-spec =

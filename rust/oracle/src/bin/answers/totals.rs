@@ -6,7 +6,7 @@ use crate::words::{bits, BEFORE};
 use oracle::glass::{exhaustive, exhaustive_c, sample, Plan};
 use oracle::rules::configurations::{Drawn, Entry};
 use oracle::rules::refusals::{first, unless};
-use oracle::rules::totals::Totals;
+use oracle::rules::totals::{Factors, Totals};
 
 /// A call as a caller makes it. The job has the graph, the pairs, the manner and the work memory; its couplings are not used, and its factors
 /// are two for each beta and kept edge.
@@ -49,7 +49,7 @@ impl Call {
     fn by_rules<T>(&self, of: impl FnOnce(Totals) -> T) -> T {
         let Call { entry, job, betas, drawn, .. } = self;
         let (edges, pairs) = (&job.edges(), &job.pairs());
-        of(Totals { entry: *entry, edges, pairs, betas, factors: &job.factors, each: job.each, by: *drawn, tester: false })
+        of(Totals { entry: *entry, edges, pairs, betas, factors: Factors::Lent(&job.factors), each: job.each, by: *drawn, tester: false })
     }
 
     /// Checks 1 to 13.

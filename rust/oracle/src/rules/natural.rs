@@ -1,4 +1,4 @@
-//! Natural numbers of any size: what exact sums of products of doubles need, and no more.
+//! Natural numbers of any size: what exact sums of products of doubles, and the series of the house table, need, and no more.
 
 use std::cmp::Ordering;
 
@@ -7,6 +7,7 @@ use std::cmp::Ordering;
 pub struct Natural(Vec<u64>);
 
 impl Natural {
+    /// Returns the number that a word is.
     pub fn new(word: u64) -> Natural {
         Natural(vec![word]).trimmed()
     }
@@ -18,6 +19,7 @@ impl Natural {
         self
     }
 
+    /// Adds a number.
     pub fn add(&mut self, other: &Natural) {
         self.0.resize(self.0.len().max(other.0.len()) + 1, 0);
         let mut carry = false;
@@ -30,7 +32,7 @@ impl Natural {
         *self = std::mem::replace(self, Natural(Vec::new())).trimmed();
     }
 
-    /// Less a number that is not above it.
+    /// Takes a number away that is not above it.
     pub fn subtract(&mut self, other: &Natural) {
         let mut borrow = false;
         for (i, word) in self.0.iter_mut().enumerate() {
@@ -43,7 +45,7 @@ impl Natural {
         *self = std::mem::replace(self, Natural(Vec::new())).trimmed();
     }
 
-    /// How far apart two are.
+    /// Returns how far apart two are.
     pub fn apart(&self, other: &Natural) -> Natural {
         let (more, less) = if *self >= *other { (self, other) } else { (other, self) };
         let mut rest = more.clone();
@@ -51,6 +53,7 @@ impl Natural {
         rest
     }
 
+    /// Returns the product of two.
     pub fn times(&self, other: &Natural) -> Natural {
         let mut product = vec![0u64; self.0.len() + other.0.len()];
         for (i, &x) in self.0.iter().enumerate() {
@@ -65,7 +68,7 @@ impl Natural {
         Natural(product).trimmed()
     }
 
-    /// Times two to a power.
+    /// Returns itself times two to a power.
     pub fn shifted(&self, bits: usize) -> Natural {
         let (words, bits) = (bits / 64, bits % 64);
         let mut shifted = vec![0; words];
@@ -78,7 +81,7 @@ impl Natural {
         Natural(shifted).trimmed()
     }
 
-    /// The whole part of itself times 2^bits over a number that is not below it.
+    /// Returns the whole part of itself times 2^bits over a number that is not below it.
     pub fn over(&self, other: &Natural, bits: usize) -> Natural {
         let (mut rest, mut quotient) = (self.clone(), Natural::new(0));
         for step in 0..=bits {
@@ -102,7 +105,7 @@ impl Natural {
         }
     }
 
-    /// About the ratio of two, the second not zero.
+    /// Returns about the ratio of two, the second not zero.
     pub fn ratio(&self, other: &Natural) -> f64 {
         let ((x, p), (y, q)) = (self.rough(), other.rough());
         x / y * 2f64.powi(p - q)
@@ -121,25 +124,31 @@ impl Ord for Natural {
     }
 }
 
-/// Small cases against the machine's own numbers, and one across words: a wrong sum here would judge the library wrongly.
-pub fn is_sound() {
-    let big = |x: u128| Natural(vec![x as u64, (x >> 64) as u64]).trimmed();
-    let numbers = [0u128, 1, 3, u64::MAX.into(), 1 << 64, (1 << 64) + 7, 0xDEAD_BEEF << 40, (1 << 126) - 1];
-    for x in numbers {
-        for y in numbers {
-            let mut sum = big(x);
-            sum.add(&big(y));
-            assert_eq!(sum, big(x + y));
-            assert_eq!((big(x).apart(&big(y)), big(x).cmp(&big(y))), (big(x.abs_diff(y)), x.cmp(&y)));
-            if let Some(product) = x.checked_mul(y) {
-                assert_eq!(big(x).times(&big(y)), big(product));
+#[cfg(test)]
+mod tests {
+    use super::Natural;
+
+    /// Small cases against the machine's own numbers, and one across words: a wrong sum here would judge the library wrongly.
+    #[test]
+    fn sums_and_products() {
+        let big = |x: u128| Natural(vec![x as u64, (x >> 64) as u64]).trimmed();
+        let numbers = [0u128, 1, 3, u64::MAX.into(), 1 << 64, (1 << 64) + 7, 0xDEAD_BEEF << 40, (1 << 126) - 1];
+        for x in numbers {
+            for y in numbers {
+                let mut sum = big(x);
+                sum.add(&big(y));
+                assert_eq!(sum, big(x + y));
+                assert_eq!((big(x).apart(&big(y)), big(x).cmp(&big(y))), (big(x.abs_diff(y)), x.cmp(&y)));
+                if let Some(product) = x.checked_mul(y) {
+                    assert_eq!(big(x).times(&big(y)), big(product));
+                }
+                if 0 < y && x <= y && y < 1 << 100 {
+                    assert_eq!(big(x).over(&big(y), 20), big((x << 20) / y));
+                }
             }
-            if 0 < y && x <= y && y < 1 << 100 {
-                assert_eq!(big(x).over(&big(y), 20), big((x << 20) / y));
-            }
+            assert_eq!(big(x).shifted(100).apart(&Natural::new(0)), big(x).times(&big(1 << 100)));
         }
-        assert_eq!(big(x).shifted(100).apart(&Natural::new(0)), big(x).times(&big(1 << 100)));
+        let far = Natural::new(5).shifted(1000);
+        assert_eq!((far.times(&far), far.ratio(&Natural::new(10).shifted(1001))), (Natural::new(25).shifted(2000), 0.25));
     }
-    let far = Natural::new(5).shifted(1000);
-    assert_eq!((far.times(&far), far.ratio(&Natural::new(10).shifted(1001))), (Natural::new(25).shifted(2000), 0.25));
 }

@@ -10,7 +10,7 @@ use lib.Pow.{pow-add, pow-pos, pow-lt}
 use lib.Ieee.{Float, nan, inf, fin, Format, prec, emax, low, up, down, fits}
 use lib.Ieee.Fits.{and-l, and-r}
 use lib.Ieee.Positive.{num, den}
-use Rattle.sqrt.specs.Nearest.{nonnegative}
+use Rattle.nearest.specs.Nearest.{nonnegative}
 
 pub record Smallest (f : Format) (x : Float) (m i : ℕ) : Type 0 where
   pub same : num x * 2 ^ low f ≡ m * 2 ^ i * den x

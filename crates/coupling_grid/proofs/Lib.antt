@@ -1,0 +1,4 @@
+mod Product
+mod Placing
+mod Range
+mod Whole

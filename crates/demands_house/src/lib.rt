@@ -1,0 +1,1 @@
+// No code: what the demands say of house calls, as theorems about their contracts.

@@ -1,0 +1,2 @@
+-- Laws that the proof shares.
+mod Laying

@@ -1,0 +1,107 @@
+// The totals of all configurations with house factors, for callers.
+ghost use Rattle.totals_call.specs.Calls.{HouseEnumerated};
+use entry_correlations::Manner;
+use entry_correlations::is_elementwise;
+use forest::number_free_edges;
+use house_checks::check_house_enumeration;
+use job_checks::check_with_betas;
+use limits::COUNTED;
+use limits::Caller;
+use limits::EDGES;
+use plan_layout::Arrangement;
+use plan_layout::takes_less;
+use refusals::Answer;
+use step_tables::pow2;
+use totals_chunks::all_chunks;
+use totals_house::total_house_job;
+
+// Writes the sums of the squares and of the fourth powers of every correlation, over all configurations, for each beta and pair. The
+// factors are the house table's at beta times magnitude. Returns the count of configurations, or the refusal.
+pub fn house_exhaustive(
+    n: usize,
+    floor: usize,
+    a: &[usize],
+    b: &[usize],
+    m: &[f64],
+    us: &[usize],
+    vs: &[usize],
+    betas: &[f64],
+    manner: Manner,
+    arrangement: Arrangement,
+    caller: Caller,
+    squares: &mut [f64],
+    fourths: &mut [f64],
+    work: &mut [f64],
+) -> Answer
+    ensures { λ r. ⌜ HouseEnumerated n floor (now (a .entry)) (now (b .entry)) (now (m .entry)) (now (us .entry)) (now (vs .entry))
+        (now (betas .entry)) manner arrangement caller r (now (squares .entry)) (now (squares .exit))
+        (now (fourths .entry)) (now (fourths .exit)) (now (work .entry)) (now (work .exit)) ⌝ }
+{
+    let less = takes_less(arrangement);
+    let mut early = [0usize; EDGES];
+    let mut late = [0usize; EDGES];
+    let mut mag = [0.0f64; EDGES];
+    let job = check_with_betas(
+        caller,
+        n,
+        floor,
+        a,
+        b,
+        m,
+        us,
+        vs,
+        betas,
+        &mut early,
+        &mut late,
+        &mut mag,
+    );
+    let refused = job.refusal;
+    if refused != 0 {
+        return Answer::Refused(refused);
+    }
+    let w = job.window;
+    let edges = job.edges;
+    let mut bits = [0usize; EDGES];
+    let free = number_free_edges(n, &early[..edges], &late[..edges], &mut bits[..edges]);
+    let unfit = check_house_enumeration(
+        caller,
+        less,
+        n,
+        w,
+        us,
+        vs,
+        betas,
+        &mag[..edges],
+        free,
+        COUNTED,
+        betas.len() * us.len(),
+        squares.len(),
+        fourths.len(),
+        work.len(),
+    );
+    if unfit != 0 {
+        return Answer::Refused(unfit);
+    }
+    let elementwise = is_elementwise(manner);
+    let chunks = all_chunks(free);
+    if total_house_job(
+        n,
+        w,
+        elementwise,
+        less,
+        &early[..edges],
+        &late[..edges],
+        &mag[..edges],
+        &bits[..edges],
+        us,
+        vs,
+        betas,
+        chunks,
+        squares,
+        fourths,
+        work,
+    ) {
+        return Answer::Number(pow2(free));
+    }
+    Answer::Refused(14)
+}

@@ -1,0 +1,4 @@
+// The totals of all configurations, with house factors.
+mod entry;
+
+pub use entry::house_exhaustive;

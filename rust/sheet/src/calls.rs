@@ -1,0 +1,44 @@
+//! The library's calls for a board: with the host's factors, which it is lent, or with its own, the house's.
+
+use crate::board::Board;
+use copperhook::{Refusal, Sampling};
+use std::ops::Range;
+
+impl Board {
+    /// The correlations at beta i of the configuration with these signs, true for minus.
+    pub fn correlations(&self, i: usize, minus: &[bool], results: &mut [f64], work: &mut [f64]) -> Result<(), Refusal> {
+        if self.house {
+            let couplings: Vec<f64> = self.signed_couplings(i, minus).collect();
+            self.job().house_correlations(&couplings, self.options, results, work)
+        } else {
+            self.job().correlations(&self.factors.of_signs(i, minus), self.options, results, work)
+        }
+    }
+
+    /// The sums at beta i over all configurations, and how many there are.
+    pub fn exhaustive(&self, i: usize, squares: &mut [f64], fourths: &mut [f64], work: &mut [f64]) -> Result<usize, Refusal> {
+        let (job, beta) = (self.job(), &self.betas[i..=i]);
+        if self.house {
+            job.house_exhaustive(beta, self.options, squares, fourths, work)
+        } else {
+            job.exhaustive(beta, self.factors_at(i), self.options, squares, fourths, work)
+        }
+    }
+
+    /// The sums over drawn configurations at the betas of these places, and how many there are.
+    pub fn sample(
+        &self,
+        betas: Range<usize>,
+        by: &Sampling,
+        squares: &mut [f64],
+        fourths: &mut [f64],
+        work: &mut [f64],
+    ) -> Result<usize, Refusal> {
+        let (job, factors) = (self.job(), self.factors_of(betas.clone()));
+        if self.house {
+            job.house_sample(&self.betas[betas], self.options, by, squares, fourths, work)
+        } else {
+            job.sample(&self.betas[betas], factors, self.options, by, squares, fourths, work)
+        }
+    }
+}
