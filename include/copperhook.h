@@ -1,7 +1,7 @@
 /*
  * Copperhook: exact pair correlations of disordered Ising strips. The C interface of libcopperhook.a, for x86-64 Linux.
  *
- *     rt staticlib copperhook                         makes target/staticlib/libcopperhook.a
+ *     ./archive                                       makes target/staticlib/libcopperhook.a
  *     cc -std=c11 -Iinclude sheet.c target/staticlib/libcopperhook.a
  *
  * Lists. A list is a pointer and, right behind it, the number of its elements (not of bytes). One that is read is `const`; one that is

@@ -1,4 +1,4 @@
-//! Links the archive: in the folder that COPPERHOOK_LIB names, else where `rt staticlib copperhook` puts it.
+//! Links the archive: in the folder that COPPERHOOK_LIB names, else where `./archive` puts it.
 use std::env;
 use std::path::PathBuf;
 
@@ -11,7 +11,7 @@ fn main() {
     println!("cargo:rerun-if-changed={}", archive.display());
     if !archive.is_file() {
         eprintln!("error: {} is not there. In the repository's folder,", archive.display());
-        eprintln!("    rt staticlib copperhook");
+        eprintln!("    ./archive");
         eprintln!("proves the library and makes it; or set COPPERHOOK_LIB to the folder of another libcopperhook.a.");
         std::process::exit(1);
     }

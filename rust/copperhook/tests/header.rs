@@ -77,7 +77,9 @@ fn header_and_bindings_declare_the_same() {
 /// Each function that the library's source exports, with its number of parameters over C: a slice is two.
 fn exported() -> BTreeMap<String, usize> {
     let mut functions = BTreeMap::new();
-    for file in std::fs::read_dir(repository().join("crates/copperhook/src")).unwrap() {
+    let folders = std::fs::read_dir(repository().join("crates")).unwrap().map(|folder| folder.unwrap().path());
+    let exports = folders.filter(|folder| folder.file_name().is_some_and(|name| name.to_string_lossy().starts_with("export_")));
+    for file in exports.flat_map(|folder| std::fs::read_dir(folder.join("src")).unwrap()) {
         let text = std::fs::read_to_string(file.unwrap().path()).unwrap();
         for part in text.split("extern \"C\" fn ").skip(1) {
             let (name, rest) = part.split_once('(').unwrap();

@@ -45,6 +45,11 @@ const PROVER: &str = "#!/usr/bin/env bash
 echo \"$*\" >>calls
 [ ! -e fails ] || { echo 'rt: one is not proved'; exit 1; }
 echo 'rt: one proved (1 s)'
+";
+
+const ARCHIVE: &str = "#!/usr/bin/env bash
+set -e
+rt staticlib export_jobs
 mkdir -p target/staticlib && touch target/staticlib/libcopperhook.a
 ";
 
@@ -76,7 +81,7 @@ fn repository(name: &str) -> PathBuf {
     fs::remove_file(root.join("rust/sheet/run")).unwrap();
     fs::copy(package.join("run"), root.join("rust/sheet/run")).unwrap();
     fs::copy(package.join("../Cargo.toml"), root.join("rust/Cargo.toml")).unwrap();
-    fs::write(root.join("crates.txt"), "# a comment\none:\nother: one\ncopperhook: one kit\n").unwrap();
+    fs::write(root.join("crates.txt"), "# a comment\none:\nother: one\nexport_jobs: one kit\n").unwrap();
     fs::write(root.join("crates/one/src/one.rt"), "1").unwrap();
     for tool in TOOLS {
         if let Some(path) = which(tool) {
@@ -86,6 +91,7 @@ fn repository(name: &str) -> PathBuf {
     let rustc = Path::new(env!("CARGO")).with_file_name("rustc");
     symlink(if rustc.is_file() { rustc } else { which("rustc").unwrap() }, root.join("bin/rustc")).unwrap();
     script(&root.join("bin/rt"), PROVER);
+    script(&root.join("archive"), ARCHIVE);
     script(&root.join("bin/cargo"), BUILDER);
     root
 }
@@ -103,7 +109,7 @@ fn run(root: &Path, line: &str) -> (Option<i32>, String, String) {
 }
 
 fn calls(root: &Path) -> usize {
-    fs::read_to_string(root.join("calls")).map_or(0, |text| text.lines().filter(|line| *line == "staticlib copperhook").count())
+    fs::read_to_string(root.join("calls")).map_or(0, |text| text.lines().filter(|line| *line == "staticlib export_jobs").count())
 }
 
 const JOB: &str = "--kind square --width 2 --length 2 --beta 1";

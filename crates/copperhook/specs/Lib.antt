@@ -1,6 +1,0 @@
--- The definitions that the contracts cite.
-pub mod Strips
-pub mod Kinds
-pub mod PairSets
-pub mod Graphs
-pub mod Distances

@@ -1,0 +1,4 @@
+-- The definitions that the contracts cite.
+pub mod Strips
+pub mod Kinds
+pub mod PairSets
