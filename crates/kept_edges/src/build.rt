@@ -60,7 +60,7 @@ fn check_raw(
 }
 
 // Checks 1 to 5, 21 among them. Where none fits, the kept edges stand at the fronts of the three lists.
-pub fn check_dropping(
+pub fn check_graph_dropping(
     n: usize,
     a: &[usize],
     b: &[usize],
@@ -107,7 +107,7 @@ pub fn check_graph(
         (r .refusal) (r .edges)
         (now (early .entry)) (now (early .exit)) (now (late .entry)) (now (late .exit)) (now (mag .entry)) (now (mag .exit)) ⌝ }
 {
-    check_dropping(n, a, b, m, m.len(), us, vs, betas, early, late, mag)
+    check_graph_dropping(n, a, b, m, m.len(), us, vs, betas, early, late, mag)
 }
 
 // Checks 1 to 5 of a graph alone.

@@ -30,10 +30,11 @@ returns c =
     (c .before .is-oversized .ensures ∙ ap oversized (c .before .before .magnitude-dropping .ensures)) (c .if1 .taken)
 
 loop-again : tie.Need-loop-again Inv-loop μ-loop
-loop-again c =
-    (miss _ _ (c .before .before .before .before .loop .inv .0) _
-    (c .before .is-oversized .ensures ∙ ap oversized (c .before .before .magnitude-dropping .ensures)) (c .if1 .left),
-    omega arith)
+loop-again c = (
+  miss _ _ (c .before .before .before .before .loop .inv .0) _
+      (c .before .is-oversized .ensures ∙ ap oversized (c .before .before .magnitude-dropping .ensures)) (c .if1 .left),
+  omega arith,
+)
 
 returns-2 : tie.Need-returns-2 Inv-loop μ-loop
 returns-2 c =

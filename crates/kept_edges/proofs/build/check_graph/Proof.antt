@@ -5,7 +5,7 @@ use Rattle.kept_edges.proofs.build.check_graph.Statement.{statement}
 use Rattle.kept_edges.proofs.build.check_graph.Tie as tie
 
 returns : tie.Need-returns
-returns c = rw (dropping-none (c .before .before .before .before .before .before .before .before .before .before .before .before .before .before .before .before .before .before .before .args .m .now)) at (c .before .before .before .before .before .before .check-dropping .ensures)
+returns c = rw (dropping-none (c .before .before .before .before .before .before .before .before .before .before .before .before .before .before .before .before .before .before .before .args .m .now)) at (c .before .before .before .before .before .before .check-graph-dropping .ensures)
 
 pub check-graph-spec : {M : Type 1} → statement M
 check-graph-spec =

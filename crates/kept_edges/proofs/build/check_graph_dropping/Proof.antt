@@ -5,8 +5,8 @@ use mathlib.Core.Path.{sym, _∙_}
 use Rattle.refusals.specs.Laws.Dropping.{dropping-length}
 use native.Mathlib.Omega.{arith}
 use borrow.Author.Needs.{needs}
-use Rattle.kept_edges.proofs.build.check_dropping.Statement.{statement}
-use Rattle.kept_edges.proofs.build.check_dropping.Tie as tie
+use Rattle.kept_edges.proofs.build.check_graph_dropping.Statement.{statement}
+use Rattle.kept_edges.proofs.build.check_graph_dropping.Tie as tie
 
 returns : tie.Need-returns
 returns c = raw-refused (c .before .before .check-raw .ensures) (c .refused .ensures) (λ z. omega arith)
@@ -50,8 +50,8 @@ returns-3 c =
     let passed = kept .before .before .before .before in
     none-refused (passed .before .check-raw .ensures) (passed .if1 .left) (kept .keep-dropping .ensures) (c .before .joined-twice .ensures) (c .if2 .left)
 
-pub check-dropping-spec : {M : Type 1} → statement M
-check-dropping-spec =
+pub check-graph-dropping-spec : {M : Type 1} → statement M
+check-graph-dropping-spec =
     tie.close
     (tie.spec
     (λ c κs. search needs) (λ c κs. search needs) returns keep-dropping-requires slice-reshare-prefix-joined-twice slice-aggregate-joined-twice
