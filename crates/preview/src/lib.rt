@@ -87,14 +87,7 @@ pub fn preview(
     if bad_vertices(n) {
         return Preview::Refused(1);
     }
-    if bad_lists(
-        a.len(),
-        b.len(),
-        m.len(),
-        us.len(),
-        vs.len(),
-        betas.len(),
-    ) {
+    if bad_lists(a.len(), b.len(), m.len(), us.len(), vs.len(), betas.len()) {
         return Preview::Refused(2);
     }
     if a.len() <= place {
