@@ -40,8 +40,8 @@ extern "C" {
 #endif
 
 /*
- * Why a call is refused, in checking order; but 21 stands between 4 and 5, 22 right behind 6 for the window and right behind 9 for free
- * edges, 23 in the place of 10, and calls for strips check 15 to 17 before 12.
+ * Why a call is refused, in checking order; but 24 stands right behind 2, 21 between 4 and 5, 22 right behind 6 for the window and right
+ * behind 9 for free edges, 23 in the place of 10, and calls for strips check 15 to 17 before 12.
  */
 enum copperhook_refusal {
     COPPERHOOK_ACCEPTED = 0,
@@ -65,7 +65,8 @@ enum copperhook_refusal {
     COPPERHOOK_SUMS = 18,           /* the count is 0 or above 2^53, or 0 <= fourth powers <= squares <= count fails */
     COPPERHOOK_BETAS = 21,          /* the betas do not rise strictly; asked between 4 and 5 */
     COPPERHOOK_TESTER_LIMIT = 22,   /* in the tester's calls: the window is above 12, or all signs of over 16 free edges are gone through */
-    COPPERHOOK_COUPLINGS = 23       /* of house factors: the couplings have another length, or one is no multiple of 1/128 from -4 to 4 */
+    COPPERHOOK_COUPLINGS = 23,      /* of house factors: the couplings have another length, or one is no multiple of 1/128 from -4 to 4 */
+    COPPERHOOK_EDGE_PLACE = 24      /* of a preview: no edge is at that place; asked right behind 2 */
 };
 
 /* The most of each that a job may have, and how much a standard pair set takes at most. */
@@ -108,6 +109,20 @@ enum copperhook_kind { COPPERHOOK_SQUARE = 0, COPPERHOOK_TRIANGULAR = 1, COPPERH
  */
 size_t copperhook_room(size_t n, size_t floor, const size_t *a, size_t a_len, const size_t *b, size_t b_len, const double *m,
                        size_t m_len, const size_t *us, size_t us_len, const size_t *vs, size_t vs_len, size_t options, size_t *room);
+
+/*
+ * What the job would come to if the edge at `place` were dropped: its window, in *window, how many edges would be free, in *free_edges, and
+ * the room, in *room, as copperhook_room answers it for these options. `place` counts all edges of `a`, `b` and `m`, from 0, dropped ones
+ * too; where the edge there is dropped already, these are the job's present figures.
+ * The answer, refusals too, is that of a copy of the job with m[place] = +0.0: a bad magnitude there, a second edge between the same
+ * vertices, a window that this edge alone makes too wide, or a fifth short edge back from a vertex are no refusal then; its ends are checked
+ * still. Nothing lent is written. The betas are checked and not used else; any number of free edges is answered. Of the options only
+ * COPPERHOOK_LESS_ROOM is read.
+ * Refusals: 1, 2, 24, 3, 4, 21, 5, 6, 7, 8 in this order (4 and 21 of the betas too), and *window, *free_edges and *room stay as they were.
+ */
+size_t copperhook_preview(size_t n, size_t floor, const size_t *a, size_t a_len, const size_t *b, size_t b_len, const double *m,
+                          size_t m_len, const size_t *us, size_t us_len, const size_t *vs, size_t vs_len, const double *betas,
+                          size_t betas_len, size_t place, size_t options, size_t *window, size_t *free_edges, size_t *room);
 
 /*
  * The pair correlations <s_u s_v>, one for each pair, in `results`.

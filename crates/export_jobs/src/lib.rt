@@ -3,4 +3,5 @@
 mod accuracies;
 mod correlations;
 mod pair_records;
+mod previews;
 mod room;

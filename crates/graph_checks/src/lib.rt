@@ -7,5 +7,6 @@ pub use lists::bad_lists;
 pub use lists::bad_sizes;
 pub use lists::bad_vertices;
 pub use lists::is_outside;
+pub use lists::magnitude_dropping;
 pub use lists::unordered_betas;
 pub use parallel::joined_twice;

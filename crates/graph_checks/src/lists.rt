@@ -2,10 +2,12 @@
 ghost use mathlib.Core.Path.{_≡_};
 ghost use mathlib.Core.Bool.{not, _||_};
 ghost use lib.Dec.{eqb, ltb};
-ghost use lib.Ieee.{lt};
-ghost use lib.ListN.{length};
+ghost use Prim.Native.Nat.{_<_};
+ghost use lib.Ieee.{lt, nan};
+ghost use lib.ListN.{length, getD};
 ghost use Rattle.list_laws.specs.Search.{some};
 ghost use Rattle.limits.specs.Limits.{mostVertices, mostEdges, mostPairs, mostBetas};
+ghost use Rattle.refusals.specs.Edges.{dropping};
 ghost use Rattle.refusals.specs.Request.{outside, badEnds, oversized, someOversized, unordered};
 use limits::BETAS;
 use limits::EDGES;
@@ -89,13 +91,21 @@ fn is_oversized(x: f64) -> bool
     true
 }
 
-// Returns whether a number isn't finite, or its size is above 1,024.
-fn some_oversized(m: &[f64]) -> bool
-    ensures { λ r. ⌜ r ≡ someOversized (now (m .entry)) ⌝ }
+// The magnitude at place i where the one at `dropped` counts as zero.
+pub fn magnitude_dropping(m: &[f64], dropped: usize, i: usize) -> f64
+    requires { ⌜ i < length (now m) ⌝ }
+    ensures { λ r. ⌜ r ≡ getD (dropping dropped (now (m .entry))) i nan ⌝ }
+{
+    if i == dropped { 0.0 } else { m[i] }
+}
+
+// Returns whether a number isn't finite, or its size is above 1,024; the one at `dropped` counts as zero.
+fn some_oversized(m: &[f64], dropped: usize) -> bool
+    ensures { λ r. ⌜ r ≡ someOversized (dropping dropped (now (m .entry))) ⌝ }
 {
     let mut i: usize = 0;
     while i < m.len() {
-        if is_oversized(m[i]) {
+        if is_oversized(magnitude_dropping(m, dropped, i)) {
             return true;
         }
         i += 1;
@@ -103,14 +113,14 @@ fn some_oversized(m: &[f64]) -> bool
     false
 }
 
-// 4. A magnitude or beta isn't finite, or its size is above 1,024.
-pub fn bad_sizes(m: &[f64], betas: &[f64]) -> bool
-    ensures { λ r. ⌜ r ≡ (someOversized (now (m .entry)) || someOversized (now (betas .entry))) ⌝ }
+// 4. A magnitude or beta isn't finite, or its size is above 1,024. The magnitude at `dropped` counts as zero.
+pub fn bad_sizes(m: &[f64], dropped: usize, betas: &[f64]) -> bool
+    ensures { λ r. ⌜ r ≡ (someOversized (dropping dropped (now (m .entry))) || someOversized (now (betas .entry))) ⌝ }
 {
-    if some_oversized(m) {
+    if some_oversized(m, dropped) {
         return true;
     }
-    some_oversized(betas)
+    some_oversized(betas, betas.len())
 }
 
 fn is_not_less(x: f64, y: f64) -> bool

@@ -3,10 +3,11 @@ ghost use mathlib.Core.Path.{_≡_};
 ghost use mathlib.Core.List.{[]};
 ghost use lib.ListN.{length};
 ghost use Rattle.limits.specs.Limits.{mostEdges};
+ghost use Rattle.refusals.specs.Edges.{dropping};
 ghost use Rattle.kept_edges.specs.Keep.{Holds, KeptEdges};
 ghost use Rattle.job_checks.specs.Checked.{CheckedKept, CheckedJob};
 use graph_checks::bad_edges;
-use kept_edges::build::check_graph;
+use kept_edges::build::check_graph_dropping;
 use kept_edges::window_of;
 use limits::Caller;
 use limits::TESTER_WINDOW;
@@ -66,6 +67,37 @@ fn check_kept(
 }
 
 // Checks 1 to 8 of a caller's job with betas, and 22 of its window. Where none fits, the kept edges stand at the fronts of the three lists.
+// The magnitude at `dropped` counts as zero.
+pub fn check_dropping(
+    caller: Caller,
+    n: usize,
+    floor: usize,
+    a: &[usize],
+    b: &[usize],
+    m: &[f64],
+    dropped: usize,
+    us: &[usize],
+    vs: &[usize],
+    betas: &[f64],
+    early: &mut [usize],
+    late: &mut [usize],
+    mag: &mut [f64],
+) -> Job
+    requires { ⌜ Holds mostEdges (now early) (now late) (now mag) ⌝ }
+    ensures { λ r. ⌜ CheckedJob caller n floor (now (a .entry)) (now (b .entry)) (dropping dropped (now (m .entry))) (now (us .entry)) (now (vs .entry))
+        (now (betas .entry)) (r .refusal) (r .edges) (r .window)
+        (now (early .entry)) (now (early .exit)) (now (late .entry)) (now (late .exit)) (now (mag .entry)) (now (mag .exit)) ⌝ }
+{
+    let graph = check_graph_dropping(n, a, b, m, dropped, us, vs, betas, early, late, mag);
+    let refusal = graph.refusal;
+    if refusal != 0 {
+        return refused(refusal);
+    }
+    let edges = graph.edges;
+    check_kept(caller, n, floor, &early[..edges], &late[..edges], us, vs)
+}
+
+// The same where no magnitude counts as another.
 pub fn check_with_betas(
     caller: Caller,
     n: usize,
@@ -85,13 +117,21 @@ pub fn check_with_betas(
         (now (betas .entry)) (r .refusal) (r .edges) (r .window)
         (now (early .entry)) (now (early .exit)) (now (late .entry)) (now (late .exit)) (now (mag .entry)) (now (mag .exit)) ⌝ }
 {
-    let graph = check_graph(n, a, b, m, us, vs, betas, early, late, mag);
-    let refusal = graph.refusal;
-    if refusal != 0 {
-        return refused(refusal);
-    }
-    let edges = graph.edges;
-    check_kept(caller, n, floor, &early[..edges], &late[..edges], us, vs)
+    check_dropping(
+        caller,
+        n,
+        floor,
+        a,
+        b,
+        m,
+        m.len(),
+        us,
+        vs,
+        betas,
+        early,
+        late,
+        mag,
+    )
 }
 
 // The same of a job that has no betas.

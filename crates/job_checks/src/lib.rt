@@ -3,6 +3,7 @@ mod job;
 mod work;
 
 pub use job::Job;
+pub use job::check_dropping;
 pub use job::check_job;
 pub use job::check_with_betas;
 pub use work::room;

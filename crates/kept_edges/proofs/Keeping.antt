@@ -73,6 +73,10 @@ keep-none a b m early late mag h =
       mags = refl;
     }
 
+-- what was read is the magnitude at its place
+pub zero-at : {x y : Float} {t : Bool} → x ≡ y → isZero x ≡ t → isZero y ≡ t
+zero-at e h = ap isZero (sym e) ∙ h
+
 pub ne-eq : (x y : Float) (t : Bool) → ne x y ≡ not t → eq x y ≡ t
 unfolding ne
 ne-eq x y t h = go (eq x y) t h
@@ -108,9 +112,9 @@ module _ {a b : List ℕ} {m : List Float} {i k : ℕ} {early₀ early late₀ l
       let f = K .fits in
       (omega (arith, f .earlies, K .earlies), omega (arith, f .lates, K .lates), omega (arith, f .mags, K .mags))
 
-  pub keep-it : isZero (getD m i nan) ≡ false → (x y : ℕ) → x ≡ min (getD a i 0) (getD b i 0) → y ≡ max (getD a i 0) (getD b i 0)
-      → Keeping a b m (i + 1) (k + 1) early₀ (set early k x) late₀ (set late k y) mag₀ (set mag k (getD m i nan))
-  keep-it z x y p q =
+  pub keep-it : isZero (getD m i nan) ≡ false → (x y : ℕ) (s : Float) → x ≡ min (getD a i 0) (getD b i 0) → y ≡ max (getD a i 0) (getD b i 0) → s ≡ getD m i nan
+      → Keeping a b m (i + 1) (k + 1) early₀ (set early k x) late₀ (set late k y) mag₀ (set mag k s)
+  keep-it z x y s p q o =
       let e = kept-more a b m i z in
       let w = K .written in
       let es = keptOf a b m i in
@@ -126,13 +130,13 @@ module _ {a b : List ℕ} {m : List Float} {i k : ℕ} {early₀ early late₀ l
           edges = rw e (omega (arith, length-append es (n ∷ [])));
           earlies = rw e (column-more (λ u. u .early) es n early early₀ x k (w .earlies) c re p);
           lates = rw e (column-more (λ u. u .late) es n late late₀ y k (w .lates) c rl q);
-          mags = rw e (column-more (λ u. u .magnitude) es n mag mag₀ (getD m i nan) k (w .mags) c rm refl);
+          mags = rw e (column-more (λ u. u .magnitude) es n mag mag₀ s k (w .mags) c rm o);
         };
         fits = f;
         within = omega arith;
         earlies = length-set early k x ∙ K .earlies;
         lates = length-set late k y ∙ K .lates;
-        mags = length-set mag k (getD m i nan) ∙ K .mags;
+        mags = length-set mag k s ∙ K .mags;
       }
 
 pub keep-all : {a b : List ℕ} {m : List Float} {i k : ℕ} {early₀ early late₀ late : List ℕ} {mag₀ mag : List Float}

@@ -3,12 +3,16 @@ use mathlib.Core.Bool.{Bool, cond}
 use mathlib.Core.List.{List, [], _∷_, _++_, map}
 use Prim.Native.Nat.{ℕ, zero, suc, min, max}
 use lib.Ieee.{Float, nan, binary64, eq, ofBits}
-use lib.ListN.{length, getD}
+use lib.ListN.{length, getD, set}
 use Rattle.transfer_matrix.specs.Job.{windowOf}
 
 -- +0.0 and -0.0 equal 0.0
 abbrev pub isZero : Float → Bool
 isZero m = eq m (ofBits binary64 0)
+
+-- The magnitudes with the one at a place set to zero; all of them where the list has no such place.
+abbrev pub dropping : ℕ → List Float → List Float
+dropping place m = set m place (ofBits binary64 0)
 
 -- A kept edge: its smaller end first, its magnitude, and its place in the raw list.
 pub record Kept : Type 0 where

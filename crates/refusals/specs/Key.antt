@@ -4,10 +4,13 @@ use mathlib.Core.List.{List, [], _∷_}
 use Prim.Native.Nat.{ℕ}
 use lib.Dec.{eqb}
 
--- The checks of a job, in checking order, then those of a strip.
+-- The checks of a sheet and of a job, in checking order, then those of a strip.
 pub data Key : Type 0 where
+  sheetRecords : Key
+  sheetTail : Key
   vertexCount : Key
   listLengths : Key
+  edgePlace : Key
   edgeEnds : Key
   sizes : Key
   betaOrder : Key
@@ -53,6 +56,9 @@ rank betaOrder = 18
 rank testerWindow = 19
 rank testerFree = 20
 rank couplings = 21
+rank sheetRecords = 22
+rank sheetTail = 23
+rank edgePlace = 24
 
 -- Returns whether two keys are the same.
 abbrev pub same : Key → Key → Bool

@@ -13,3 +13,4 @@ pub mod AcceptedJob
 pub mod AcceptedTotals
 pub mod House
 pub mod Couplings
+pub mod Dropping

@@ -4,7 +4,7 @@ use mathlib.Core.List.{List, [], _∷_, _++_}
 use Prim.Native.Nat.{ℕ}
 use Rattle.limits.specs.Limits.{mostWindow, testerWindow, testerFree}
 use Rattle.refusals.specs.Key.{Key, same, among}
-use Rattle.refusals.specs.Request.{Request, Source, lent, house, badVertices, badLists, badEdges, badSizes, unorderedBetas, parallelEdges}
+use Rattle.refusals.specs.Request.{Request, Source, lent, house, badRecords, badTail, badVertices, badLists, noEdge, badEdges, badSizes, unorderedBetas, parallelEdges}
 use Rattle.refusals.specs.Request.{wideWindow, testersOnly, manyNear, badPairs, outsidePairs, manyFree, badFactors, badCouplings, manySamples, shortWork}
 
 -- A check of the requests of one kind: its name, the number that it answers, and its test.
@@ -18,8 +18,11 @@ check k n test = record { key = k; number = n; fits = test }
 
 abbrev pub checks : List (Check Request)
 checks =
-    check Key.vertexCount 1 badVertices
+    check Key.sheetRecords 19 badRecords
+    ∷ check Key.sheetTail 20 badTail
+    ∷ check Key.vertexCount 1 badVertices
     ∷ check Key.listLengths 2 badLists
+    ∷ check Key.edgePlace 24 noEdge
     ∷ check Key.edgeEnds 3 badEdges
     ∷ check Key.sizes 4 badSizes
     ∷ check Key.betaOrder 21 unorderedBetas
@@ -76,6 +79,14 @@ ofKept = Key.window ∷ Key.nearEdges ∷ Key.pairEnds ∷ []
 -- Those of `room`.
 abbrev pub ofRoom : List Key
 ofRoom = ofGraph ++ ofKept
+
+-- Those of `preview`, which is given betas too.
+abbrev pub ofPreview : List Key
+ofPreview = Key.edgePlace ∷ ofRoom
+
+-- Those of a job that is read from a sheet into lists.
+abbrev pub ofSheet : List Key
+ofSheet = Key.sheetRecords ∷ Key.sheetTail ∷ Key.buffers ∷ []
 
 -- The first of every call that sweeps, which may be the tester's.
 abbrev pub ofJob : List Key

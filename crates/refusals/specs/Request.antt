@@ -38,8 +38,17 @@ single = enumerated 0 0
 abbrev pub sampled : (free start end samples : ℕ) → Configurations
 sampled free start end samples = record { free = free; most = 0; start = start; end = end; samples = samples }
 
+-- What is wrong with a sheet that a job is read from: a record is missing, cut short, of unknown kind or out of order; bytes stand behind the end.
+pub record Sheet : Type 0 where
+  pub broken : Bool
+  pub tail : Bool
+
+abbrev pub noSheet : Sheet
+noSheet = record { broken = false; tail = false }
+
 -- A part that a call does not have is empty.
 pub record Request : Type 0 where
+  pub sheet : Sheet
   -- whose call it is; the desk's where no check asks
   pub caller : Caller
   pub vertices : ℕ
@@ -47,6 +56,8 @@ pub record Request : Type 0 where
   pub ones : List ℕ
   pub others : List ℕ
   pub magnitudes : List Float
+  -- the place in the raw list that a preview asks of
+  pub place : ℕ
   -- the caller's floor of the window
   pub floor : ℕ
   -- the pairs
@@ -65,16 +76,17 @@ pub record Request : Type 0 where
   -- whether some pair's Z is not finite and above zero
   pub unsound : Bool
 
--- The request of a call that sweeps: whose it is and, besides a job, which configurations it sweeps, so many factors, result buffers, and work memory.
--- Every other request is this one with parts that are empty.
-abbrev pub sweepRequest : Caller → Room.Arrangement → (n floor : ℕ) → (a b : List ℕ) → List Float → (us vs : List ℕ) → List Float → Configurations
-    → List Float → (count : ℕ) → (misfit : Bool) → (work : ℕ) → Bool → Request
-sweepRequest caller arrangement n floor a b m us vs betas configurations factors count misfit work unsound = record {
+-- Every request is this one with parts that are empty.
+abbrev pub wholeRequest : Sheet → (place : ℕ) → Caller → Room.Arrangement → (n floor : ℕ) → (a b : List ℕ) → List Float → (us vs : List ℕ) → List Float
+    → Configurations → List Float → (count : ℕ) → (misfit : Bool) → (work : ℕ) → Bool → Request
+wholeRequest sheet place caller arrangement n floor a b m us vs betas configurations factors count misfit work unsound = record {
+  sheet = sheet;
   caller = caller;
   vertices = n;
   ones = a;
   others = b;
   magnitudes = m;
+  place = place;
   floor = floor;
   firsts = us;
   seconds = vs;
@@ -87,6 +99,19 @@ sweepRequest caller arrangement n floor a b m us vs betas configurations factors
   work = work;
   unsound = unsound;
 }
+
+-- The request of a call that sweeps: whose it is and, besides a job, which configurations it sweeps, so many factors, result buffers, and work memory.
+abbrev pub sweepRequest : Caller → Room.Arrangement → (n floor : ℕ) → (a b : List ℕ) → List Float → (us vs : List ℕ) → List Float → Configurations
+    → List Float → (count : ℕ) → (misfit : Bool) → (work : ℕ) → Bool → Request
+sweepRequest = wholeRequest noSheet 0
+
+-- The request of a preview: a job, and a place in its raw list.
+abbrev pub previewRequest : (place n floor : ℕ) → (a b : List ℕ) → List Float → (us vs : List ℕ) → List Float → Request
+previewRequest place n floor a b m us vs betas = wholeRequest noSheet place Desk Room.keepAll n floor a b m us vs betas single [] 0 false 0 false
+
+-- The request of a call that reads a job from a sheet into lists.
+abbrev pub sheetRequest : Sheet → (misfit : Bool) → Request
+sheetRequest sheet misfit = wholeRequest sheet 0 Desk Room.keepAll 0 0 [] [] [] [] [] [] single [] 0 misfit 0 false
 
 -- The request of a call that sweeps nothing: a job, and result buffers.
 abbrev pub plainRequest : (n floor : ℕ) → (a b : List ℕ) → List Float → (us vs : List ℕ) → List Float → (misfit : Bool) → Request
@@ -151,6 +176,14 @@ houseSamplingRequest caller arrangement n floor a b m us vs betas free start end
     sweepRequest caller arrangement n floor a b m us vs betas (sampled free start end samples) (allCouplings betas (keptMagnitudes a b m))
     (length betas * length (keptMagnitudes a b m)) misfit work unsound
 
+-- 19. A record of the sheet is missing, cut short, of unknown kind or out of order.
+abbrev pub badRecords : Request → Bool
+badRecords r = r .sheet .broken
+
+-- 20. Bytes stand behind the sheet's end.
+abbrev pub badTail : Request → Bool
+badTail r = r .sheet .tail
+
 -- 1. The vertex count is 0 or above 1,024.
 abbrev pub badVertices : Request → Bool
 badVertices r = eqb (r .vertices) 0 || ltb mostVertices (r .vertices)
@@ -164,6 +197,10 @@ badLists r =
     || not (eqb (length (r .firsts)) (length (r .seconds)))
     || ltb mostPairs (length (r .firsts))
     || ltb mostBetas (length (r .betas))
+
+-- 24. No edge is at that place of the raw list.
+abbrev pub noEdge : Request → Bool
+noEdge r = leb (length (r .ones)) (r .place)
 
 -- An end is outside a graph of n vertices.
 abbrev pub outside : ℕ → ℕ → ℕ → Bool

@@ -14,7 +14,7 @@ use Rattle.limits.specs.Limits.{mostVertices, mostEdges, mostPairs, mostBetas, 
 use Rattle.list_laws.specs.Laws.Search.{start, none-of}
 use Rattle.transfer_matrix.specs.Job as Job
 use Rattle.refusals.specs.Edges.{Kept, keptAt, keptOf, isZero, keptEarly, keptLate}
-use Rattle.refusals.specs.Key.{Key}
+use Rattle.refusals.specs.Key.{Key, among}
 use Rattle.refusals.specs.Laws.First.{here, past}
 use Rattle.refusals.specs.Refusal.{refusal, ofGraph, ofRoom}
 use Rattle.refusals.specs.Request.{Request, oversized, someOversized, unordered, badVertices, badLists, badEdges, badEnds, badSizes, parallelEdges, windowIn, wideWindow, roomRequest}
@@ -53,6 +53,12 @@ one-kept = refl
 one-sized : oversized one ≡ false
 unfolding le neg ofBits
 one-sized = refl
+
+-- Keys of checks that a job meets: none of a sheet's, nor that of a previewed place.
+pub record OfJob (more : List Key) : Type 0 where
+  pub no-records : among more Key.sheetRecords ≡ false
+  pub no-tail : among more Key.sheetTail ≡ false
+  pub no-place : among more Key.edgePlace ≡ false
 
 -- What a call asks of a whole strip: its vertices and edges, pairs and betas that 2, 4 and 21 pass.
 pub record Whole (s : Strip) (r : Request) : Type 0 where
@@ -174,20 +180,21 @@ module _ {s : Strip} {r : Request} (S : Sides (s .w) (s .l)) (o : oddCylinder s 
       swapped : (x y z : ℕ) → max x (max y z) ≡ max y (max x z)
       swapped x y z = omega arith
 
-  -- A call that asks the checks 1 to 6 is refused by 6, where the strip is too wide.
-  pub too-wide : (more : List Key) → mostWindow < windowOf s → 6 ≡ refusal (ofRoom ++ more) r
-  too-wide more h =
+  -- A call that asks the checks 1 to 6, and neither of a sheet nor of a place, is refused by 6, where the strip is too wide.
+  pub too-wide : (more : List Key) → OfJob more → mostWindow < windowOf s → 6 ≡ refusal (ofRoom ++ more) r
+  too-wide more j h =
       let wide : wideWindow mostWindow r ≡ true = rw whole-window (lt-ltb mostWindow (max (r .floor) (windowOf s)) (le-trans h (le-max-right (r .floor) (windowOf s)))) in
-      past _ _ _ _ vertices-pass
-      (past _ _ _ _ lists-pass (past _ _ _ _ edges-pass (past _ _ _ _ sizes-pass (past _ _ _ _ (W .rising-betas) (past _ _ _ _ apart-pass (here _ _ _ wide))))))
+      rw (j .no-records, j .no-tail, j .no-place)
+      (past _ _ _ _ vertices-pass
+      (past _ _ _ _ lists-pass (past _ _ _ _ edges-pass (past _ _ _ _ sizes-pass (past _ _ _ _ (W .rising-betas) (past _ _ _ _ apart-pass (here _ _ _ wide)))))))
 
   -- Where it is not, nor the floor, 6 does not fit.
   pub wide-enough : windowOf s ≤ mostWindow → r .floor ≤ mostWindow → wideWindow mostWindow r ≡ false
   wide-enough h k = rw whole-window (le-ltb mostWindow (max (r .floor) (windowOf s)) (max-le k h))
 
   -- So are cylinders of eight neighbours, two columns or more, from width 13 on,
-  pub eight-too-wide : (more : List Key) → isEight (s .kind) ≡ true → s .periodic ≡ true → 1 < s .l → 12 < s .w → 6 ≡ refusal (ofRoom ++ more) r
-  eight-too-wide more k p l w = too-wide more (rw (window-is s S o) (omega (arith, reach-round s S (lt-ltb 1 (s .l) l) k p (omega arith))))
+  pub eight-too-wide : (more : List Key) → OfJob more → isEight (s .kind) ≡ true → s .periodic ≡ true → 1 < s .l → 12 < s .w → 6 ≡ refusal (ofRoom ++ more) r
+  eight-too-wide more j k p l w = too-wide more j (rw (window-is s S o) (omega (arith, reach-round s S (lt-ltb 1 (s .l) l) k p (omega arith))))
 
   -- and no strip up to width 12 is.
   pub twelve-enough : s .w ≤ 12 → r .floor ≤ mostWindow → wideWindow mostWindow r ≡ false

@@ -3,7 +3,7 @@ use crate::clock::{least_times, Rounds};
 use crate::correlations::Job;
 use crate::manner::BLOCK;
 use crate::strips::KINDS;
-use copperhook::Sampling;
+use copperhook::{Arrangement, Sampling};
 use oracle::glass::{correlations, Plan};
 use oracle::lattice::{Graph, Strip};
 use std::hint::black_box;
@@ -37,7 +37,36 @@ pub fn print_checks() {
             println!(" {:.1} | {:.1} | {:.2} |", 1e6 * all[0], 1e6 * all[1], all[1] / all[0]);
         }
     }
+    print_previews();
     print_components();
+}
+
+/// What the preview of a dropped edge takes beside the room of the job as it is.
+fn print_previews() {
+    println!();
+    println!("Previews of a dropped edge, in microseconds: our room; our preview of the edge in the middle of the list; previews of every");
+    println!("edge, one after another, in milliseconds.");
+    println!();
+    println!("| strip | edges | room | preview | ratio | every edge, ms |");
+    println!("|---|---|---|---|---|---|");
+    for (w, l) in [(4, 256), (8, 128), (16, 64)] {
+        for kind in KINDS {
+            let job = Job::new(Strip { kind, w, l, periodic: false });
+            let (ours, edges) = (job.lists.job(), job.raw.len());
+            let preview = |place: usize| {
+                let told = black_box(ours).preview(&[0.5], black_box(place), Arrangement::KeepAll);
+                black_box(told.expect("this strip is refused"));
+            };
+            let mut room = || {
+                black_box(job.room());
+            };
+            let rounds = Rounds { least: 20, round: 0.003, total: 0.5 };
+            let times = least_times(&rounds, &mut [&mut room, &mut || preview(edges / 2), &mut || (0..edges).for_each(preview)]);
+            let [room, one, every] = [times[0], times[1], times[2]];
+            let ratio = one / room;
+            println!("| {} {w} x {l} | {edges} | {:.1} | {:.1} | {ratio:.2} | {:.0} |", kind.name(), 1e6 * room, 1e6 * one, 1e3 * every);
+        }
+    }
 }
 
 /// Of whole strips, and with every third edge dropped, so that there are many components.

@@ -4,7 +4,7 @@
 //!
 //! proves what is needed, builds the archive and runs this. Without an option, widths 4 to 20, the checks and the totals are measured. `--quick`
 //! stops at width 10, and for the totals at 8; `--width N` measures one width alone, from 1 to 24, and prints how much memory a job's room is;
-//! `--checks` measures what a call costs before its sweeps, and the counting of components, `--totals` the totals alone, of one width from 4 to 20 where it is told;
+//! `--checks` measures what a call costs before its sweeps, previews of a dropped edge, and the counting of components, `--totals` the totals alone, of one width from 4 to 20 where it is told;
 //! `--arrangements` calls with less room beside those that keep all, `--house` calls by house factors beside those that are lent them, `--memory` how much of it the widest window with forty near pairs takes with less room (6 GB, a minute); `--growth`
 //! how the time grows with the window, the vertices, the pairs and the betas; `--limits` how far the sweeps are from a copy of as much memory,
 //! and the sums from the adder's latency; `--accuracy` how large errors are beside their proved bound.

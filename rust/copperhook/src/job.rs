@@ -26,6 +26,17 @@ pub struct Job<'a> {
     pub vs: &'a [usize],
 }
 
+/// What a job comes to.
+#[derive(Clone, Copy, Debug, PartialEq, Eq)]
+pub struct Figures {
+    /// The largest of 1, the floor and the longest kept edge.
+    pub window: usize,
+    /// How many edges are free.
+    pub free_edges: usize,
+    /// How many doubles of work memory the pairs need.
+    pub room: usize,
+}
+
 /// Which configurations are drawn: `samples` of each chunk from `from` up to, and without, `to`, chunk c by stream c of the seed. Each chunk
 /// is summed from zero and the chunks are added in order, so chunks that were asked for one by one and added in order have the same bits.
 #[derive(Clone, Copy, Debug, PartialEq, Eq)]
@@ -51,6 +62,30 @@ impl Job<'_> {
         let mut room = 0;
         let number = call_of_graph!(copperhook_room(&self.graph, floor; read self.us, self.vs; with arrangement as usize; tell room));
         Refusal::told(number).map(|()| room)
+    }
+
+    /// Returns what the job, with these betas, would come to if the edge at `place` were dropped. Places count all edges of the graph, from
+    /// 0, dropped ones too; of an edge that is dropped already it returns what the job comes to now.
+    ///
+    /// The answer, refusals too, is that of a copy of the job with that magnitude zero, but that nothing is copied: what is wrong with the
+    /// job by that edge alone is cured, except for its ends, which are checked still. Any number of free edges is told.
+    ///
+    /// ```
+    /// use copperhook::{Arrangement, Figures, Job, Kind, Refusal, Strip};
+    ///
+    /// let strip = Strip { kind: Kind::Square, width: 2, length: 2, periodic: false };
+    /// let edges = strip.edge_list()?;
+    /// let job = Job { graph: edges.graph(strip.n()?), us: &[0], vs: &[1] };
+    /// let dropped = job.preview(&[0.44], 3, Arrangement::KeepAll)?;
+    /// assert_eq!(dropped, Figures { window: 2, free_edges: 0, room: job.room()? - 1 });
+    /// assert_eq!(job.preview(&[0.44], 4, Arrangement::KeepAll), Err(Refusal::EdgePlace));
+    /// # Ok::<(), Refusal>(())
+    /// ```
+    pub fn preview(&self, betas: &[f64], place: usize, arrangement: Arrangement) -> Result<Figures, Refusal> {
+        let (mut window, mut free_edges, mut room) = (0, 0, 0);
+        let number = call_of_graph!(copperhook_preview(&self.graph, floor;
+            read self.us, self.vs, betas; with place, arrangement as usize; tell window, free_edges, room));
+        Refusal::told(number).map(|()| Figures { window, free_edges, room })
     }
 
     /// Writes the correlation of each pair to `results`, from one factor for each kept edge, the exponential of its signed coupling. `work`

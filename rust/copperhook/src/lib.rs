@@ -89,7 +89,7 @@ pub mod sys;
 pub use accuracy::mean_error_bound;
 pub use estimate::{estimate, estimates, sqrt, Estimate};
 pub use graph::{Components, ForestEdge, Graph, Kept};
-pub use job::{Job, Pair, Sampling};
+pub use job::{Figures, Job, Pair, Sampling};
 pub use kind::Kind;
 pub use lists::{EdgeList, Factors, KeptList, LabelledPair};
 pub use options::{Arrangement, Caller, Manner, Options};

@@ -4,9 +4,9 @@ use crate::numbered::numbered;
 use std::fmt;
 
 numbered! {
-    /// Why a call is refused. The numbers follow the order of the checks, but that strips check 15 to 17 before 12, 21 stands between 4
-    /// and 5, 22 right behind 6 for the window and right behind 9 for free edges, and 23 in the place of 10: of several reasons that fit,
-    /// the first is returned.
+    /// Why a call is refused. The numbers follow the order of the checks, but that strips check 15 to 17 before 12, 24 stands right
+    /// behind 2, 21 between 4 and 5, 22 right behind 6 for the window and right behind 9 for free edges, and 23 in the place of 10: of
+    /// several reasons that fit, the first is returned.
     pub enum Refusal;
 
     /// Returns what is wrong, as a sentence without its full stop.
@@ -35,6 +35,8 @@ numbered! {
     TesterLimit = 22, "the window is above 12, or free edges exceed 16, the limits of the tester's calls";
     /// [`house::nearest`](crate::house::nearest) tells what could stand there instead.
     Couplings = 23, "the couplings for house factors have another length, or one isn't a multiple of 1/128 from -4 to 4";
+    /// Places count from 0, dropped edges too: [`Job::preview`](crate::Job::preview).
+    EdgePlace = 24, "no edge is at that place";
 }
 
 impl Refusal {

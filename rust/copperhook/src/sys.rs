@@ -27,6 +27,29 @@ extern "C" {
         room: *mut usize,
     ) -> usize;
 
+    /// What a job would come to without one of its edges.
+    pub fn copperhook_preview(
+        n: usize,
+        floor: usize,
+        a: *const usize,
+        a_len: usize,
+        b: *const usize,
+        b_len: usize,
+        m: *const f64,
+        m_len: usize,
+        us: *const usize,
+        us_len: usize,
+        vs: *const usize,
+        vs_len: usize,
+        betas: *const f64,
+        betas_len: usize,
+        place: usize,
+        options: usize,
+        window: *mut usize,
+        free_edges: *mut usize,
+        room: *mut usize,
+    ) -> usize;
+
     /// The correlations of the pairs.
     pub fn copperhook_correlations(
         n: usize,

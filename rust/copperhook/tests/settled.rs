@@ -521,6 +521,7 @@ fn largest_calls() -> Result<(), Refusal> {
     let graph = edges.graph(strip.n()?);
     let job = Job { graph, us: &us, vs: &vs };
     let (mut results, mut work) = (vec![0.0; us.len()], vec![0.0; job.room()?]);
+    job.preview(&[0.5], 7, Arrangement::LessRoom)?;
     job.correlations(&vec![1.5; edges.m.len()], Manner::Block, &mut results, &mut work)?;
     let records: Vec<Pair> = pairs.iter().map(|p| Pair { u: p.u, v: p.v }).collect();
     graph.correlations_of(&records, &vec![1.5; edges.m.len()], Manner::Block, &mut results, &mut work)?;

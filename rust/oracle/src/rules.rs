@@ -1,5 +1,5 @@
 //! Documents 01 and 02, written down a second time and plainly: what a call is refused by, each kept edge's raw place, the room it needs,
-//! the configurations of a total, the sweeps, the strip of eight neighbours, and the table of house factors. Lists of answers and
+//! what it would come to without an edge, the configurations of a total, the sweeps, the strip of eight neighbours, and the table of house factors. Lists of answers and
 //! comparisons go by it where the original has no answer of its own, and hold it against the original elsewhere.
 
 pub mod configurations;
@@ -7,6 +7,7 @@ pub mod dilution;
 pub mod house;
 pub mod lists;
 pub mod natural;
+pub mod previews;
 pub mod refusals;
 pub mod strips;
 pub mod sweeps;

@@ -49,6 +49,14 @@ pub fn strip(options: &Options) -> Result<(Strip, EdgeList), Trouble> {
     Ok((strip, edges.map_err(named)?))
 }
 
+/// The pairs that are asked for: the standard ones where none are told.
+pub fn pairs(options: &Options, strip: &Strip) -> Result<Vec<LabelledPair>, Refusal> {
+    match &options.pairs {
+        None => strip.labelled_pairs(),
+        Some(pairs) => Ok(pairs.iter().map(|&(u, v)| LabelledPair { label: format!("{u}-{v}"), u, v }).collect()),
+    }
+}
+
 /// How it is diluted, where it is.
 pub fn diluted(options: &Options) -> Option<String> {
     options
@@ -76,10 +84,7 @@ impl Board {
         if options.tester && window > limits::TESTER_WINDOW {
             return Err(explained::refused(explained::tester_window(&strip, window), Refusal::TesterLimit));
         }
-        let pairs = match &options.pairs {
-            None => strip.labelled_pairs().map_err(named)?,
-            Some(pairs) => pairs.iter().map(|&(u, v)| LabelledPair { label: format!("{u}-{v}"), u, v }).collect(),
-        };
+        let pairs = pairs(options, &strip).map_err(named)?;
         let graph = edges.graph(n).with_floor(window);
         let (us, vs): (Vec<usize>, Vec<usize>) = pairs.iter().map(|p| (p.u, p.v)).unzip();
         let job = Job { graph, us: &us, vs: &vs };
@@ -180,16 +185,21 @@ impl Board {
         title(&self.strip, self.diluted.as_deref(), [self.n, self.kept, self.window])
     }
 
-    /// Entries that the sweeps of one call step over: forward, backward, and from the earlier vertex of each far pair to its last.
+    /// Entries that the sweeps of one call step over.
     pub fn entries(&self) -> f64 {
-        let mut last = vec![0; self.n];
-        for (&u, &v) in self.us.iter().zip(&self.vs) {
-            let (u, v) = (u.min(v), u.max(v));
-            if v - u >= self.window {
-                last[u] = last[u].max(v - u);
-            }
-        }
-        let steps = 2 * self.n + last.iter().sum::<usize>() + 2 * self.pairs.len();
-        steps as f64 * f64::powi(2.0, self.window as i32)
+        entries(&self.job(), self.window)
     }
+}
+
+/// Entries that the sweeps of a job in this window step over: forward, backward, and from the earlier vertex of each far pair to its last.
+pub fn entries(job: &Job, window: usize) -> f64 {
+    let mut last = vec![0; job.graph.n];
+    for (&u, &v) in job.us.iter().zip(job.vs) {
+        let (u, v) = (u.min(v), u.max(v));
+        if v - u >= window {
+            last[u] = last[u].max(v - u);
+        }
+    }
+    let steps = 2 * job.graph.n + last.iter().sum::<usize>() + 2 * job.us.len();
+    steps as f64 * f64::powi(2.0, window as i32)
 }

@@ -4,7 +4,7 @@ use crate::board::Board;
 use crate::progress::tell;
 use crate::source::Source;
 use crate::trouble::Trouble;
-use copperhook::{Job, Kind, Manner, Sampling, Strip};
+use copperhook::{Job, Kind, Manner, Options, Sampling, Strip};
 use std::time::Instant;
 
 /// A run is long from so many seconds on, and large from so many bytes on.
@@ -46,25 +46,30 @@ impl Cost {
 /// So many trials are taken.
 const TRIALS: usize = 4;
 
-/// The sweeps of one configuration at one beta, the least and the most that trials of some milliseconds took: of samples of the strip itself,
-/// or where one of them would take longer, by its entries.
+/// The sweeps of one configuration at one beta, the least and the most that trials of some milliseconds took.
 pub fn seconds_of_a_call(board: &Board) -> (f64, f64) {
+    seconds_of(&board.job(), board.kept, board.options, board.room(), board.entries())
+}
+
+/// The same of a job with so many kept edges and so much room, by samples of the job itself, or where one of them would take longer, or it is
+/// refused, by the entries of its sweeps.
+pub fn seconds_of(job: &Job, kept: usize, options: Options, room: usize, entries: f64) -> (f64, f64) {
     let trial = |samples: usize| -> Result<f64, copperhook::Refusal> {
-        let factors = [1.5, 0.75].repeat(board.kept);
-        let (mut squares, mut fourths) = (vec![0.0; board.pairs.len()], vec![0.0; board.pairs.len()]);
-        let (by, mut work) = (Sampling { seed: 1, from: 0, to: 1, samples }, vec![0.0; board.room()]);
+        let factors = [1.5, 0.75].repeat(kept);
+        let (mut squares, mut fourths) = (vec![0.0; job.us.len()], vec![0.0; job.us.len()]);
+        let (by, mut work) = (Sampling { seed: 1, from: 0, to: 1, samples }, vec![0.0; room]);
         let start = Instant::now();
-        board.job().sample(&[0.5], &factors, board.options, &by, &mut squares, &mut fourths, &mut work)?;
+        job.sample(&[0.5], &factors, options, &by, &mut squares, &mut fourths, &mut work)?;
         Ok(start.elapsed().as_secs_f64() / samples as f64)
     };
-    if board.entries() < 1e7 {
+    if entries < 1e7 {
         let enough = [1, 10, 100, 1000].into_iter().find(|&samples| trial(samples).is_ok_and(|s| s * samples as f64 > 0.005));
         let trials: Result<Vec<f64>, _> = (0..TRIALS).map(|_| trial(enough.unwrap_or(1000))).collect();
         if let Ok(trials) = trials {
             return extremes(&trials);
         }
     }
-    let rates: Vec<f64> = (0..TRIALS).map(|_| board.entries() / entries_in_a_second()).collect();
+    let rates: Vec<f64> = (0..TRIALS).map(|_| entries / entries_in_a_second()).collect();
     extremes(&rates)
 }
 
@@ -108,7 +113,7 @@ pub fn work_memory(board: &mut Board, threads: usize) -> Result<Vec<f64>, Troubl
     })
 }
 
-fn bytes(room: usize, threads: usize) -> f64 {
+pub fn bytes(room: usize, threads: usize) -> f64 {
     8.0 * room as f64 * threads as f64
 }
 
@@ -147,6 +152,17 @@ pub fn time(seconds: f64) -> String {
     }
 }
 
+/// A time of any size, in two digits.
+pub fn brief(seconds: f64) -> String {
+    let digits = |x: f64, unit: &str| if x < 9.95 { format!("{x:.1} {unit}") } else { format!("{x:.0} {unit}") };
+    match seconds {
+        s if s < 1e-3 => digits(1e6 * s, "us"),
+        s if s < 1.0 => digits(1e3 * s, "ms"),
+        s if s < 120.0 => digits(s, "s"),
+        s => time(s),
+    }
+}
+
 /// From the least to the most, in one unit where they share one.
 pub fn range((least, most): (f64, f64)) -> String {
     let (low, high) = (time(least), time(most));
@@ -159,7 +175,7 @@ pub fn range((least, most): (f64, f64)) -> String {
     }
 }
 
-fn size(bytes: f64) -> String {
+pub fn size(bytes: f64) -> String {
     match bytes {
         b if b < 1e6 => format!("{:.1} kB", b / 1e3),
         b if b < 1e9 => format!("{:.1} MB", b / 1e6),
@@ -169,13 +185,14 @@ fn size(bytes: f64) -> String {
 
 #[cfg(test)]
 mod tests {
-    use super::{extremes, range, size, time};
+    use super::{brief, extremes, range, size, time};
 
     #[test]
     fn sizes_and_times_are_short() {
         assert_eq!([size(104.0), size(2.5e6), size(1.34e9)], ["0.1 kB", "2.5 MB", "1.3 GB"]);
         assert_eq!([0.2, 59.6, 600.0, 9000.0].map(time), ["a second", "60 seconds", "10 minutes", "2.5 hours"]);
         assert_eq!([2e5, 1e8].map(time), ["2 days", "3 years"]);
+        assert_eq!([3.14e-6, 0.0423, 9.96, 119.0, 600.0].map(brief), ["3.1 us", "42 ms", "10 s", "119 s", "10 minutes"]);
         assert_eq!(
             [(180.0, 300.0), (60.0, 60.2), (90.0, 121.0)].map(range),
             ["about 3 to 5 minutes", "about 60 seconds", "about 90 seconds to 2 minutes"]

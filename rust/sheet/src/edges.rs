@@ -7,7 +7,7 @@ use crate::record::{lines, Record};
 use crate::sheet::bits;
 use crate::text::aligned;
 use crate::trouble::Trouble;
-use copperhook::{EdgeList, ForestEdge, Refusal, Strip};
+use copperhook::{EdgeList, ForestEdge, Graph, Refusal, Strip};
 
 /// What becomes of an edge.
 #[derive(Clone, Copy, Debug, PartialEq)]
@@ -43,13 +43,18 @@ impl Fate {
     }
 }
 
-struct Listing {
-    strip: Strip,
-    edges: EdgeList,
+/// The edges of a strip, with what becomes of each.
+pub struct Listing {
+    pub strip: Strip,
+    pub edges: EdgeList,
     /// One for each edge.
     fates: Vec<Fate>,
-    title: String,
-    record: Record,
+    /// The number of vertices, of kept and of free edges, and the window.
+    pub figures: [usize; 4],
+    /// The least window, that of the whole strip where none is told.
+    floor: usize,
+    pub title: String,
+    pub record: Record,
     bits: bool,
 }
 
@@ -67,57 +72,78 @@ fn fates(edges: &EdgeList, n: usize) -> Result<Vec<Fate>, Refusal> {
 }
 
 impl Listing {
-    fn new(options: &Options) -> Result<Listing, Trouble> {
+    pub fn new(options: &Options) -> Result<Listing, Trouble> {
         let named = |refusal| explained::of_strip(options, refusal);
         let (strip, edges) = strip(options)?;
-        let (n, window) = (strip.n().map_err(named)?, strip.window().map_err(named)?);
+        let (n, whole) = (strip.n().map_err(named)?, strip.window().map_err(named)?);
+        let floor = options.floor.unwrap_or(whole);
+        let window = edges.graph(n).with_floor(floor).window().map_err(named)?;
         let fates = fates(&edges, n).map_err(named)?;
         let many = |wanted: fn(&Fate) -> bool| fates.iter().filter(|&fate| wanted(fate)).count();
         let (kept, free) = (many(|&fate| fate != Fate::Dropped), many(|&fate| fate.bit().is_some()));
         let title = title(&strip, diluted(options).as_deref(), [n, kept, window]);
-        let record = Record::of_edges(options, &strip, [n, kept, free, window]);
-        Ok(Listing { strip, edges, fates, title, record, bits: options.bits })
+        let figures = [n, kept, free, window];
+        let record = Record::of_edges(options, &strip, figures);
+        Ok(Listing { strip, edges, fates, figures, floor, title, record, bits: options.bits })
     }
 
-    /// Place, ends, magnitude, whether it is kept, whether it is free, and its bit, cell by cell; `nothing` stands for what an edge has not.
-    fn row(&self, place: usize, nothing: &str) -> Vec<String> {
+    pub fn graph(&self) -> Graph<'_> {
+        self.edges.graph(self.figures[0]).with_floor(self.floor)
+    }
+
+    /// Place, ends, magnitude, whether it is kept and whether it is free, cell by cell; `nothing` stands for what an edge has not.
+    pub fn cells(&self, place: usize, nothing: &str) -> Vec<String> {
         let (magnitude, fate) = (self.edges.m[place], self.fates[place]);
         let mut cells = vec![place.to_string(), self.edges.a[place].to_string(), self.edges.b[place].to_string(), format!("{magnitude:?}")];
         cells.extend(self.bits.then(|| bits(magnitude)));
-        let bit = fate.bit().map_or(nothing.to_string(), |bit| bit.to_string());
-        cells.extend([fate.kept().to_string(), fate.forest().unwrap_or(nothing).to_string(), bit]);
+        cells.extend([fate.kept().to_string(), fate.forest().unwrap_or(nothing).to_string()]);
         cells
     }
 
-    fn head(&self) -> Vec<String> {
+    /// The names of these.
+    pub fn names(&self) -> Vec<String> {
         let bits = self.bits.then_some("magnitude_bits");
-        ["place", "u", "v", "magnitude"].into_iter().chain(bits).chain(["kept", "forest", "bit"]).map(String::from).collect()
+        ["place", "u", "v", "magnitude"].into_iter().chain(bits).chain(["kept", "forest"]).map(String::from).collect()
+    }
+
+    /// A table under its head as comma-separated values, behind the record; the strip stands in every row.
+    pub fn csv_of(&self, table: &[Vec<String>]) -> String {
+        let (s, boundary) = (&self.strip, self.strip.boundary());
+        let strip = format!("{},{boundary},{},{}", s.kind.name(), s.width, s.length);
+        let mut text: String = self.record.0.iter().map(|(key, field)| format!("# {key}: {}\n", field.shown())).collect();
+        for (i, row) in table.iter().enumerate() {
+            let front = if i == 0 { "kind,boundary,width,length" } else { &strip };
+            text += &format!("{front},{}\n", row.join(","));
+        }
+        text
+    }
+
+    /// The record as a text ends with it.
+    pub fn recorded(&self) -> String {
+        lines(&self.record, 120).into_iter().map(|line| line + "\n").collect()
+    }
+
+    /// A line for each edge under their head: its cells, and its bit.
+    fn table(&self, nothing: &str) -> Vec<Vec<String>> {
+        let bit = |fate: &Fate| fate.bit().map_or(nothing.to_string(), |bit| bit.to_string());
+        let row = |(place, fate): (usize, &Fate)| [self.cells(place, nothing), vec![bit(fate)]].concat();
+        let head = [self.names(), vec!["bit".to_string()]].concat();
+        [head].into_iter().chain(self.fates.iter().enumerate().map(row)).collect()
     }
 
     fn text(&self) -> String {
         let count = counted(self.fates.len(), "edge", "edges");
-        let mut table = vec![self.head()];
-        table.extend((0..self.fates.len()).map(|place| self.row(place, "-")));
-        let record: String = lines(&self.record, 120).into_iter().map(|line| line + "\n").collect();
         format!(
-            "{}\n{count}, by place in the strip's edge list\n\n{}\na kept edge is in the spanning forest, or free: it is minus in configurations whose number has its bit set\n\n{record}",
+            "{}\n{count}, by place in the strip's edge list\n\n{}\na kept edge is in the spanning forest, or free: it is minus in configurations whose number has its bit set\n\n{}",
             self.title,
-            aligned(&table)
+            aligned(&self.table("-")),
+            self.recorded()
         )
-    }
-
-    fn csv(&self) -> String {
-        let (s, boundary) = (&self.strip, self.strip.boundary());
-        let strip = format!("{},{boundary},{},{}", s.kind.name(), s.width, s.length);
-        let mut text: String = self.record.0.iter().map(|(key, field)| format!("# {key}: {}\n", field.shown())).collect();
-        text += &format!("kind,boundary,width,length,{}\n", self.head().join(","));
-        text += &(0..self.fates.len()).map(|place| format!("{strip},{}\n", self.row(place, "").join(","))).collect::<String>();
-        text
     }
 }
 
 /// The edges as the options ask for them.
 pub fn listed(options: &Options) -> Result<String, Trouble> {
     let listing = Listing::new(options)?;
-    Ok(if options.format == Format::Csv { listing.csv() } else { listing.text() })
+    Ok(if options.format == Format::Csv { listing.csv_of(&listing.table("")) } else { listing.text() })
 }

@@ -66,6 +66,15 @@ fn pair_ends(options: &Options) -> String {
     }
 }
 
+/// Of a place to drop an edge at, in a list of so many.
+pub fn of_place(place: usize, edges: usize) -> Trouble {
+    let there = match edges {
+        0 => "this strip has no edge".to_string(),
+        _ => format!("this strip has edges at places 0 to {}, --edges lists them", edges - 1),
+    };
+    refused(format!("--drop {place}: {there}"), Refusal::EdgePlace)
+}
+
 /// Of the list of betas.
 pub fn of_betas(betas: &[f64], refusal: Refusal) -> Trouble {
     let strong = betas.iter().find(|b| !b.is_finite() || b.abs() > 1024.0);

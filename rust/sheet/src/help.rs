@@ -5,11 +5,13 @@ The sheet of a strip: how strongly pairs of its spins hold together, as exact pa
 
 usage: sheet [make] --kind K --width N --length N --beta B,.. [options]
        sheet [make] --kind K --width N --length N --edges [options]
+       sheet preview --kind K --width N --length N --beta B,.. --drop PLACE,..|all [options]
        sheet verify FILE [--threads N]
        sheet --help | --version
 
 make, which an option as the first word means, works a sheet out. verify works one in csv or json out again, from the
 record that it carries, compares it cell by cell (with --bits bit for bit, else digit by digit) and tells what differs.
+preview tells what dropping edges would do, each alone, before one is dropped; see below.
 
 the strip
     --kind K                 square, tri (with a diagonal), honey, or eight (with both diagonals)
@@ -35,6 +37,15 @@ what is asked of it
     --house                  with factors from the library's own table instead of the host's exp, so that all machines
                              print the same digits: for couplings, beta times magnitude, that are multiples of 1/128
                              from -4 to 4; any other is refused. The record says that it was used
+a preview: what its figures depend on of the above (the strip, --beta, --pairs, --less-room), and
+    --drop PLACE,..          the edges at these places of the strip's edge list, as --edges tells them, or all: for each
+                             its ends and magnitude, whether it is kept, and tree or free; then the window, the free
+                             edges, the room in doubles and bytes, and how long one configuration and all of them may
+                             take, if it were dropped; or the refusal that the job would then meet. What the job comes
+                             to now is the first line, and what saves most comes next. As text or csv, which has
+                             instead of times their share of what all configurations take now
+    --floor N                the least window; without it the whole strip's, as a sheet has it, so that it stays. With 0
+                             it is that of the edges that are left
 of which configurations: one of these; without any, all, where at most 20 edges are free
     --signs S                one: the sign of each kept edge in order, as +-++, or plus for all
     --seed N                 one: the signs drawn with this seed
@@ -66,8 +77,8 @@ proved, none below 1e-15. csv and json carry the bound, and every digit.
 Every sheet ends, or as csv and json begins, with its record: Copperhook's version and commit, the SHA-256 of the
 library's archive and of the factors (both signs at each beta and kept edge, as the library takes them, eight bytes
 each, lowest first), with --house that they are the table's, the command that asks for the same numbers, the strip,
-its dilution, all signs, seed, chunks, samples, count and manner. That of --edges ends with the dilution, and has no
-factors.
+its dilution, all signs, seed, chunks, samples, count and manner. That of --edges and of a preview ends with the
+dilution, and has no factors.
 
 examples
     sheet --kind square --width 4 --length 6 --beta 0.44,0.6
@@ -76,6 +87,7 @@ examples
     sheet --kind honey --width 4 --length 5 --beta 1 --dilute 0.9,0.5,1.5,11 --pairs 0-19,0-1 --bits
     sheet --kind eight --width 5 --length 9 --cylinder --beta 0.2,0.3 --seed 4
     sheet --kind honey --width 4 --length 5 --dilute 0.9,0.5,1.5,11 --edges
+    sheet preview --kind honey --width 4 --length 5 --dilute 0.9,0.5,1.5,11 --beta 0.44,0.6 --drop all
     sheet --kind square --width 4 --length 6 --beta 0.4375,0.6015625 --house
     sheet verify board.csv
     sheet --kind square --width 8 --length 12 --beta 0.2,0.44,0.8 --signs plus --format svg --output plot.svg

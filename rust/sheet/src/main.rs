@@ -15,6 +15,7 @@ mod marks;
 mod options;
 mod output;
 mod plot;
+mod preview;
 mod progress;
 mod record;
 mod sha256;
@@ -39,6 +40,9 @@ use trouble::Trouble;
 fn make(options: &Options) -> Result<String, Trouble> {
     if options.edges {
         return edges::listed(options);
+    }
+    if let Some(dropped) = &options.dropped {
+        return preview::told(options, dropped);
     }
     let mut board = Board::new(options)?;
     for warning in explained::warnings(options) {

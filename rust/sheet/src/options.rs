@@ -44,6 +44,14 @@ pub enum Wanted {
     Sampled(Drawing),
 }
 
+/// Which edges a preview drops, each alone.
+#[derive(Clone, Debug, PartialEq)]
+pub enum Dropped {
+    All,
+    /// By their places in the strip's edge list.
+    Places(Vec<usize>),
+}
+
 #[derive(Clone, Debug, PartialEq)]
 pub struct Options {
     pub kind: String,
@@ -56,6 +64,10 @@ pub struct Options {
     pub wanted: Wanted,
     /// The strip's edges are asked for, and no pairs.
     pub edges: bool,
+    /// What dropping these edges would do is asked for.
+    pub dropped: Option<Dropped>,
+    /// The least window of a preview; the whole strip's where it is not told.
+    pub floor: Option<usize>,
     pub per_element: bool,
     /// No backward vector is kept for pairs nearer than the window.
     pub less_room: bool,
@@ -75,7 +87,7 @@ pub enum Asked {
     Help,
     Version,
     Verify { file: PathBuf, threads: usize },
-    Sheet(Options),
+    Sheet(Box<Options>),
 }
 
 /// The options as they are written, before they are put together.
@@ -92,6 +104,9 @@ struct Written {
     seed: Option<u64>,
     enumerate: bool,
     edges: bool,
+    preview: bool,
+    dropped: Option<Dropped>,
+    floor: Option<usize>,
     sample: Option<usize>,
     chunks: Option<(u64, u64)>,
     threads: Option<usize>,
@@ -109,9 +124,10 @@ struct Written {
 pub fn parse(words: &[String]) -> Result<Asked, Trouble> {
     match words.split_first() {
         None => Err(Trouble::asked("nothing is asked for; sheet --help tells how to ask")),
-        Some((first, rest)) if first == "make" => made(rest),
+        Some((first, rest)) if first == "make" => made(rest, Written::default()),
+        Some((first, rest)) if first == "preview" => made(rest, Written { preview: true, ..Written::default() }),
         Some((first, rest)) if first == "verify" => verified(rest),
-        Some((first, _)) if first.starts_with('-') => made(words),
+        Some((first, _)) if first.starts_with('-') => made(words, Written::default()),
         Some((first, _)) => Err(Trouble::asked(format!("'{first}' is no subcommand and no option; sheet --help tells them"))),
     }
 }
@@ -142,8 +158,7 @@ fn verified(words: &[String]) -> Result<Asked, Trouble> {
     Ok(Asked::Verify { file, threads: threads.unwrap_or(1) })
 }
 
-fn made(words: &[String]) -> Result<Asked, Trouble> {
-    let mut written = Written::default();
+fn made(words: &[String], mut written: Written) -> Result<Asked, Trouble> {
     let mut words = words.iter();
     while let Some(word) = words.next() {
         let (name, mut joined) = match word.split_once('=') {
@@ -160,7 +175,7 @@ fn made(words: &[String]) -> Result<Asked, Trouble> {
             written.value(name, value)?;
         }
     }
-    written.put_together().map(Asked::Sheet)
+    written.put_together().map(|options| Asked::Sheet(Box::new(options)))
 }
 
 /// The first option stays: a second one would say something else.
@@ -194,7 +209,7 @@ impl Written {
 
     fn value(&mut self, name: &str, value: Option<String>) -> Result<(), Trouble> {
         const NAMES: &str =
-            "--kind --width --length --dilute --beta --pairs --signs --seed --sample --chunks --threads --manner --format --output";
+            "--kind --width --length --dilute --beta --pairs --drop --floor --signs --seed --sample --chunks --threads --manner --format --output";
         if !NAMES.split(' ').any(|known| known == name) {
             return Err(Trouble::asked(format!("there is no option {name}; sheet --help tells them")));
         }
@@ -209,6 +224,8 @@ impl Written {
             "--dilute" => once(&mut self.dilution, name, values::dilution(&value).map_err(at)?),
             "--beta" => once(&mut self.betas, name, values::list(&value, values::number).map_err(at)?),
             "--pairs" => once(&mut self.pairs, name, values::list(&value, values::pair).map_err(at)?),
+            "--drop" => once(&mut self.dropped, name, values::dropped(&value).map_err(at)?),
+            "--floor" => once(&mut self.floor, name, values::number(&value).map_err(at)?),
             "--signs" => once(&mut self.signs, name, values::signs(&value).map_err(at)?),
             "--seed" => once(&mut self.seed, name, values::number(&value).map_err(at)?),
             "--sample" => once(&mut self.sample, name, values::count(&value).map_err(at)?),
@@ -270,12 +287,39 @@ impl Written {
         }
     }
 
+    /// What the figures of a job do not depend on is not asked with a preview, and what a preview alone takes only with one.
+    fn only_preview(&self) -> Result<(), Trouble> {
+        let given = [
+            ("--edges", self.edges),
+            ("--signs", self.signs.is_some()),
+            ("--sample", self.sample.is_some()),
+            ("--enumerate", self.enumerate),
+            ("--seed", self.seed.is_some()),
+            ("--manner", self.per_element.is_some()),
+            ("--tester", self.tester),
+            ("--house", self.house),
+        ];
+        if let Some((name, _)) = given.iter().find(|g| g.1) {
+            return Err(Trouble::asked(format!("preview and {name} cannot be combined: the figures do not depend on it")));
+        }
+        match self.format {
+            Some(Format::Json | Format::Svg) => Err(Trouble::asked("preview is told as text or csv")),
+            _ if self.dropped.is_none() => Err(Trouble::asked("--drop is required (places of edges, as 0,3, or all)")),
+            _ => Ok(()),
+        }
+    }
+
     fn put_together(mut self) -> Result<Options, Trouble> {
         fn needed<T>(slot: Option<T>, name: &str, what: &str) -> Result<T, Trouble> {
             slot.ok_or_else(|| Trouble::asked(format!("{name} is required ({what})")))
         }
         if self.linear && self.format != Some(Format::Svg) {
             return Err(Trouble::asked("--linear is for a plot; give --format svg too"));
+        }
+        if self.preview {
+            self.only_preview()?;
+        } else if let Some((name, _)) = [("--drop", self.dropped.is_some()), ("--floor", self.floor.is_some())].iter().find(|g| g.1) {
+            return Err(Trouble::asked(format!("{name} is for a preview; write sheet preview {name} ..")));
         }
         if self.edges {
             self.only_edges()?;
@@ -291,6 +335,8 @@ impl Written {
             betas: needed(self.betas, "--beta", "inverse temperatures, as 0.44,0.6")?,
             pairs: self.pairs,
             edges: self.edges,
+            dropped: self.dropped,
+            floor: self.floor,
             per_element: self.per_element.unwrap_or(false),
             less_room: self.less_room,
             tester: self.tester,
@@ -337,6 +383,16 @@ mod tests {
     }
 
     #[test]
+    fn edges_to_drop_are_read() {
+        let asked = |more: &str| match parsed(&format!("preview --kind sq --width 2 --length 3 --beta 1 {more}")) {
+            Ok(Asked::Sheet(options)) => (options.dropped, options.floor, options.less_room),
+            other => panic!("{other:?}"),
+        };
+        assert_eq!(asked("--drop all --less-room"), (Some(Dropped::All), None, true));
+        assert_eq!(asked("--drop 3,0,3 --floor 0"), (Some(Dropped::Places(vec![0, 3])), Some(0), false));
+    }
+
+    #[test]
     fn what_is_wrong_is_named() {
         let good = "--kind sq --width 2 --length 3 --beta 1";
         for (more, told) in [
@@ -379,6 +435,25 @@ mod tests {
         ] {
             assert_eq!(parsed(&format!("{edges} {more}")).unwrap_err().to_string(), told);
         }
+        let preview = "preview --kind sq --width 2 --length 3 --beta 1";
+        for (more, told) in [
+            ("", "--drop is required (places of edges, as 0,3, or all)"),
+            ("--drop 1,x", "--drop 1,x: 'x' is no place; write places of edges as 0,3, or all"),
+            ("--drop -1", "--drop -1: '-1' is no place; write places of edges as 0,3, or all"),
+            ("--drop 0 --drop 1", "--drop is given twice"),
+            ("--drop 0 --seed 3", "preview and --seed cannot be combined: the figures do not depend on it"),
+            ("--drop 0 --edges", "preview and --edges cannot be combined: the figures do not depend on it"),
+            ("--drop 0 --format json", "preview is told as text or csv"),
+            ("--drop 0 --threads 2", "--threads is for drawn configurations; give --sample too"),
+        ] {
+            assert_eq!(parsed(&format!("{preview} {more}")).unwrap_err().to_string(), told);
+        }
+        assert_eq!(parsed(&format!("{good} --drop 3")).unwrap_err().to_string(), "--drop is for a preview; write sheet preview --drop ..");
+        assert_eq!(
+            parsed(&format!("{good} --floor 3")).unwrap_err().to_string(),
+            "--floor is for a preview; write sheet preview --floor .."
+        );
+        assert_eq!(parsed("preview --help"), Ok(Asked::Help));
         assert_eq!(parsed("--width 0").unwrap_err().to_string(), "--width must be at least 1");
         assert_eq!(parsed("").unwrap_err().to_string(), "nothing is asked for; sheet --help tells how to ask");
         assert_eq!(parsed("cook").unwrap_err().to_string(), "'cook' is no subcommand and no option; sheet --help tells them");

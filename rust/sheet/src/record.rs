@@ -4,7 +4,7 @@ use crate::board::Board;
 use crate::options::{Options, Wanted};
 use crate::sha256::sha256;
 use crate::source::Source;
-use crate::values::{spelled, spelled_signs};
+use crate::values::{spelled, spelled_dropped, spelled_signs};
 use copperhook::Strip;
 
 pub const VERSION: &str = env!("CARGO_PKG_VERSION");
@@ -56,7 +56,7 @@ impl Record {
         Record(entries)
     }
 
-    /// Of a list of edges, which no beta and no configuration enters: the strip, with its vertices, kept and free edges and window.
+    /// Of a list of edges, or of a preview, which no configuration enters: the strip, with its vertices, kept and free edges and window.
     pub fn of_edges(options: &Options, of: &Strip, figures: [usize; 4]) -> Record {
         let mut entries = build().to_vec();
         entries.push(("command", Field::text(command(options, of))));
@@ -112,7 +112,8 @@ fn factors_sha256(board: &Board) -> String {
 /// The line that asks for the same numbers, however it was asked: nothing unsaid, in one order, and nothing that no number depends on.
 fn command(options: &Options, strip: &Strip) -> String {
     let list = |items: Vec<String>| items.join(",");
-    let mut words = vec!["sheet make --kind".to_string(), strip.kind.name()];
+    let subcommand = if options.dropped.is_some() { "preview" } else { "make" };
+    let mut words = vec![format!("sheet {subcommand} --kind"), strip.kind.name()];
     words.push(format!("--width {} --length {}", options.width, options.length));
     words.extend(options.cylinder.then(|| "--cylinder".to_string()));
     words.extend(options.dilution.map(|by| {
@@ -125,6 +126,12 @@ fn command(options: &Options, strip: &Strip) -> String {
     }
     words.push(format!("--beta {}", list(options.betas.iter().map(|&b| spelled(b)).collect())));
     words.extend(options.pairs.as_ref().map(|pairs| format!("--pairs {}", list(pairs.iter().map(|(u, v)| format!("{u}-{v}")).collect()))));
+    if let Some(dropped) = &options.dropped {
+        words.extend(options.floor.map(|floor| format!("--floor {floor}")));
+        words.extend(options.less_room.then(|| "--less-room".to_string()));
+        words.push(format!("--drop {}", spelled_dropped(dropped)));
+        return words.join(" ");
+    }
     words.push(match &options.wanted {
         Wanted::Unsaid | Wanted::Enumerated => "--enumerate".to_string(),
         Wanted::Plus => "--signs plus".to_string(),

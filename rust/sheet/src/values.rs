@@ -1,6 +1,6 @@
 //! How the value of an option is read, and how it is spelled again.
 
-use crate::options::{Dilution, Format, Wanted};
+use crate::options::{Dilution, Dropped, Format, Wanted};
 
 /// The names that the library takes for a kind.
 const KINDS: [&str; 8] = ["square", "sq", "tri", "triangular", "honey", "honeycomb", "hex", "eight"];
@@ -65,6 +65,26 @@ pub fn signs(text: &str) -> Result<Wanted, String> {
         _ => Err(format!("'{c}' is no sign; write + or -")),
     };
     Ok(Wanted::Signs(text.chars().map(sign).collect::<Result<_, _>>()?))
+}
+
+/// All edges, or those of some places: each once, in rising order.
+pub fn dropped(text: &str) -> Result<Dropped, String> {
+    if text == "all" {
+        return Ok(Dropped::All);
+    }
+    let place = |word: &str| word.trim().parse().map_err(|_| format!("'{word}' is no place; write places of edges as 0,3, or all"));
+    let mut places: Vec<usize> = list(text, place)?;
+    places.sort_unstable();
+    places.dedup();
+    Ok(Dropped::Places(places))
+}
+
+/// As `--drop` takes them.
+pub fn spelled_dropped(dropped: &Dropped) -> String {
+    match dropped {
+        Dropped::All => "all".to_string(),
+        Dropped::Places(places) => places.iter().map(usize::to_string).collect::<Vec<_>>().join(","),
+    }
 }
 
 /// Whether a sweep is rescaled at every element.

@@ -87,7 +87,7 @@ fn job(found: &Cells, format: Format, threads: usize) -> Result<Options, String>
         by.threads = threads;
     }
     options.bits = found.iter().any(|(place, cell)| place.contains("_bits") || place == "columns" && cell.contains("_bits"));
-    Ok(Options { format, output: None, ..options })
+    Ok(Options { format, output: None, ..*options })
 }
 
 /// What differs, and where.

@@ -8,29 +8,14 @@ use native.Mathlib.Omega.{arith}
 use Rattle.limits.specs.declared.Caller.{Caller}
 use Rattle.transfer_matrix.specs.Room as Room
 use Rattle.refusals.specs.Key.{Key, among}
-use Rattle.refusals.specs.Request.{Request}
+use Rattle.refusals.specs.Request.{Request, wholeRequest}
 use Rattle.refusals.specs.Refusal.{Check, first}
 
 -- the same call of another caller, arranged in another way
 abbrev pub calledBy : Caller → Room.Arrangement → Request → Request
-calledBy caller arrangement r = record {
-  caller = caller;
-  vertices = r .vertices;
-  ones = r .ones;
-  others = r .others;
-  magnitudes = r .magnitudes;
-  floor = r .floor;
-  firsts = r .firsts;
-  seconds = r .seconds;
-  betas = r .betas;
-  configurations = r .configurations;
-  factors = r .factors;
-  factorCount = r .factorCount;
-  misfit = r .misfit;
-  arrangement = arrangement;
-  work = r .work;
-  unsound = r .unsound;
-}
+calledBy caller arrangement r =
+    wholeRequest (r .sheet) (r .place) caller arrangement (r .vertices) (r .floor) (r .ones) (r .others) (r .magnitudes) (r .firsts) (r .seconds) (r .betas)
+    (r .configurations) (r .factors) (r .factorCount) (r .misfit) (r .work) (r .unsound)
 
 module _ (k : ℕ) (r s : Request) where
   -- a check has this number, or fits both or neither

@@ -1,7 +1,7 @@
 -- Computed facts: where several checks fit, the first in checking order is answered, and a call answers only what concerns it.
 use mathlib.Core.Path.{_≡_, refl}
 use mathlib.Core.Bool.{Bool, true, false}
-use mathlib.Core.List.{List, [], _∷_}
+use mathlib.Core.List.{List, [], _∷_, _++_}
 use Prim.Native.Nat.{ℕ, zero, suc}
 use lib.IntN.{pos, negsuc}
 use lib.Ieee.{Float, nan, inf, fin, eq, le, lt, neg, ofBits, mul, round}
@@ -14,12 +14,12 @@ use Rattle.list_laws.specs.Tabulate.{tabulate}
 use Rattle.transfer_matrix.specs.Job.{windowOf, tooManyNear}
 use Rattle.transfer_matrix.specs.Configuration.{edgesWith}
 use Rattle.transfer_matrix.specs.Room.{Arrangement, keepAll, lessRoom, room}
-use Rattle.refusals.specs.Edges.{keptOf}
-use Rattle.refusals.specs.Request.{graphRequest, distanceRequest, roomRequest, correlationRequest}
+use Rattle.refusals.specs.Edges.{keptOf, dropping}
+use Rattle.refusals.specs.Request.{Request, graphRequest, distanceRequest, roomRequest, previewRequest, sheetRequest, correlationRequest}
 use Rattle.refusals.specs.Request.{couplingRequest, enumerationRequest, samplingRequest, mostCounted, mostStored}
 use Rattle.refusals.specs.Request.{houseEnumerationRequest, houseSamplingRequest}
 use Rattle.refusals.specs.Refusal.{refusal, ofGraph, ofGraphWithBuffers, ofDistance, ofRoom, ofCorrelations}
-use Rattle.refusals.specs.Refusal.{ofCouplings, ofEnumeration, ofSampling, housed}
+use Rattle.refusals.specs.Refusal.{ofPreview, ofSheet, ofCouplings, ofEnumeration, ofSampling, housed}
 
 abbrev one : Float
 one = fin false 1 (pos 0)
@@ -31,6 +31,27 @@ first-1 = refl
 -- lists that differ, and an edge with equal ends
 pub first-2 : refusal ofGraph (graphRequest 2 (0 ∷ []) (0 ∷ []) [] true) ≡ 2
 first-2 = refl
+
+-- no edge at the place, and an edge with equal ends; lists that differ come before
+abbrev previewed : (place : ℕ) → (a b : List ℕ) → List Float → ℕ
+previewed place a b m = refusal ofPreview (previewRequest place 2 0 a b (dropping place m) [] [] (one ∷ one ∷ []))
+
+pub first-24 : (previewed 1 (0 ∷ []) (0 ∷ []) (one ∷ []) ≡ 24) × (previewed 1 (0 ∷ []) [] (one ∷ []) ≡ 2) × (previewed 0 (0 ∷ []) (0 ∷ []) (one ∷ []) ≡ 3)
+unfolding some
+first-24 = (refl, refl, refl)
+
+-- what the dropped edge's magnitude is does not matter, and betas that do not rise do; a graph's own calls do not ask of a place
+pub preview-cures : (previewed 0 (0 ∷ []) (1 ∷ []) (nan ∷ []) ≡ 21) × (refusal ofGraph (graphRequest 2 [] [] [] false) ≡ 0)
+unfolding some le lt neg ofBits keptOf eq
+preview-cures = (refl, refl)
+
+-- a sheet's records, then its tail, before all else
+abbrev sheet : (broken tail : Bool) → Request
+sheet broken tail = sheetRequest (record { broken = broken; tail = tail }) true
+
+pub first-19 : (refusal (ofSheet ++ ofGraph) (sheet true true) ≡ 19) × (refusal (ofSheet ++ ofGraph) (sheet false true) ≡ 20)
+    × (refusal (ofSheet ++ ofGraph) (sheet false false) ≡ 1) × (refusal ofSheet (sheet false false) ≡ 12)
+first-19 = (refl, refl, refl, refl)
 
 -- equal ends, and a magnitude that is not finite
 pub first-3 : refusal ofGraph (graphRequest 2 (0 ∷ []) (0 ∷ []) (inf false ∷ []) true) ≡ 3

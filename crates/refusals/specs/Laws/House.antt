@@ -5,30 +5,15 @@ use mathlib.Core.List.{List, [], _∷_, _++_}
 use Prim.Native.Nat.{ℕ, zero, suc}
 use lib.Ieee.{Float}
 use Rattle.refusals.specs.Key.{Key}
-use Rattle.refusals.specs.Request.{Request, badFactorList, badFactors, badCouplings}
+use Rattle.refusals.specs.Request.{Request, wholeRequest, badFactorList, badFactors, badCouplings}
 use Rattle.refusals.specs.Refusal.{refusal, ofJob, ofSweeps, ofCorrelations, ofEnumeration, ofSampling, housed}
 use Rattle.refusals.specs.Laws.Later.{orElse, refusal-in-parts}
 
 -- the same call with these factors, of which there should be so many
 abbrev pub withFactors : List Float → ℕ → Request → Request
-withFactors factors count r = record {
-  caller = r .caller;
-  vertices = r .vertices;
-  ones = r .ones;
-  others = r .others;
-  magnitudes = r .magnitudes;
-  floor = r .floor;
-  firsts = r .firsts;
-  seconds = r .seconds;
-  betas = r .betas;
-  configurations = r .configurations;
-  factors = factors;
-  factorCount = count;
-  misfit = r .misfit;
-  arrangement = r .arrangement;
-  work = r .work;
-  unsound = r .unsound;
-}
+withFactors factors count r =
+    wholeRequest (r .sheet) (r .place) (r .caller) (r .arrangement) (r .vertices) (r .floor) (r .ones) (r .others) (r .magnitudes) (r .firsts) (r .seconds)
+    (r .betas) (r .configurations) factors count (r .misfit) (r .work) (r .unsound)
 
 -- Where 10 passes these factors if 23 passes the couplings: what 23 does not refuse is refused by the same check as the call that lends them, or by none.
 module _ (r : Request) (factors : List Float) (count : ℕ) (pass : badCouplings r ≡ false → badFactorList factors count ≡ false) where

@@ -2,11 +2,12 @@
 
 use super::calls::Call;
 use super::house::leave_grid;
-use crate::betas::{disorder, risen};
+use crate::betas::risen;
 use crate::draw::Draw;
-use crate::shapes::{long_edge, pairs, short_edges, spoil_graph, swept_graph, Reach};
+use crate::shapes::{pairs, swept_graph, Reach};
+use crate::spoils::{spoil_lent, KINDS_OF_SPOILS};
 use oracle::rules::configurations::{Drawn, Entry};
-use oracle::rules::lists::{Edges, Pairs};
+use oracle::rules::lists::Edges;
 
 /// A job of few configurations; its factors are lent later.
 pub fn small(draw: &mut Draw) -> Call {
@@ -132,27 +133,12 @@ pub fn vast(draw: &mut Draw) -> Call {
 
 /// One thing of the graph, the pairs, the betas or the samples that document 01 may refuse.
 pub fn spoil_job(draw: &mut Draw, call: &mut Call) {
-    let n = call.edges.n;
-    match draw.below(16) {
-        0..=3 => spoil_graph(draw, &mut call.edges),
-        4 => call.edges.floor = draw.of(&[12, 13, 24, 25, 1 << 40, usize::MAX]),
-        5 => long_edge(draw, &mut call.edges),
-        6 => short_edges(draw, &mut call.edges),
-        7 => drop(if draw.once_in(2) { call.pairs.us.pop() } else { call.pairs.vs.pop() }),
-        8 => call.pairs = Pairs { us: vec![0; 257], vs: vec![n.wrapping_sub(1); 257] },
-        9 | 10 => {
-            if let Some(last) = call.pairs.us.len().min(call.pairs.vs.len()).checked_sub(1) {
-                let i = draw.within(0, last);
-                call.pairs.vs[i] = draw.of(&[n, usize::MAX, 1 << 63, call.pairs.us[i]]);
-            }
-        }
-        11 => call.betas.resize(65, 0.5),
-        12 => call.betas.push(draw.no_magnitude()),
-        13 | 14 => disorder(draw, &mut call.betas),
-        _ => {
+    match draw.below(KINDS_OF_SPOILS + 1) {
+        KINDS_OF_SPOILS => {
             (call.by.from, call.by.to, call.by.samples) =
                 draw.of(&[(0, u64::MAX, 1), (5, 1 << 33, 1), (u64::MAX - 1, u64::MAX, usize::MAX)])
         }
+        kind => spoil_lent(draw, kind, &mut call.edges, &mut call.pairs, &mut call.betas),
     }
 }
 

@@ -1,10 +1,12 @@
 -- The tests, one after the other.
 use Rattle.refusals.specs.Request.{Request, jobRequest, badVertices, badLists, badEdges, badSizes}
 use Rattle.refusals.specs.Laws.Accepted.{accepted-lengths}
+use Rattle.refusals.specs.Edges.{dropping}
+use Rattle.refusals.specs.Laws.Dropping.{dropping-lists}
 use Rattle.refusals.specs.Laws.First.{here, past, told}
 use Prim.Native.Nat.{ℕ}
 use mathlib.Core.Bool.{cond}
-use mathlib.Core.Path.{_≡_, refl}
+use mathlib.Core.Path.{_≡_, refl, _∙_}
 use borrow.Author.Needs.{needs}
 use Rattle.kept_edges.proofs.build.check_raw.Statement.{statement}
 use Rattle.kept_edges.proofs.build.check_raw.Tie as tie
@@ -13,7 +15,13 @@ use Rattle.kept_edges.proofs.build.check_raw.Tie as tie
 abbrev asked : tie.After-shared-slice-known6 → Request
 asked c =
     let x = c .before .before .before .before .before .before .args in
-    jobRequest (x .n) 0 (x .a .now) (x .b .now) (x .m .now) (x .us .now) (x .vs .now) (x .betas .now)
+    jobRequest (x .n) 0 (x .a .now) (x .b .now) (dropping (x .dropped) (x .m .now)) (x .us .now) (x .vs .now) (x .betas .now)
+
+-- the lists' lengths, the magnitude dropped or not
+lists : (c : tie.After-bad-lists) → c .bad-lists .result ≡ badLists (asked (c .before .before .before))
+lists c =
+    let x = c .before .before .before .before .before .before .before .before .before .args in
+    c .bad-lists .ensures ∙ dropping-lists (x .dropped) (x .n) 0 (x .a .now) (x .b .now) (x .m .now) (x .us .now) (x .vs .now) (x .betas .now)
 
 -- past each check that did not fit, and those before it
 past-vertices : (c : tie.Else1) (r rest : ℕ) → r ≡ rest → r ≡ cond (badVertices (asked (c .before .before))) 1 rest
@@ -21,7 +29,7 @@ past-vertices c r rest h = past _ _ _ _ (told (c .before .bad-vertices .ensures)
 
 past-lists : (c : tie.Else2) (r rest : ℕ) → r ≡ rest
     → let q = asked (c .before .before .before .before) in r ≡ cond (badVertices q) 1 (cond (badLists q) 2 rest)
-past-lists c r rest h = past-vertices (c .before .before) r _ (past _ _ _ _ (told (c .before .bad-lists .ensures) (c .if2 .left)) h)
+past-lists c r rest h = past-vertices (c .before .before) r _ (past _ _ _ _ (told (lists (c .before)) (c .if2 .left)) h)
 
 past-edges : (c : tie.Else3) (r rest : ℕ) → r ≡ rest
     → let q = asked (c .before .before .before .before .before .before) in r ≡ cond (badVertices q) 1 (cond (badLists q) 2 (cond (badEdges q) 3 rest))
@@ -31,13 +39,13 @@ returns : tie.Need-returns
 returns c = record { refusal = here _ _ _ (told (c .before .bad-vertices .ensures) (c .if1 .taken)) }
 
 returns-2 : tie.Need-returns-2
-returns-2 c = record { refusal = past-vertices (c .before .before) _ _ (here _ _ _ (told (c .before .bad-lists .ensures) (c .if2 .taken))) }
+returns-2 c = record { refusal = past-vertices (c .before .before) _ _ (here _ _ _ (told (lists (c .before)) (c .if2 .taken))) }
 
 bad-edges-requires : tie.Need-bad-edges-requires
 bad-edges-requires c κs =
     let x = c .before .before .before .before .before .before .before .before .before .before .args in
-    accepted-lengths (x .n) 0 (x .a .now) (x .b .now) (x .m .now) (x .us .now) (x .vs .now) (x .betas .now)
-    (told (c .before .bad-lists .ensures) (c .if2 .left)) .0 .others
+    accepted-lengths (x .n) 0 (x .a .now) (x .b .now) (dropping (x .dropped) (x .m .now)) (x .us .now) (x .vs .now) (x .betas .now)
+    (told (lists (c .before)) (c .if2 .left)) .0 .others
 
 returns-3 : tie.Need-returns-3
 returns-3 c = record { refusal = past-lists (c .before .before) _ _ (here _ _ _ (told (c .before .bad-edges .ensures) (c .if3 .taken))) }

@@ -1,0 +1,4 @@
+-- What is proved of the definitions.
+pub mod Cases
+pub mod Costing
+pub mod Zeros
