@@ -13,7 +13,7 @@ use plan_layout::Arrangement;
 use plan_layout::takes_less;
 use refusals::Answer;
 use step_tables::pow2;
-use totals_house::store_house_job;
+use totals_house_stored::store_house_job;
 
 // Writes every correlation to `stored`: that of a beta, a pair and a configuration at (beta times pairs + pair) times the configurations +
 // the configuration. The factors are the house table's at beta times magnitude. Returns the count of configurations, or the refusal.

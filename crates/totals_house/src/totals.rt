@@ -12,9 +12,7 @@ ghost use Rattle.totals_configuration.specs.Chunked.{Lists};
 ghost use Rattle.totals_configuration.specs.Stage.{Stage};
 ghost use Rattle.totals_chunks.specs.Totals.{Summable, ChunksSummed};
 ghost use Rattle.totals_call.specs.Finished.{Numbered, stepping, TotalsAre};
-ghost use Rattle.totals_house.specs.Betas.{HousePassed, OnGrid, PlanOfBetas};
-use crate::factors::FACTORS;
-use crate::factors::lay_beta;
+ghost use Rattle.totals_house_betas.specs.Betas.{HousePassed, OnGrid, PlanOfBetas};
 use house_table::table;
 use job_run::clear;
 use plan_layout::make_plan;
@@ -26,6 +24,8 @@ use totals_call::clear_unsound;
 use totals_chunks::Chunks;
 use totals_chunks::chunked_totals;
 use totals_configuration::JobShape;
+use totals_house_betas::FACTORS;
+use totals_house_betas::lay_beta;
 
 // The totals of chunks of configurations at each beta, one beta after another; the shape is that of a job with one beta. `factors` holds those
 // of the current beta. Returns whether every Z was finite and above zero; at the first beta where one is not it stops.

@@ -22,8 +22,8 @@ use Rattle.totals_call.specs.Finished.{Finished}
 use Rattle.totals_call.specs.Laws.Refusing.{listsOfAllBy, allPartsBy}
 use Rattle.totals_call.specs.Laws.Calling.{refused-early, refused-lists, all-added, refused-14}
 use Rattle.totals_call.specs.Laws.Entering.{few-products, fits-both, front-fits, front-is, joined, all-numbered, all-are, free-kept}
-use Rattle.totals_house.specs.Betas.{HousePassed}
-use Rattle.totals_house.specs.Laws.Entering.{all-housed, all-house-passed, totals-housed}
+use Rattle.totals_house_betas.specs.Betas.{HousePassed}
+use Rattle.totals_house_betas.specs.Laws.Entering.{all-housed, all-house-passed, totals-housed}
 use borrow.Author.Needs.{needs}
 use Rattle.entry_house_exhaustive.proofs.entry.house_exhaustive.Statement.{statement}
 use Rattle.entry_house_exhaustive.proofs.entry.house_exhaustive.Tie as tie

@@ -20,8 +20,8 @@ use Rattle.totals_call.specs.Finished.{Finished}
 use Rattle.totals_call.specs.Laws.Refusing.{listsOfAllBy, allPartsBy}
 use Rattle.totals_call.specs.Laws.Calling.{refused-early, refused-lists, all-added, refused-14, once}
 use Rattle.totals_call.specs.Laws.Entering.{few-products, fits-both, front-fits, front-is, joined, free-kept}
-use Rattle.totals_house.specs.Betas.{HousePassed}
-use Rattle.totals_house.specs.Laws.Entering.{stored-house-lists, all-house-passed, stored-housed}
+use Rattle.totals_house_betas.specs.Betas.{HousePassed}
+use Rattle.totals_house_betas.specs.Laws.Entering.{stored-house-lists, all-house-passed, stored-housed}
 use borrow.Author.Needs.{needs}
 use Rattle.entry_house_exhaustive_c.proofs.entry.house_exhaustive_c.Statement.{statement}
 use Rattle.entry_house_exhaustive_c.proofs.entry.house_exhaustive_c.Tie as tie

@@ -21,8 +21,8 @@ use Rattle.totals_call.specs.Finished.{Finished}
 use Rattle.totals_call.specs.Laws.Refusing.{Parts, listsOfDrawnBy, drawnPartsBy}
 use Rattle.totals_call.specs.Laws.Calling.{refused-early, refused-lists, all-added, refused-14}
 use Rattle.totals_call.specs.Laws.Entering.{few-products, fits-both, drawn-numbered}
-use Rattle.totals_house.specs.Betas.{HousePassed}
-use Rattle.totals_house.specs.Laws.Entering.{drawn-housed, drawn-house-passed, totals-housed}
+use Rattle.totals_house_betas.specs.Betas.{HousePassed}
+use Rattle.totals_house_betas.specs.Laws.Entering.{drawn-housed, drawn-house-passed, totals-housed}
 use borrow.Author.Needs.{needs}
 use Rattle.entry_house_sample.proofs.entry.house_sample.Statement.{statement}
 use Rattle.entry_house_sample.proofs.entry.house_sample.Tie as tie

@@ -12,8 +12,8 @@ use borrow.Rule.Slice.PartMut.{mid-len}
 use Rattle.totals_configuration.specs.Laws.Lists.{stage-with, part-of}
 use Rattle.totals_chunks.specs.Totals.{PlanOfChunks}
 use Rattle.totals_enumerated.proofs.Ranges.{came-back}
-use Rattle.totals_house.specs.Betas.{alone}
-use Rattle.totals_house.proofs.Rows.{factors-of-one, BetasDone, summed-none, summed-more, summed-all, not-summed}
+use Rattle.totals_house_betas.specs.Betas.{alone}
+use Rattle.totals_house_betas.specs.Laws.Summed.{factors-of-one, BetasDone, summed-none, summed-more, summed-all, not-summed}
 use Rattle.totals_house.proofs.totals.total_betas.Statement.{statement}
 use Rattle.totals_house.proofs.totals.total_betas.Tie as tie
 

@@ -11,7 +11,7 @@ use Rattle.job_run.specs.Zeros.{zeros}
 use Rattle.totals_call.specs.Jobs.{jobIn}
 use Rattle.totals_call.specs.Finished.{stepping}
 use Rattle.totals_call.specs.Laws.Staging.{staged, summable, room-fits, finished, cleared-answers}
-use Rattle.totals_house.specs.Laws.Planning.{of-one-beta, chunks-plan}
+use Rattle.totals_house_betas.specs.Laws.Planning.{of-one-beta, chunks-plan}
 use borrow.Author.Needs.{needs}
 use Rattle.totals_house.proofs.totals.total_house_job.Statement.{statement}
 use Rattle.totals_house.proofs.totals.total_house_job.Tie as tie

@@ -4,10 +4,10 @@ use Prim.Native.Nat.{_-_, _*_, _≤_}
 use native.Mathlib.Omega.{arith}
 use lib.ListN.{length, length-set}
 use borrow.Author.Needs.{needs}
-use Rattle.totals_house.proofs.Filling.{laid, laid-length, laid-more, laid-all}
+use Rattle.totals_house_betas.specs.Laws.Filling.{laid, laid-length, laid-more, laid-all}
 use Rattle.list_laws.specs.Laws.Part.{fill-none}
-use Rattle.totals_house.proofs.factors.lay_beta.Statement.{statement}
-use Rattle.totals_house.proofs.factors.lay_beta.Tie as tie
+use Rattle.totals_house_betas.proofs.factors.lay_beta.Statement.{statement}
+use Rattle.totals_house_betas.proofs.factors.lay_beta.Tie as tie
 
 abbrev Inv-loop : tie.InvT-loop
 Inv-loop table beta mag factors₀ e₀ factors e = (e ≤ length mag) × (factors ≡ laid factors₀ beta mag e)

@@ -8,15 +8,15 @@ ghost use Rattle.limits.specs.Limits.{mostEdges};
 ghost use Rattle.coupling_grid.specs.Grid.{offGrid};
 ghost use Rattle.house_table.specs.House.{houseTable};
 ghost use Rattle.house_factors.specs.Factors.{pairedFactors};
-ghost use Rattle.totals_house.specs.Betas.{couplingsOf};
+ghost use Rattle.totals_house_betas.specs.Betas.{couplingsOf};
 use house_factors::factor;
 use limits::EDGES;
 
 // The most factors of one beta: two for each edge.
-pub(crate) const FACTORS: usize = 2 * EDGES;
+pub const FACTORS: usize = 2 * EDGES;
 
 // Writes two factors for each kept edge at this beta: that of sign plus, and next to it that of sign minus.
-pub(crate) fn lay_beta(table: &[f64; 1025], beta: f64, mag: &[f64], factors: &mut [f64])
+pub fn lay_beta(table: &[f64; 1025], beta: f64, mag: &[f64], factors: &mut [f64])
     requires { ⌜ (now table ≡ houseTable) × (length (now factors) ≡ 2 * length (now mag)) × (length (now mag) ≤ mostEdges)
         × ((e : ℕ) → e < length (now mag) → offGrid (mul binary64 beta (getD (now mag) e nan)) ≡ false) ⌝ }
     ensures { λ _. ⌜ now (factors .exit) ≡ pairedFactors (couplingsOf beta (now (mag .entry))) ⌝ }

@@ -15,10 +15,10 @@ use Rattle.totals_configuration.specs.Laws.Lists.{stage-with, part-of}
 use Rattle.totals_configuration.specs.Signed.{PlanOfRun}
 use Rattle.totals_enumerated.specs.Configurations.{enumeratedSigns}
 use Rattle.totals_enumerated.proofs.Ranges.{came-back}
-use Rattle.totals_house.specs.Betas.{alone}
-use Rattle.totals_house.proofs.Rows.{factors-of-one, StoredDone, stored-none, stored-more, stored-all, not-stored}
-use Rattle.totals_house.proofs.stored.store_betas.Statement.{statement}
-use Rattle.totals_house.proofs.stored.store_betas.Tie as tie
+use Rattle.totals_house_betas.specs.Betas.{alone}
+use Rattle.totals_house_betas.specs.Laws.Summed.{factors-of-one, StoredDone, stored-none, stored-more, stored-all, not-stored}
+use Rattle.totals_house_stored.proofs.stored.store_betas.Statement.{statement}
+use Rattle.totals_house_stored.proofs.stored.store_betas.Tie as tie
 
 abbrev Inv-loop : tie.InvT-loop
 Inv-loop room₀ plan shape us vs order mag betas factors₀ bits signs₀ free c₀ stored₀ entries row b₀ room factors signs c stored b =

@@ -12,10 +12,10 @@ use Rattle.totals_call.specs.Jobs.{jobEnumerated}
 use Rattle.totals_call.specs.Finished.{stepping}
 use Rattle.totals_call.specs.Laws.Signing.{as-long}
 use Rattle.totals_call.specs.Laws.Staging.{staged, enumerates, room-fits, finished, cleared-stored}
-use Rattle.totals_house.specs.Laws.Planning.{of-one-beta, numbers-plan}
+use Rattle.totals_house_betas.specs.Laws.Planning.{of-one-beta, numbers-plan}
 use borrow.Author.Needs.{needs}
-use Rattle.totals_house.proofs.stored.store_house_job.Statement.{statement}
-use Rattle.totals_house.proofs.stored.store_house_job.Tie as tie
+use Rattle.totals_house_stored.proofs.stored.store_house_job.Statement.{statement}
+use Rattle.totals_house_stored.proofs.stored.store_house_job.Tie as tie
 
 -- ---- the lists that are made here are long enough
 

@@ -22,8 +22,8 @@ use Rattle.totals_chunks.specs.Totals.{signsIn}
 use Rattle.totals_call.specs.Jobs.{minusIn, jobEnumerated, jobIn}
 use Rattle.totals_call.specs.Finished.{Passed, stepping}
 use Rattle.totals_call.specs.Laws.Signing.{numbered-plan, chunked-plan}
-use Rattle.totals_house.specs.Betas.{couplingsOf, HousePassed, PlanOfBetas, PlanOfNumbers}
-use Rattle.totals_house.specs.Laws.Factors.{job-same}
+use Rattle.totals_house_betas.specs.Betas.{couplingsOf, HousePassed, PlanOfBetas, PlanOfNumbers}
+use Rattle.totals_house_betas.specs.Laws.Factors.{job-same}
 
 -- a job that passed, as a job with one beta
 pub of-one-beta : {A : Arrangement} {n w : ℕ} {early late us vs : List ℕ} {mag betas : List Float} {work : ℕ}

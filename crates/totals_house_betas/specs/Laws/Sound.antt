@@ -12,7 +12,7 @@ use Rattle.pair_correlations.specs.Sound.{unsound}
 use Rattle.totals_configuration.specs.Powers.{unsoundBetas}
 use Rattle.totals_chunks.specs.declared.Chunks.{Chunks}
 use Rattle.totals_chunks.specs.Totals.{unsoundChunks}
-use Rattle.totals_house.specs.Betas.{alone}
+use Rattle.totals_house_betas.specs.Betas.{alone}
 
 -- where the whole is not sound if a part is not
 contrary : (part whole : Bool) → (whole ≡ false → part ≡ false) → part ≡ true → whole ≡ true

@@ -8,7 +8,7 @@ use lib.Ieee.{Float}
 use lib.ListN.{length}
 use Rattle.transfer_matrix.specs.Job.{Job}
 use Rattle.totals_configuration.specs.Powers.{correlationAt}
-use Rattle.totals_house.specs.Betas.{alone}
+use Rattle.totals_house_betas.specs.Betas.{alone}
 
 -- number i of row b of so many columns
 pub row-of : (b i columns : ℕ) → i < columns → (b * columns + i) / columns ≡ b

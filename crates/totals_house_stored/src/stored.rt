@@ -16,9 +16,7 @@ ghost use Rattle.totals_configuration.specs.Powers.{correlationAt, unsoundBetas
 ghost use Rattle.totals_configuration.specs.Stage.{Stage};
 ghost use Rattle.totals_enumerated.specs.Configurations.{Enumerates};
 ghost use Rattle.totals_call.specs.Finished.{stepping, StoredAre};
-ghost use Rattle.totals_house.specs.Betas.{HousePassed, OnGrid, PlanOfNumbers};
-use crate::factors::FACTORS;
-use crate::factors::lay_beta;
+ghost use Rattle.totals_house_betas.specs.Betas.{HousePassed, OnGrid, PlanOfNumbers};
 use house_table::table;
 use job_run::clear;
 use plan_layout::make_plan;
@@ -29,6 +27,8 @@ use totals_call::PAIRS;
 use totals_call::PLAN;
 use totals_call::clear_unsound;
 use totals_configuration::JobShape;
+use totals_house_betas::FACTORS;
+use totals_house_betas::lay_beta;
 use totals_stored::stored_correlations;
 
 // Stores the correlation of each pair and configuration at each beta, one beta after another; the shape is that of a job with one beta.

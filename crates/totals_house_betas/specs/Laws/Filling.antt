@@ -12,8 +12,8 @@ use Rattle.list_laws.specs.Tabulate.{tabulate}
 use Rattle.list_laws.specs.Laws.Part.{fill-two, fill-length}
 use Rattle.list_laws.specs.Laws.Tabulate.{tabulate-length}
 use Rattle.house_factors.specs.Factors.{factorOf, pairedAt, pairedFactors}
-use Rattle.totals_house.specs.Betas.{couplingsOf}
-use Rattle.totals_house.specs.Laws.Factors.{of-length, of-at}
+use Rattle.totals_house_betas.specs.Betas.{couplingsOf}
+use Rattle.totals_house_betas.specs.Laws.Factors.{of-length, of-at}
 
 -- a list that is filled to its end
 pub fill-all : (d : List Float) (f : ℕ → Float) (n : ℕ) → length d ≡ n → put d 0 (tabulate f n) ≡ tabulate f n

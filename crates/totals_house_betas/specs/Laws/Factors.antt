@@ -15,7 +15,7 @@ use Rattle.refusals.specs.Laws.Couplings.{coupling-inside, all-length, all-at}
 use Rattle.transfer_matrix.specs.Job.{Edge, Manner}
 use Rattle.transfer_matrix.specs.Configuration.{lentAt, edgesWith, configured}
 use Rattle.totals_call.specs.Jobs.{jobSigned}
-use Rattle.totals_house.specs.Betas.{couplingsOf}
+use Rattle.totals_house_betas.specs.Betas.{couplingsOf}
 
 pub of-length : (beta : Float) (mag : List Float) → length (couplingsOf beta mag) ≡ length mag
 unfolding couplingsOf

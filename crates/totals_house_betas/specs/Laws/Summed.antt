@@ -20,10 +20,10 @@ use Rattle.totals_configuration.specs.Powers.{correlationAt, unsoundBetas}
 use Rattle.totals_configuration.specs.Stage.{EnoughFactors}
 use Rattle.totals_chunks.specs.declared.Chunks.{Chunks}
 use Rattle.totals_chunks.specs.Totals.{unsoundChunks, totalsOver, ChunksSummed}
-use Rattle.totals_house.specs.Betas.{alone, PlanOfBetas, PlanOfNumbers}
-use Rattle.totals_house.specs.Laws.Sound.{numbers-sound, numbers-unsound, chunks-sound, chunks-unsound}
-use Rattle.totals_house.specs.Laws.Rows.{correlation-row, stored-row}
-use Rattle.totals_house.proofs.Filling.{fill-all}
+use Rattle.totals_house_betas.specs.Betas.{alone, PlanOfBetas, PlanOfNumbers}
+use Rattle.totals_house_betas.specs.Laws.Sound.{numbers-sound, numbers-unsound, chunks-sound, chunks-unsound}
+use Rattle.totals_house_betas.specs.Laws.Rows.{correlation-row, stored-row}
+use Rattle.totals_house_betas.specs.Laws.Filling.{fill-all}
 
 -- what holds of all before b, and of b, holds of all before b + 1
 pub one-more : (P : ℕ → Type 0) (b : ℕ) → ((i : ℕ) → i < b → P i) → P b → (i : ℕ) → i < b + 1 → P i

@@ -29,7 +29,7 @@ use Rattle.job_checks.specs.Laws.Plannable.{plannable}
 use Rattle.totals_chunks.specs.declared.Chunks.{Chunks}
 use Rattle.totals_call.specs.Finished.{TotalsAre, StoredAre}
 use Rattle.totals_call.specs.Laws.Entering.{all-listed, drawn-listed, stored-misfit, totals-kept, stored-kept}
-use Rattle.totals_house.specs.Betas.{HousePassed}
+use Rattle.totals_house_betas.specs.Betas.{HousePassed}
 
 module _ {n floor : ℕ} {a b : List ℕ} {m : List Float} {us vs : List ℕ} {k w : ℕ} {early early′ late late′ : List ℕ} {mag mag′ : List Float}
     (g : ReadyJob n floor a b m us vs k w early early′ late late′ mag mag′) (betas : List Float) where
