@@ -1,0 +1,4 @@
+-- What is proved of the definitions.
+pub mod Counting
+pub mod Kinds
+pub mod Lists
