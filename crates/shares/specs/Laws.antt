@@ -2,3 +2,4 @@
 pub mod Counting
 pub mod Kinds
 pub mod Lists
+pub mod Cases

@@ -1,53 +1,49 @@
+-- Each `return` is a law of Cases.
+use mathlib.Core.Path.{_≡_, sym, _∙_}
+use mathlib.Core.Bool.{false}
+use Prim.Native.Nat.{_+_, _≤_}
+use native.Mathlib.Omega.{arith}
+use lib.ListN.{length}
 use borrow.Author.Needs.{needs}
+use Rattle.shares.specs.Shares.{badEntry, badLists, counted}
+use Rattle.shares.specs.Laws.Cases.{none-bad, refused-lists, refused-entry, accepted}
 use Rattle.shares.proofs.shares.Statement.{statement}
 use Rattle.shares.proofs.shares.Tie as tie
-use Rattle.shares.proofs.shares.Reads as reads
-use Rattle.shares.proofs.shares.Lts as lts
-use Rattle.shares.proofs.entries.count_kinds.Reads as count-kinds-reads
-use Rattle.shares.proofs.fractions.Reads as fractions-reads
-use Rattle.shares.proofs.lists.bad_lists.Reads as bad-lists-reads
 
--- src/lib.rt:31:8
-bad-lists-requires : tie.Need-bad-lists-requires
-bad-lists-requires c κs = search needs
+good-lists : (c : tie.Else1) → let s = c .before .before .before .before .args in badLists (s .lengths .now) (length (s .stored .now)) ≡ false
+good-lists c = sym (c .before .bad-lists .ensures) ∙ c .if1 .left
 
--- src/lib.rt:32:9
+no-bad : (c : tie.Else2) → counted badEntry (c .before .before .before .before .before .before .before .args .stored .now) ≡ 0
+no-bad c = sym (c .before .before .count-kinds .ensures .0) ∙ omega arith
+
 returns : tie.Need-returns
-returns c = ?
+returns c = refused-lists _ _ (sym (c .before .bad-lists .ensures) ∙ c .if1 .taken)
 
--- src/lib.rt:34:9
-count-kinds-requires : tie.Need-count-kinds-requires
-count-kinds-requires c κs = search needs
-
--- src/lib.rt:36:9
 returns-2 : tie.Need-returns-2
-returns-2 c = ?
+returns-2 c = refused-entry _ _ (good-lists (c .before .before .before)) (λ e. c .if2 .taken (c .before .before .count-kinds .ensures .0 ∙ e))
 
--- src/lib.rt:39:17
+-- those above zero and those below it are no more than all
+few : (c : tie.Else2) → let t = c .before .before .count-kinds .result in
+    t .above + t .below ≤ length (c .before .before .before .before .before .before .before .args .stored .now)
+few c =
+    let stored = c .before .before .before .before .before .before .before .args .stored .now in
+    let k = c .before .before .count-kinds .ensures in
+    omega (arith, none-bad stored (no-bad c))
+
 sub-zeros : tie.Need-sub-zeros
-sub-zeros c = ?
+sub-zeros c = omega (arith, few (c .before))
 
--- src/lib.rt:39:17
 sub-zeros-2 : tie.Need-sub-zeros-2
-sub-zeros-2 c = ?
+sub-zeros-2 c = omega (arith, few (c .before .before))
 
--- src/lib.rt:40:20
-fractions-requires : tie.Need-fractions-requires
-fractions-requires c κs = search needs
-
--- src/lib.rt:28:1
 returns-3 : tie.Need-returns-3
-returns-3 c = ?
+returns-3 c =
+    let e = c .before .before .before in
+    let k = e .before .before .count-kinds .ensures in
+    accepted _ _ (good-lists (e .before .before .before)) (no-bad e) _ (rw (k .1, k .2, k .3) at (c .fractions .ensures))
 
 pub shares-spec : {M : Type 1} → statement M
 shares-spec =
     tie.close
     (tie.spec
-    bad-lists-requires
-    returns
-    count-kinds-requires
-    returns-2
-    sub-zeros
-    sub-zeros-2
-    fractions-requires
-    returns-3)
+    (λ c κs. search needs) returns (λ c κs. search needs) returns-2 sub-zeros sub-zeros-2 (λ c κs. search needs) returns-3)
