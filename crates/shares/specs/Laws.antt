@@ -3,3 +3,5 @@ pub mod Counting
 pub mod Kinds
 pub mod Lists
 pub mod Cases
+pub mod Runs
+pub mod One

@@ -6,7 +6,6 @@ use lib.Dec.{eqb, ltb}
 use lib.Ieee.{Float, nan, binary64, ofBits, neg, lt, le, eq}
 use lib.ListN.{length, getD}
 use Rattle.list_laws.specs.Count.{count}
-use Rattle.list_laws.specs.Part.{part}
 use Rattle.list_laws.specs.Search.{some}
 use Rattle.euclid.specs.Euclid.{reduced}
 use Rattle.shares.specs.declared.answer.Shares.{Shares}
@@ -62,10 +61,6 @@ badLength entries = eqb entries 0 || ltb mostEntries entries
 unfoldable pub startOf : List ℕ → ℕ → ℕ
 startOf lengths zero = 0
 startOf lengths (suc k) = startOf lengths k + getD lengths k 0
-
--- list k
-abbrev pub listOf : List Float → List ℕ → ℕ → List Float
-listOf stored lengths k = part stored (startOf lengths k) (getD lengths k 0)
 
 -- no list, too many, one that is empty or too long, or lengths that do not add up to what is lent
 abbrev pub badLists : List ℕ → ℕ → Bool
