@@ -5,3 +5,4 @@ pub mod Lists
 pub mod Cases
 pub mod Runs
 pub mod One
+pub mod Examples

@@ -89,13 +89,16 @@ pooled stored = fractions (counted isAbove stored) (counted isZero stored) (coun
 unfoldable pub sharesOf : List Float → List ℕ → Answer
 sharesOf stored lengths = cond (refuses stored lengths) (Refused 25) (Pooled (pooled stored))
 
--- ---- over C: an answer's number, 0 for accepted, and the eight words that it leaves where `old` stood
+-- ---- an answer's number, 0 for accepted, and its values as the eight words that it leaves where `old` stood
 
 abbrev pub numberOf : Answer → ℕ
 numberOf (Pooled s) = 0
 numberOf (Refused k) = k
 
-abbrev pub wordsOf : Answer → List ℕ → List ℕ
-wordsOf (Pooled s) old =
+abbrev pub wordsOf : Shares → List ℕ
+wordsOf s =
     s .above .top ∷ s .above .bottom ∷ s .zero .top ∷ s .zero .bottom ∷ s .below .top ∷ s .below .bottom ∷ s .half .top ∷ s .half .bottom ∷ []
-wordsOf (Refused k) old = old
+
+abbrev pub wordsIn : Answer → List ℕ → List ℕ
+wordsIn (Pooled s) old = wordsOf s
+wordsIn (Refused k) old = old

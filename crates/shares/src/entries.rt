@@ -53,5 +53,10 @@ pub fn count_kinds(stored: &[f64]) -> Tally
         half += one_if(is_half(x));
         i += 1;
     }
-    Tally { bad, above, below, half }
+    Tally {
+        bad,
+        above,
+        below,
+        half,
+    }
 }
