@@ -2,8 +2,8 @@
 use mathlib.Core.Path.{refl, sym, ap, _∙_}
 use borrow.Author.Needs.{needs}
 use Rattle.shares.specs.Shares.{numberOf, wordsIn}
-use Rattle.c_shares.proofs.copperhook_shares.Statement.{statement}
-use Rattle.c_shares.proofs.copperhook_shares.Tie as tie
+use Rattle.export_shares.proofs.copperhook_shares.Statement.{statement}
+use Rattle.export_shares.proofs.copperhook_shares.Tie as tie
 
 returns : tie.Need-returns
 returns c =
