@@ -16,6 +16,7 @@ mod graphs;
 mod guarded;
 mod house;
 mod shapes;
+mod shares;
 mod strips;
 mod totals;
 
@@ -47,6 +48,7 @@ pub const GROUPS: &[Group] = &[
     Group { name: "accuracies", share: 1.0, refusals: &[1, 2, 3, 4, 5, 6, 7, 10, 21], try_one: accuracies::try_one },
     Group { name: "wide", share: 0.0, refusals: &[], try_one: correlations::try_wide },
     Group { name: "house", share: 4.0, refusals: &[1, 2, 3, 4, 5, 6, 7, 8, 9, 11, 12, 13, 21, 22, 23], try_one: house::try_one },
+    Group { name: "shares", share: 1.0, refusals: &[25], try_one: shares::try_one },
 ];
 
 /// How long a group is run.

@@ -5,8 +5,8 @@ use std::fmt;
 
 numbered! {
     /// Why a call is refused. The numbers follow the order of the checks, but that strips check 15 to 17 before 12, 21 stands between 4
-    /// and 5, 22 right behind 6 for the window and right behind 9 for free edges, and 23 in the place of 10: of several reasons that fit,
-    /// the first is returned.
+    /// and 5, 22 right behind 6 for the window and right behind 9 for free edges, and 23 in the place of 10; 25 is that of shares alone. Of
+    /// several reasons that fit, the first is returned.
     pub enum Refusal;
 
     /// Returns what is wrong, as a sentence without its full stop.
@@ -35,6 +35,7 @@ numbered! {
     TesterLimit = 22, "the window is above 12, or free edges exceed 16, the limits of the tester's calls";
     /// [`house::nearest`](crate::house::nearest) tells what could stand there instead.
     Couplings = 23, "the couplings for house factors have another length, or one isn't a multiple of 1/128 from -4 to 4";
+    Shares = 25, "there is no list or over 256, a list is empty or longer than 2^24, the lengths don't add up to what is lent, or an entry isn't from -1 to 1";
 }
 
 impl Refusal {
