@@ -38,7 +38,8 @@ fn sound(draw: &mut Draw) -> Call {
         stored[place] = entry(draw, 1);
         return Call { stored, lengths: vec![longest] };
     }
-    let (lists, longest) = if draw.once_in(30) { (draw.within(LISTS - 2, LISTS + 1), 3) } else { (draw.within(1, 6), draw.of(&[1, 2, 8, 60])) };
+    let (lists, longest) =
+        if draw.once_in(30) { (draw.within(LISTS - 2, LISTS + 1), 3) } else { (draw.within(1, 6), draw.of(&[1, 2, 8, 60])) };
     let lengths: Vec<usize> = (0..lists).map(|_| draw.within(1, longest)).collect();
     let style = draw.below(4);
     let stored = (0..lengths.iter().sum()).map(|_| entry(draw, style)).collect();
@@ -78,8 +79,7 @@ pub fn try_one(draw: &mut Draw) -> Result<usize, String> {
 fn compare(call: &Call, before: &[u64]) -> Result<usize, String> {
     let (stored, lengths, mut words) = (Guarded::new(&call.stored), Guarded::new(&call.lengths), Guarded::new(before));
     // SAFETY: the pointers and lengths are those of guarded lists, and there are eight words.
-    let number =
-        unsafe { sys::copperhook_shares(stored.pointer(), stored.len(), lengths.pointer(), lengths.len(), words.pointer_mut()) };
+    let number = unsafe { sys::copperhook_shares(stored.pointer(), stored.len(), lengths.pointer(), lengths.len(), words.pointer_mut()) };
     let expected = shares(&call.stored, &call.lengths);
     equal("answer", number, expected.err().unwrap_or(0))?;
     words.holds("shares", expected.as_ref().map_or(before, |words| words))?;

@@ -53,6 +53,7 @@ pub fn shares(stored: &[f64], lengths: &[usize]) -> Result<Shares, Refusal> {
 #[cfg(test)]
 mod tests {
     use super::{shares, Share, Shares};
+    use crate::limits::{SHARE_ENTRIES, SHARE_LISTS};
     use crate::Refusal;
 
     fn share(top: u64, bottom: u64) -> Share {
@@ -75,7 +76,7 @@ mod tests {
 
     #[test]
     fn bad_lists_are_refused() {
-        let ones = vec![1.0; 257];
+        let ones = vec![1.0; SHARE_LISTS + 1];
         assert_eq!(shares(&ones[..256], &[1; 256]).map(|pooled| pooled.above), Ok(share(1, 1)));
         for (stored, lengths) in [
             (&ones[..0], &[][..]),
@@ -95,9 +96,9 @@ mod tests {
 
     #[test]
     fn a_list_has_at_most_two_to_the_24_entries() {
-        let mut stored = vec![0.25; (1 << 24) + 1];
+        let mut stored = vec![0.25; SHARE_ENTRIES + 1];
         stored[77] = -0.75;
-        assert_eq!(shares(&stored, &[(1 << 24) + 1]), Err(Refusal::Shares));
+        assert_eq!(shares(&stored, &[SHARE_ENTRIES + 1]), Err(Refusal::Shares));
         let pooled = shares(&stored[..1 << 24], &[1 << 24]).unwrap();
         assert_eq!((pooled.below, pooled.half), (share(1, 1 << 24), share(1, 1 << 24)));
         assert_eq!(pooled.above, share((1 << 24) - 1, 1 << 24));

@@ -14,10 +14,12 @@ mod json;
 mod marks;
 mod options;
 mod output;
+mod percent;
 mod plot;
 mod progress;
 mod record;
 mod sha256;
+mod shares;
 mod sheet;
 mod source;
 mod text;
@@ -39,6 +41,9 @@ use trouble::Trouble;
 fn make(options: &Options) -> Result<String, Trouble> {
     if options.edges {
         return edges::listed(options);
+    }
+    if options.shares {
+        return shares::listed(options);
     }
     let mut board = Board::new(options)?;
     for warning in explained::warnings(options) {

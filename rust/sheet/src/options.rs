@@ -56,6 +56,8 @@ pub struct Options {
     pub wanted: Wanted,
     /// The strip's edges are asked for, and no pairs.
     pub edges: bool,
+    /// The shares of the configurations are asked for, and no mean squares.
+    pub shares: bool,
     pub per_element: bool,
     /// No backward vector is kept for pairs nearer than the window.
     pub less_room: bool,
@@ -92,6 +94,7 @@ struct Written {
     seed: Option<u64>,
     enumerate: bool,
     edges: bool,
+    shares: bool,
     sample: Option<usize>,
     chunks: Option<(u64, u64)>,
     threads: Option<usize>,
@@ -180,6 +183,7 @@ impl Written {
             "--linear" => &mut self.linear,
             "--enumerate" => &mut self.enumerate,
             "--edges" => &mut self.edges,
+            "--shares" => &mut self.shares,
             "--less-room" => &mut self.less_room,
             "--tester" => &mut self.tester,
             "--house" => &mut self.house,
@@ -260,12 +264,28 @@ impl Written {
             ("--less-room", self.less_room),
             ("--tester", self.tester),
             ("--house", self.house),
+            ("--shares", self.shares),
         ];
         if let Some((name, _)) = given.iter().find(|g| g.1) {
             return Err(Trouble::asked(format!("--edges and {name} cannot be combined: the edges do not depend on it")));
         }
         match self.format {
             Some(Format::Json | Format::Svg) => Err(Trouble::asked("--edges is told as text or csv")),
+            _ => Ok(()),
+        }
+    }
+
+    /// Shares are of all configurations, and whole numbers.
+    fn only_shares(&self) -> Result<(), Trouble> {
+        let given = [("--signs", self.signs.is_some()), ("--sample", self.sample.is_some()), ("--seed", self.seed.is_some())];
+        if let Some((name, _)) = given.iter().find(|g| g.1) {
+            return Err(Trouble::asked(format!("--shares and {name} cannot be combined: shares are of all configurations")));
+        }
+        if self.bits {
+            return Err(Trouble::asked("--shares and --bits cannot be combined: shares are fractions of whole numbers"));
+        }
+        match self.format {
+            Some(Format::Svg) => Err(Trouble::asked("--shares is told as text, csv or json")),
             _ => Ok(()),
         }
     }
@@ -281,6 +301,9 @@ impl Written {
             self.only_edges()?;
             self.betas = Some(Vec::new());
         }
+        if self.shares {
+            self.only_shares()?;
+        }
         Ok(Options {
             wanted: self.wanted()?,
             kind: needed(self.kind, "--kind", "square, tri, honey or eight")?,
@@ -291,6 +314,7 @@ impl Written {
             betas: needed(self.betas, "--beta", "inverse temperatures, as 0.44,0.6")?,
             pairs: self.pairs,
             edges: self.edges,
+            shares: self.shares,
             per_element: self.per_element.unwrap_or(false),
             less_room: self.less_room,
             tester: self.tester,
@@ -362,6 +386,12 @@ mod tests {
             ("--bits=1", "--bits takes no value"),
             ("--less-room=yes", "--less-room takes no value"),
             ("--house=1", "--house takes no value"),
+            ("--shares=1", "--shares takes no value"),
+            ("--shares --signs ++", "--shares and --signs cannot be combined: shares are of all configurations"),
+            ("--shares --sample 5 --seed 2", "--shares and --sample cannot be combined: shares are of all configurations"),
+            ("--shares --seed 2", "--shares and --seed cannot be combined: shares are of all configurations"),
+            ("--shares --bits", "--shares and --bits cannot be combined: shares are fractions of whole numbers"),
+            ("--shares --format svg", "--shares is told as text, csv or json"),
             ("--manner", "--manner needs a value; sheet --help tells which"),
             ("--colour red", "there is no option --colour; sheet --help tells them"),
             ("3", "there is no option 3; sheet --help tells them"),
@@ -374,6 +404,7 @@ mod tests {
             ("--seed 3", "--edges and --seed cannot be combined: the edges do not depend on it"),
             ("--less-room", "--edges and --less-room cannot be combined: the edges do not depend on it"),
             ("--house", "--edges and --house cannot be combined: the edges do not depend on it"),
+            ("--shares", "--edges and --shares cannot be combined: the edges do not depend on it"),
             ("--format json", "--edges is told as text or csv"),
             ("--threads 2", "--threads is for drawn configurations; give --sample too"),
         ] {
