@@ -1,6 +1,6 @@
 -- Euclid's rule finds the greatest common divisor, and a reduced fraction is the one in lowest terms.
 use mathlib.Core.Path.{_≡_, refl}
-use Prim.Native.Nat.{ℕ, _*_, _%_, _<_}
+use Prim.Native.Nat.{ℕ, _%_, _<_}
 use native.Mathlib.Nat.{eq-one-of-dvd-one}
 use native.Mathlib.Omega.{arith}
 use Rattle.euclid.specs.declared.Fraction.{Fraction}

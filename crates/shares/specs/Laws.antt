@@ -5,4 +5,5 @@ pub mod Lists
 pub mod Cases
 pub mod Runs
 pub mod One
+pub mod Equal
 pub mod Examples

@@ -1,24 +1,25 @@
 -- What an answer says of the lists that were lent.
-use mathlib.Core.Path.{_≡_, refl, sym, ap, _∙_}
-use mathlib.Core.Bool.{Bool, true, false, cond}
-use mathlib.Core.List.{List}
+use mathlib.Core.Path.{_≡_, sym, ap, _∙_}
+use mathlib.Core.Bool.{Bool, true, false}
+use mathlib.Core.List.{List, [], _∷_}
 use Prim.Native.Nat.{ℕ, _+_, _*_, _≤_, _<_, _^_}
 use native.Mathlib.Omega.{arith}
 use lib.Ieee.{Float}
-use lib.ListN.{length}
+use lib.ListN.{length, replicate}
 use Rattle.list_laws.specs.Count.{count}
 use Rattle.list_laws.specs.Search.{some}
+use Rattle.list_laws.specs.Laws.Count.{count-ext}
 use Rattle.list_laws.specs.Laws.Search.{or-false}
 use Rattle.euclid.specs.declared.Fraction.{Fraction}
-use Rattle.euclid.specs.Euclid.{reduced, LowestTerms}
+use Rattle.euclid.specs.Euclid.{LowestTerms}
 use Rattle.euclid.specs.Theorems.{in-lowest-terms, only-lowest-terms}
 use Rattle.shares.specs.declared.answer.Shares.{Shares}
-use Rattle.shares.specs.declared.answer.Answer.{Answer}
 use Rattle.shares.specs.declared.answer.Answer.the-variants.{Pooled, Refused}
-use Rattle.shares.specs.Lists.{countedIn}
-use Rattle.shares.specs.Shares.{at, badEntry, isAbove, isZero, isBelow, isHalf, startOf, badLists, refuses, counted, pooled, sharesOf}
+use Rattle.shares.specs.Lists.{countedIn, sharesBy}
+use Rattle.shares.specs.Shares.{at, badEntry, isAbove, isZero, isBelow, isHalf, mostLists, mostEntries, badLists, refuses, counted, pooled, sharesOf}
 use Rattle.shares.specs.Laws.Cases.{all-kinds}
 use Rattle.shares.specs.Laws.Lists.{adds-up, some-entries, few-entries}
+use Rattle.shares.specs.Laws.Equal.{equal-lists}
 use Rattle.shares.specs.Laws.Runs.{in-lists}
 use Rattle.shares.specs.Laws.One.{one-whole, by-shares}
 
@@ -82,3 +83,18 @@ module _ (stored : List Float) (lengths : List ℕ) where
         let l = lowest-terms in
         one-whole (counted isAbove stored) (counted isZero stored) (counted isBelow stored) (length stored) _ _ _ _ _ _
         (entries .0) tops-add-up (l .above .same) (l .zeros .same) (l .below .same)
+
+-- Good lists of one length are not refused,
+pub equal-lists-answered : (stored : List Float) (lists entries : ℕ) → 0 < lists → lists ≤ mostLists → 0 < entries → entries ≤ mostEntries
+    → length stored ≡ lists * entries → ((i : ℕ) → i < lists * entries → badEntry (at stored i) ≡ false)
+    → sharesOf stored (replicate lists entries) ≡ Pooled (pooled stored)
+equal-lists-answered stored lists entries l m e f n g = answered stored (replicate lists entries) (equal-lists lists entries stored l m e f n g)
+
+-- and one list has the shares of the rule that gives its entries.
+pub by-rule : (entry : ℕ → Float) (n : ℕ) (list : List Float) → 0 < n → n ≤ mostEntries → length list ≡ n
+    → ((i : ℕ) → i < n → at list i ≡ entry i) → ((i : ℕ) → i < n → badEntry (entry i) ≡ false) → sharesOf list (n ∷ []) ≡ Pooled (sharesBy entry n)
+by-rule entry n list h m e r g =
+    let one : 1 * n ≡ n = omega arith in
+    let same : (test : Float → Bool) → counted test list ≡ count (λ i. test (entry i)) n = λ test. rw e (count-ext _ _ n (λ i l. ap test (r i l))) in
+    equal-lists-answered list 1 n (omega arith) (omega arith) h m (e ∙ sym one) (λ i l. rw (r i (omega arith)) (g i (omega arith)))
+    ∙ ap Pooled (rw (same isAbove, same isZero, same isBelow, same isHalf, e))

@@ -1,11 +1,11 @@
 -- The reduced fraction is the one in lowest terms.
-use mathlib.Core.Path.{_≡_, refl, sym, ap, _∙_}
-use Prim.Native.Nat.{ℕ, zero, suc, _*_, _/_, _≤_, _<_, _∣_}
-use native.Mathlib.Nat.{dvd-refl, dvd-mul-left, dvd-mul-right, dvd-antisymm, div-mul-cancel, mul-dvd-mul-right, mul-comm, one-mul, zero-mul, pos-of-dvd-of-pos, eq-of-mul-eq-mul-right, eq-one-of-dvd-one, dvd-of-mul-dvd-mul-right}
+use mathlib.Core.Path.{_≡_, sym, ap, _∙_}
+use Prim.Native.Nat.{ℕ, zero, suc, _*_, _/_, _<_, _∣_}
+use native.Mathlib.Nat.{dvd-mul-left, dvd-mul-right, dvd-antisymm, div-mul-cancel, mul-dvd-mul-right, one-mul, zero-mul, pos-of-dvd-of-pos, eq-of-mul-eq-mul-right, eq-one-of-dvd-one, dvd-of-mul-dvd-mul-right}
 use native.Mathlib.Omega.{arith}
 use Rattle.euclid.specs.declared.Fraction.{Fraction}
-use Rattle.euclid.specs.Euclid.{Greatest, gcd, reduced, LowestTerms}
-use Rattle.euclid.specs.Laws.Turns.{gcd-greatest, gcd-scaled, one-greatest}
+use Rattle.euclid.specs.Euclid.{gcd, reduced, LowestTerms}
+use Rattle.euclid.specs.Laws.Turns.{gcd-greatest, gcd-scaled}
 
 positive-left : (x y : ℕ) → 0 < x * y → 0 < x
 positive-left zero y h = absurd (omega (arith, zero-mul y))

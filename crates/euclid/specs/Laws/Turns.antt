@@ -1,6 +1,6 @@
 -- Euclid's rule gives the greatest common divisor, also of two numbers that have one more factor.
-use mathlib.Core.Path.{_≡_, refl, sym, ap, _∙_}
-use Prim.Native.Nat.{ℕ, zero, suc, _+_, _*_, _/_, _%_, _≤_, _<_, _∣_}
+use mathlib.Core.Path.{_≡_, sym, ap, _∙_}
+use Prim.Native.Nat.{ℕ, zero, suc, _+_, _*_, _/_, _%_, _≤_, _<_}
 use native.Mathlib.Nat.{dvd-refl, dvd-zero, dvd-add, dvd-mul-left-of-dvd, dvd-add-iff-right, dvd-antisymm, div-add-mod', mod-lt, mul-one, zero-mul}
 use native.Mathlib.Decide.{ℕ-discrete}
 use native.Mathlib.Omega.{arith}

@@ -1,7 +1,6 @@
 -- By the answer's case.
-use mathlib.Core.Path.{refl, sym, ap, _∙_}
+use mathlib.Core.Path.{refl, sym, _∙_}
 use borrow.Author.Needs.{needs}
-use Rattle.shares.specs.Shares.{numberOf, wordsIn}
 use Rattle.export_shares.proofs.copperhook_shares.Statement.{statement}
 use Rattle.export_shares.proofs.copperhook_shares.Tie as tie
 

@@ -1,15 +1,14 @@
 -- Computed facts that rule out wrong readings.
 use mathlib.Core.Path.{_≡_, refl}
 use mathlib.Core.Bool.{true, false}
-use mathlib.Core.List.{List, [], _∷_}
-use Prim.Native.Nat.{ℕ, suc, _^_}
-use lib.Ieee.{Float, nan, inf, binary64, ofBits, neg, lt, le, eq}
+use mathlib.Core.List.{[], _∷_}
+use Prim.Native.Nat.{suc, _^_}
+use lib.Ieee.{nan, inf, binary64, ofBits, neg, lt, le, eq}
 use lib.ListN.{replicate}
 use Rattle.list_laws.specs.Count.{count}
 use Rattle.list_laws.specs.Search.{some}
-use Rattle.euclid.specs.declared.Fraction.{Fraction}
 use Rattle.euclid.specs.Euclid.{turns, gcd, reduced}
-use Rattle.shares.specs.declared.answer.Answer.the-variants.{Pooled, Refused}
+use Rattle.shares.specs.declared.answer.Answer.the-variants.{Pooled}
 use Rattle.shares.specs.Shares.{+0·0, +0·5, +1·0, startOf, badLists, sharesOf, numberOf, wordsOf, pooled}
 
 -- [1.0] and [0.0, 0.0]: 1/3 is above zero, not the mean of 1 and 0

@@ -5,9 +5,9 @@ use Prim.Native.Nat.{ℕ, _+_, _*_}
 use native.Mathlib.Nat.{zero-mul}
 use native.Mathlib.Decide.{ℕ-discrete}
 use native.Mathlib.Omega.{arith}
-use lib.Dec.{eqb, ltb}
+use lib.Dec.{ltb}
 use borrow.Author.Tests.{eq-eqb, ne-eqb, lt-ltb, le-ltb}
-use lib.Ieee.{level, Float, nan, inf, fin, up, down, binary64, ofBits, lt, eq, le, neg}
+use lib.Ieee.{level, Float, nan, inf, fin, up, down, ofBits, lt, eq, le, neg}
 use Rattle.shares.specs.Shares.{isAbove, isZero, isBelow, badEntry}
 
 abbrev one : Bool → ℕ

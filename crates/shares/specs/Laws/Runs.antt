@@ -2,7 +2,7 @@
 use mathlib.Core.Path.{_≡_, refl, sym, ap, _∙_}
 use mathlib.Core.Bool.{Bool}
 use mathlib.Core.List.{List}
-use Prim.Native.Nat.{ℕ, zero, suc, _+_, _≤_, _<_}
+use Prim.Native.Nat.{ℕ, zero, suc, _+_, _≤_}
 use native.Mathlib.Omega.{arith}
 use lib.Ieee.{Float, nan}
 use lib.ListN.{length, getD}
@@ -10,7 +10,7 @@ use Rattle.list_laws.specs.Count.{count}
 use Rattle.list_laws.specs.Part.{part}
 use Rattle.list_laws.specs.Laws.Count.{count-ext}
 use Rattle.list_laws.specs.Laws.Part.{part-length, part-at}
-use Rattle.shares.specs.Lists.{listOf, countedIn}
+use Rattle.shares.specs.Lists.{countedIn}
 use Rattle.shares.specs.Shares.{at, startOf, counted}
 use Rattle.shares.specs.Laws.Counting.{count-run}
 
