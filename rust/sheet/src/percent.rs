@@ -53,7 +53,7 @@ mod tests {
     fn three_add_up() {
         let spell = |shares: [(u64, u64); 3]| adding_up(shares.map(|(top, bottom)| share(top, bottom))).map(spelled);
         assert_eq!(spell([(1, 3), (1, 3), (1, 3)]), ["33.34", "33.33", "33.33"]);
-        assert_eq!(spell([(1, 6), (1, 6), (2, 3)]), ["16.67", "16.66", "66.67"]);
+        assert_eq!(spell([(1, 6), (1, 6), (2, 3)]), ["16.67", "16.67", "66.66"]);
         assert_eq!(spell([(1, 1), (0, 1), (0, 1)]), ["100.00", "0.00", "0.00"]);
         assert_eq!(spell([(1, 1 << 24), (0, 1), ((1 << 24) - 1, 1 << 24)]), ["0.00", "0.00", "100.00"]);
         for all in 1..60u64 {
