@@ -7,7 +7,7 @@ pub struct Fraction {
     pub bottom: u64,
 }
 
-// The remainder falls at each call: at most 92 calls of u64.
+// The remainder falls at each call: fewer than 100 calls for any two words.
 pub fn gcd(a: u64, b: u64) -> u64
     ensures { λ r. ⌜ r ≡ gcd a b ⌝ }
 {
