@@ -24,6 +24,7 @@ abbrev pub +1·0 : Float
 
 -- ---- an entry
 
+-- above zero
 abbrev pub isAbove : Float → Bool
 isAbove x = lt +0·0 x
 
@@ -31,6 +32,7 @@ isAbove x = lt +0·0 x
 abbrev pub isZero : Float → Bool
 isZero x = eq x +0·0
 
+-- below zero
 abbrev pub isBelow : Float → Bool
 isBelow x = lt x +0·0
 
@@ -42,11 +44,13 @@ isHalf x = le +0·5 x || le x (neg +0·5)
 abbrev pub badEntry : Float → Bool
 badEntry x = not (le (neg +1·0) x && le x +1·0)
 
+-- entry i of all lists
 abbrev pub at : List Float → ℕ → Float
 at stored i = getD stored i nan
 
 -- ---- the lists
 
+-- the most lists, and the most entries of one
 abbrev pub mostLists : ℕ
 mostLists = 256
 
@@ -83,22 +87,27 @@ abbrev pub fractions : (above zeros below halves entries : ℕ) → Shares
 fractions above zeros below halves entries =
     record { above = reduced above entries; zero = reduced zeros entries; below = reduced below entries; half = reduced halves entries }
 
+-- the shares of all lists: such entries over all entries
 abbrev pub pooled : List Float → Shares
 pooled stored = fractions (counted isAbove stored) (counted isZero stored) (counted isBelow stored) (counted isHalf stored) (length stored)
 
+-- the answer
 unfoldable pub sharesOf : List Float → List ℕ → Answer
 sharesOf stored lengths = cond (refuses stored lengths) (Refused 25) (Pooled (pooled stored))
 
--- ---- an answer's number, 0 for accepted, and its values as the eight words that it leaves where `old` stood
+-- ---- an answer's number and values, case by case
 
+-- 0 for accepted
 abbrev pub numberOf : Answer → ℕ
 numberOf (Pooled s) = 0
 numberOf (Refused k) = k
 
+-- four shares as eight words, the top and the bottom of each
 abbrev pub wordsOf : Shares → List ℕ
 wordsOf s =
     s .above .top ∷ s .above .bottom ∷ s .zero .top ∷ s .zero .bottom ∷ s .below .top ∷ s .below .bottom ∷ s .half .top ∷ s .half .bottom ∷ []
 
+-- what an answer leaves where the words `old` stood
 abbrev pub wordsIn : Answer → List ℕ → List ℕ
 wordsIn (Pooled s) old = wordsOf s
 wordsIn (Refused k) old = old

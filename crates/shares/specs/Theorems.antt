@@ -1,5 +1,5 @@
 -- What an answer says of the lists that were lent.
-use mathlib.Core.Path.{_≡_, sym, ap, _∙_}
+use mathlib.Core.Path.{_≡_, refl, sym, ap, _∙_}
 use mathlib.Core.Bool.{Bool, true, false}
 use mathlib.Core.List.{List, [], _∷_}
 use Prim.Native.Nat.{ℕ, _+_, _*_, _≤_, _<_, _^_}
@@ -83,6 +83,18 @@ module _ (stored : List Float) (lengths : List ℕ) where
         let l = lowest-terms in
         one-whole (counted isAbove stored) (counted isZero stored) (counted isBelow stored) (length stored) _ _ _ _ _ _
         (entries .0) tops-add-up (l .above .same) (l .zeros .same) (l .below .same)
+
+  -- an answer of shares comes of lists that are not refused, and has their shares
+  pub accepted : (s : Shares) → sharesOf stored lengths ≡ Pooled s → (refuses stored lengths ≡ false) × (s ≡ pooled stored)
+  accepted s e = go (refuses stored lengths) refl
+    where
+      go : (b : Bool) → refuses stored lengths ≡ b → (refuses stored lengths ≡ false) × (s ≡ pooled stored)
+      go true h = absurd (let r = refused h in let z : _≡_ {A = ℕ} 0 1 = cc in omega arith)
+      go false h = (h, (let a = answered h in cc))
+
+  -- so whatever shares are answered are in lowest terms, and the first three add to one
+  pub answered-exactly : (s : Shares) → sharesOf stored lengths ≡ Pooled s → InLowestTerms stored s × AddToOne (s .above) (s .zero) (s .below)
+  answered-exactly s e = let (h, is) = accepted s e in rw is (lowest-terms h, add-to-one h)
 
 -- Good lists of one length are not refused,
 pub equal-lists-answered : (stored : List Float) (lists entries : ℕ) → 0 < lists → lists ≤ mostLists → 0 < entries → entries ≤ mostEntries

@@ -27,10 +27,11 @@ what is asked of it
                              or free, with its bit of a configuration's number; as text or csv. With --bits the bits
                              of the magnitude too
     --shares                 with --enumerate, up to 24 free edges: what part of the configurations couples each pair
-                             positively (above), not at all (zero), negatively (below), and by 1/2 or more in size (half),
-                             and the same of all pairs of a beta pooled. Exact fractions in lowest terms, of which the
-                             first three add to one, and percentages, of which they add to 100: each rounded down to
-                             hundredths, what is missing goes to those that lost most. As text, csv or json
+                             positively (above), not at all (zero), negatively (below), and by 1/2 or more in size
+                             (half), and the same of all pairs of a beta pooled. Exact fractions in lowest terms, of
+                             which the first three add to one, and percentages, of which they add to 100: each is
+                             rounded down to hundredths, and what is missing goes to those that lost most. As text,
+                             csv or json
     --manner M               block (the default) or element: how often a sweep is rescaled; the last bits depend on it
     --less-room              with less work memory: of pairs nearer than the window no backward vector is kept. Where
                              the memory is too little without it, it is taken by itself, and standard error says so.
