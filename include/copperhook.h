@@ -8,8 +8,8 @@
  * written is not.
  *
  * What a caller owes:
- *   - Every pointer is aligned and not NULL, that of an empty list too, and points to as many elements as its list has: `state` to four, a
- *     `name` that is written to six, one through which a value goes out to one.
+ *   - Every pointer is aligned and not NULL, that of an empty list too, and points to as many elements as its list has: `state` to four,
+ *     `shares` to eight, a `name` that is written to six, one through which a value goes out to one.
  *   - What is written overlaps no other argument of the call. Before the call returns nobody else touches it, or writes what is read.
  *   - The calling thread has C's default floating-point environment: rounding to the nearest, no traps, and neither flush-to-zero nor
  *     denormals-are-zero. gcc turns the last two on in a program that is linked with -ffast-math or -Ofast, and before gcc 13 in one that
@@ -41,7 +41,7 @@ extern "C" {
 
 /*
  * Why a call is refused, in checking order; but 24 stands right behind 2, 21 between 4 and 5, 22 right behind 6 for the window and right
- * behind 9 for free edges, 23 in the place of 10, and calls for strips check 15 to 17 before 12.
+ * behind 9 for free edges, 23 in the place of 10, and calls for strips check 15 to 17 before 12. 25 is that of copperhook_shares alone.
  */
 enum copperhook_refusal {
     COPPERHOOK_ACCEPTED = 0,
@@ -66,7 +66,9 @@ enum copperhook_refusal {
     COPPERHOOK_BETAS = 21,          /* the betas do not rise strictly; asked between 4 and 5 */
     COPPERHOOK_TESTER_LIMIT = 22,   /* in the tester's calls: the window is above 12, or all signs of over 16 free edges are gone through */
     COPPERHOOK_COUPLINGS = 23,      /* of house factors: the couplings have another length, or one is no multiple of 1/128 from -4 to 4 */
-    COPPERHOOK_EDGE_PLACE = 24      /* of a preview: no edge is at that place; asked right behind 2 */
+    COPPERHOOK_EDGE_PLACE = 24,     /* of a preview: no edge is at that place; asked right behind 2 */
+    COPPERHOOK_SHARES = 25          /* of shares: no list or over 256, one empty or longer than 2^24, lengths that do not add up to what is
+                                       lent, or an entry that is not from -1 to 1 */
 };
 
 /* The most of each that a job may have, and how much a standard pair set takes at most. */
@@ -78,6 +80,9 @@ enum copperhook_limit {
     COPPERHOOK_MOST_WINDOW = 24,
     COPPERHOOK_TESTER_WINDOW = 12,
     COPPERHOOK_TESTER_FREE = 16,
+    COPPERHOOK_STORED_FREE = 24,
+    COPPERHOOK_SHARE_LISTS = 256,
+    COPPERHOOK_SHARE_ENTRIES = 16777216,
     COPPERHOOK_STANDARD_PAIRS = 18,
     COPPERHOOK_LABEL_BYTES = 306
 };
@@ -213,6 +218,16 @@ size_t copperhook_estimate(size_t count, double squares, double fourths, bool *e
  */
 size_t copperhook_estimates(size_t count, const double *squares, size_t squares_len, const double *fourths, size_t fourths_len,
                             double *means, size_t means_len, double *errors, size_t errors_len);
+
+/*
+ * What part of stored correlations is above zero, zero of either sign, below zero, and 1/2 or more in size. `stored` has from 1 to 256 lists
+ * end to end, as copperhook_exhaustive_c stores them or any others, and `lengths` the length of each, from 1 to 2^24; together they are as
+ * many as `stored_len`. The eight words of `shares` are top and bottom of four fractions in that order: shares[0] / shares[1] is the part
+ * above zero. Each is so many entries of all lists over all entries, in lowest terms: none is 0/1, all is 1/1. The first three add to one
+ * exactly.
+ * Refusal: 25.
+ */
+size_t copperhook_shares(const double *stored, size_t stored_len, const size_t *lengths, size_t lengths_len, uint64_t *shares);
 
 /* The square root of IEEE 754, rounded to the nearest, of any double. No call is refused. */
 double copperhook_sqrt(double x);

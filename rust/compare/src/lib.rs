@@ -17,6 +17,7 @@ mod guarded;
 mod house;
 mod previews;
 mod shapes;
+mod shares;
 mod spoils;
 mod strips;
 mod totals;
@@ -50,6 +51,7 @@ pub const GROUPS: &[Group] = &[
     Group { name: "wide", share: 0.0, refusals: &[], try_one: correlations::try_wide },
     Group { name: "house", share: 4.0, refusals: &[1, 2, 3, 4, 5, 6, 7, 8, 9, 11, 12, 13, 21, 22, 23], try_one: house::try_one },
     Group { name: "previews", share: 1.0, refusals: &[1, 2, 3, 4, 5, 6, 7, 8, 21, 24], try_one: previews::try_one },
+    Group { name: "shares", share: 1.0, refusals: &[25], try_one: shares::try_one },
 ];
 
 /// How long a group is run.

@@ -2,7 +2,7 @@
 
 use compare::{line, run, Until, GROUPS};
 
-const JOBS: [(&str, u64); 11] = [
+const JOBS: [(&str, u64); 12] = [
     ("generators", 150_000),
     ("graphs", 12_000),
     ("strips", 50_000),
@@ -14,6 +14,7 @@ const JOBS: [(&str, u64); 11] = [
     ("accuracies", 20_000),
     ("house", 40_000),
     ("previews", 20_000),
+    ("shares", 40_000),
 ];
 
 #[test]

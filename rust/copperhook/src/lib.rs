@@ -83,6 +83,7 @@ mod numbered;
 mod options;
 mod refusal;
 mod rng;
+mod shares;
 mod strip;
 pub mod sys;
 
@@ -95,6 +96,7 @@ pub use lists::{EdgeList, Factors, KeptList, LabelledPair};
 pub use options::{Arrangement, Caller, Manner, Options};
 pub use refusal::Refusal;
 pub use rng::Rng;
+pub use shares::{shares, Share, Shares};
 pub use strip::{Dilution, Strip};
 
 /// The path of the archive that these bindings are linked with.

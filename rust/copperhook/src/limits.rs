@@ -14,6 +14,12 @@ pub const WINDOW: usize = 24;
 pub const TESTER_WINDOW: usize = 12;
 /// The most free edges of a call of the bench tester's that goes through all configurations.
 pub const TESTER_FREE: usize = 16;
+/// The most free edges of a call that stores every correlation.
+pub const STORED_FREE: usize = 24;
+/// The most lists of a call for shares.
+pub const SHARE_LISTS: usize = 256;
+/// The most entries of one of these lists.
+pub const SHARE_ENTRIES: usize = 1 << 24;
 /// The most pairs of a standard pair set.
 pub const STANDARD_PAIRS: usize = 18;
 /// The most bytes that the labels of a standard pair set take, each with the zero byte behind it.

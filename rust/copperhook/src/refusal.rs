@@ -5,7 +5,7 @@ use std::fmt;
 
 numbered! {
     /// Why a call is refused. The numbers follow the order of the checks, but that strips check 15 to 17 before 12, 24 stands right
-    /// behind 2, 21 between 4 and 5, 22 right behind 6 for the window and right behind 9 for free edges, and 23 in the place of 10: of
+    /// behind 2, 21 between 4 and 5, 22 right behind 6 for the window and right behind 9 for free edges, and 23 in the place of 10; 25 is that of shares alone. Of
     /// several reasons that fit, the first is returned.
     pub enum Refusal;
 
@@ -37,6 +37,7 @@ numbered! {
     Couplings = 23, "the couplings for house factors have another length, or one isn't a multiple of 1/128 from -4 to 4";
     /// Places count from 0, dropped edges too: [`Job::preview`](crate::Job::preview).
     EdgePlace = 24, "no edge is at that place";
+    Shares = 25, "there is no list or over 256, a list is empty or longer than 2^24, the lengths don't add up to what is lent, or an entry isn't from -1 to 1";
 }
 
 impl Refusal {

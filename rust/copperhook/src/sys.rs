@@ -211,6 +211,9 @@ extern "C" {
         errors_len: usize,
     ) -> usize;
 
+    /// The shares of stored correlations: eight words, top and bottom of each.
+    pub fn copperhook_shares(stored: *const f64, stored_len: usize, lengths: *const usize, lengths_len: usize, shares: *mut u64) -> usize;
+
     /// The square root of IEEE 754.
     pub fn copperhook_sqrt(x: f64) -> f64;
 

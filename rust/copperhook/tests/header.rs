@@ -139,6 +139,9 @@ fn header_and_bindings_have_the_same_limits() {
         ("MOST_WINDOW", limits::WINDOW),
         ("TESTER_WINDOW", limits::TESTER_WINDOW),
         ("TESTER_FREE", limits::TESTER_FREE),
+        ("STORED_FREE", limits::STORED_FREE),
+        ("SHARE_LISTS", limits::SHARE_LISTS),
+        ("SHARE_ENTRIES", limits::SHARE_ENTRIES),
         ("STANDARD_PAIRS", limits::STANDARD_PAIRS),
         ("LABEL_BYTES", limits::LABEL_BYTES),
     ];
@@ -211,4 +214,9 @@ fn house_lines() -> Result<String, Refusal> {
 #[test]
 fn a_c_program_by_house_factors_prints_what_the_bindings_answer() {
     assert_eq!(printed_by("house", &[]), house_lines().unwrap());
+}
+
+#[test]
+fn a_c_program_prints_shares_and_a_refused_call_leaves_them() {
+    assert_eq!(printed_by("shares", &[]), "0 1 2 1 3 1 6 1 3\n25 7 7 7 7 7 7 7 7\n");
 }

@@ -30,7 +30,7 @@ pub fn foot(sheet: &Sheet) -> String {
 }
 
 /// Two digits, rounded up.
-fn above(bound: f64) -> String {
+pub fn above(bound: f64) -> String {
     let nearest = format!("{bound:.1e}");
     if nearest.parse::<f64>().is_ok_and(|x| x >= bound) {
         return nearest;

@@ -25,6 +25,16 @@ impl Board {
         }
     }
 
+    /// The correlations at beta i of all configurations, pair after pair, and how many configurations there are.
+    pub fn exhaustive_c(&self, i: usize, stored: &mut [f64], work: &mut [f64]) -> Result<usize, Refusal> {
+        let (job, beta) = (self.job(), &self.betas[i..=i]);
+        if self.house {
+            job.house_exhaustive_c(beta, self.options, stored, work)
+        } else {
+            job.exhaustive_c(beta, self.factors_at(i), self.options, stored, work)
+        }
+    }
+
     /// The sums over drawn configurations at the betas of these places, and how many there are.
     pub fn sample(
         &self,

@@ -113,6 +113,17 @@ pub fn work_memory(board: &mut Board, threads: usize) -> Result<Vec<f64>, Troubl
     })
 }
 
+/// Memory for the correlations of all pairs and configurations at one beta; a sentence where it does not fit this machine's.
+pub fn stored_memory(board: &Board) -> Result<Vec<f64>, Trouble> {
+    let (pairs, all) = (board.pairs.len(), board.pairs.len() << board.free);
+    allocated(all, 1).map_err(|lacking| {
+        let (free, needed) = (board.free, size(bytes(all, 1)));
+        Trouble::Machine(format!(
+            "{pairs} pairs of 2^{free} configurations: their correlations are {needed}, {lacking}; ask for fewer pairs with --pairs"
+        ))
+    })
+}
+
 pub fn bytes(room: usize, threads: usize) -> f64 {
     8.0 * room as f64 * threads as f64
 }

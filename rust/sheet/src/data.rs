@@ -46,7 +46,7 @@ pub fn json(sheet: &Sheet) -> String {
     )
 }
 
-fn json_field(field: &Field) -> String {
+pub fn json_field(field: &Field) -> String {
     match field {
         Field::Text(text) => string(text),
         Field::Number(number) => number.clone(),
@@ -69,7 +69,7 @@ fn json_row(sheet: &Sheet, row: &Row) -> String {
 }
 
 /// Quoted; control characters, quotes and backslashes by their escapes.
-fn string(text: &str) -> String {
+pub fn string(text: &str) -> String {
     let escaped: String = text
         .chars()
         .map(|c| match c {

@@ -28,6 +28,12 @@ what is asked of it
                              ends and magnitude, whether it is kept or dropped, and if kept, whether it is a tree edge
                              or free, with its bit of a configuration's number; as text or csv. With --bits the bits
                              of the magnitude too
+    --shares                 with --enumerate, up to 24 free edges: what part of the configurations couples each pair
+                             positively (above), not at all (zero), negatively (below), and by 1/2 or more in size
+                             (half), and the same of all pairs of a beta pooled. Exact fractions in lowest terms, of
+                             which the first three add to one, and percentages, of which they add to 100: each is
+                             rounded down to hundredths, and what is missing goes to those that lost most. As text,
+                             csv or json
     --manner M               block (the default) or element: how often a sweep is rescaled; the last bits depend on it
     --less-room              with less work memory: of pairs nearer than the window no backward vector is kept. Where
                              the memory is too little without it, it is taken by itself, and standard error says so.
@@ -89,6 +95,7 @@ examples
     sheet --kind honey --width 4 --length 5 --dilute 0.9,0.5,1.5,11 --edges
     sheet preview --kind honey --width 4 --length 5 --dilute 0.9,0.5,1.5,11 --beta 0.44,0.6 --drop all
     sheet --kind square --width 4 --length 6 --beta 0.4375,0.6015625 --house
+    sheet --kind square --width 4 --length 5 --beta 0.44 --enumerate --shares
     sheet verify board.csv
     sheet --kind square --width 8 --length 12 --beta 0.2,0.44,0.8 --signs plus --format svg --output plot.svg
 

@@ -14,11 +14,13 @@ mod json;
 mod marks;
 mod options;
 mod output;
+mod percent;
 mod plot;
 mod preview;
 mod progress;
 mod record;
 mod sha256;
+mod shares;
 mod sheet;
 mod source;
 mod text;
@@ -43,6 +45,9 @@ fn make(options: &Options) -> Result<String, Trouble> {
     }
     if let Some(dropped) = &options.dropped {
         return preview::told(options, dropped);
+    }
+    if options.shares {
+        return shares::listed(options);
     }
     let mut board = Board::new(options)?;
     for warning in explained::warnings(options) {

@@ -68,6 +68,8 @@ pub struct Options {
     pub dropped: Option<Dropped>,
     /// The least window of a preview; the whole strip's where it is not told.
     pub floor: Option<usize>,
+    /// The shares of the configurations are asked for, and no mean squares.
+    pub shares: bool,
     pub per_element: bool,
     /// No backward vector is kept for pairs nearer than the window.
     pub less_room: bool,
@@ -107,6 +109,7 @@ struct Written {
     preview: bool,
     dropped: Option<Dropped>,
     floor: Option<usize>,
+    shares: bool,
     sample: Option<usize>,
     chunks: Option<(u64, u64)>,
     threads: Option<usize>,
@@ -195,6 +198,7 @@ impl Written {
             "--linear" => &mut self.linear,
             "--enumerate" => &mut self.enumerate,
             "--edges" => &mut self.edges,
+            "--shares" => &mut self.shares,
             "--less-room" => &mut self.less_room,
             "--tester" => &mut self.tester,
             "--house" => &mut self.house,
@@ -277,6 +281,7 @@ impl Written {
             ("--less-room", self.less_room),
             ("--tester", self.tester),
             ("--house", self.house),
+            ("--shares", self.shares),
         ];
         if let Some((name, _)) = given.iter().find(|g| g.1) {
             return Err(Trouble::asked(format!("--edges and {name} cannot be combined: the edges do not depend on it")));
@@ -309,6 +314,21 @@ impl Written {
         }
     }
 
+    /// Shares are of all configurations, and whole numbers.
+    fn only_shares(&self) -> Result<(), Trouble> {
+        let given = [("--signs", self.signs.is_some()), ("--sample", self.sample.is_some()), ("--seed", self.seed.is_some())];
+        if let Some((name, _)) = given.iter().find(|g| g.1) {
+            return Err(Trouble::asked(format!("--shares and {name} cannot be combined: shares are of all configurations")));
+        }
+        if self.bits {
+            return Err(Trouble::asked("--shares and --bits cannot be combined: shares are fractions of whole numbers"));
+        }
+        match self.format {
+            Some(Format::Svg) => Err(Trouble::asked("--shares is told as text, csv or json")),
+            _ => Ok(()),
+        }
+    }
+
     fn put_together(mut self) -> Result<Options, Trouble> {
         fn needed<T>(slot: Option<T>, name: &str, what: &str) -> Result<T, Trouble> {
             slot.ok_or_else(|| Trouble::asked(format!("{name} is required ({what})")))
@@ -325,6 +345,9 @@ impl Written {
             self.only_edges()?;
             self.betas = Some(Vec::new());
         }
+        if self.shares {
+            self.only_shares()?;
+        }
         Ok(Options {
             wanted: self.wanted()?,
             kind: needed(self.kind, "--kind", "square, tri, honey or eight")?,
@@ -337,6 +360,7 @@ impl Written {
             edges: self.edges,
             dropped: self.dropped,
             floor: self.floor,
+            shares: self.shares,
             per_element: self.per_element.unwrap_or(false),
             less_room: self.less_room,
             tester: self.tester,
@@ -418,6 +442,12 @@ mod tests {
             ("--bits=1", "--bits takes no value"),
             ("--less-room=yes", "--less-room takes no value"),
             ("--house=1", "--house takes no value"),
+            ("--shares=1", "--shares takes no value"),
+            ("--shares --signs ++", "--shares and --signs cannot be combined: shares are of all configurations"),
+            ("--shares --sample 5 --seed 2", "--shares and --sample cannot be combined: shares are of all configurations"),
+            ("--shares --seed 2", "--shares and --seed cannot be combined: shares are of all configurations"),
+            ("--shares --bits", "--shares and --bits cannot be combined: shares are fractions of whole numbers"),
+            ("--shares --format svg", "--shares is told as text, csv or json"),
             ("--manner", "--manner needs a value; sheet --help tells which"),
             ("--colour red", "there is no option --colour; sheet --help tells them"),
             ("3", "there is no option 3; sheet --help tells them"),
@@ -430,6 +460,7 @@ mod tests {
             ("--seed 3", "--edges and --seed cannot be combined: the edges do not depend on it"),
             ("--less-room", "--edges and --less-room cannot be combined: the edges do not depend on it"),
             ("--house", "--edges and --house cannot be combined: the edges do not depend on it"),
+            ("--shares", "--edges and --shares cannot be combined: the edges do not depend on it"),
             ("--format json", "--edges is told as text or csv"),
             ("--threads 2", "--threads is for drawn configurations; give --sample too"),
         ] {

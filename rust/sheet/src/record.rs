@@ -83,7 +83,7 @@ fn strip(strip: &Strip, [n, kept, free, window]: [usize; 4]) -> [Entry; 8] {
     ]
 }
 
-fn manner(options: &Options) -> &'static str {
+pub fn manner(options: &Options) -> &'static str {
     if options.per_element {
         "element"
     } else {
@@ -139,6 +139,7 @@ fn command(options: &Options, strip: &Strip) -> String {
         Wanted::Drawn(seed) => format!("--seed {seed}"),
         Wanted::Sampled(by) => format!("--sample {} --chunks {}..{} --seed {}", by.samples, by.from, by.to, by.seed),
     });
+    words.extend(options.shares.then(|| "--shares".to_string()));
     words.push(format!("--manner {}", manner(options)));
     words.extend(options.house.then(|| "--house".to_string()));
     words.join(" ")

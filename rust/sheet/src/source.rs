@@ -59,7 +59,7 @@ pub trait Source {
 }
 
 /// With at most so many free edges all configurations are taken, where nothing else is asked for.
-const FEW: usize = 20;
+pub const FEW: usize = 20;
 
 /// The source that the options ask for.
 pub fn chosen(options: &Options, board: &Board) -> Result<Box<dyn Source>, Trouble> {

@@ -84,14 +84,19 @@ impl Enumerated {
         }
         Ok(Enumerated { free: board.free, count: 1 << board.free })
     }
+
+    /// Which configurations they are, for a sheet's head.
+    pub fn which(&self) -> String {
+        let (count, free) = (counted(self.count, "configuration", "configurations"), counted(self.free, "free edge", "free edges"));
+        let all = if self.count == 1 { "the one" } else { "all" };
+        let count = count.strip_prefix("1 ").unwrap_or(&count);
+        format!("{all} {count} of {free}")
+    }
 }
 
 impl Source for Enumerated {
     fn title(&self) -> String {
-        let (count, free) = (counted(self.count, "configuration", "configurations"), counted(self.free, "free edge", "free edges"));
-        let all = if self.count == 1 { "the one" } else { "all" };
-        let count = count.strip_prefix("1 ").unwrap_or(&count);
-        format!("{all} {count} of {free}: {}", told(self.count))
+        format!("{}: {}", self.which(), told(self.count))
     }
 
     fn record(&self) -> [Entry; 6] {

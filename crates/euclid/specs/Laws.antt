@@ -1,0 +1,4 @@
+-- What is proved of the definitions.
+pub mod Turns
+pub mod Lowest
+pub mod Examples
