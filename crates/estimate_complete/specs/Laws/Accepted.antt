@@ -1,0 +1,86 @@
+-- What an accepted estimate has passed, and its values.
+use mathlib.Core.Path.{_≡_, refl, sym, subst}
+use mathlib.Core.Bool.{Bool, true, false, not, _&&_, cond}
+use Prim.Native.Nat.{ℕ, _^_}
+use native.Mathlib.Omega.{arith}
+use lib.Dec.{T}
+use lib.Ieee.{Float, binary64, le, ofInt}
+use lib.Ieee.Fits.{and-l, and-r}
+use lib.Ieee.Positive.{positive, positive-finite}
+use lib.Ieee.Scale.{finite}
+use borrow.Author.Tests.{not-false, ne-eqb, le-ltb}
+use Rattle.list_laws.specs.Laws.Search.{or-false}
+use Rattle.rounding.specs.Under.{nought, unit}
+use Rattle.rounding.specs.Laws.Under.{Under, div-under, positive-notMinus}
+use Rattle.rounding.specs.Laws.Whole.{whole-positive}
+use Rattle.estimate.specs.declared.answer.MeanSpread.{MeanSpread}
+use Rattle.estimate.specs.declared.answer.Estimate.the-variants.{Complete, Refused}
+use Rattle.estimate.specs.Estimates.{+0·0, number, meanOf, badCount, inOrder}
+use Rattle.estimate_complete.specs.Complete.{isComplete, Power, refusesComplete, meanSpreadOf, completeOf}
+use Rattle.estimate_complete.specs.Laws.Counted.{complete-power, few-enough, some-counted}
+use Rattle.estimate_complete.specs.Laws.Order.{zero-is, ordered-under, ascending, between-finite}
+use Rattle.estimate_complete.specs.Laws.Mean.{mean-sign}
+
+told : (b : Bool) (r e : MeanSpread) → cond b (Refused 18) (Complete r) ≡ Complete e → (b ≡ false) × (e ≡ r)
+told true r e h = absurd (let z : _≡_ {A = ℕ} 0 1 = cc in omega arith)
+told false r e h = (refl, cc)
+
+module _ (count : ℕ) (squares fourths : Float) (e : MeanSpread) (accepted : completeOf count squares fourths ≡ Complete e) where
+  passed : (refusesComplete count squares fourths ≡ false) × (e ≡ meanSpreadOf (number count) squares fourths)
+  unfolding completeOf
+  passed = told (refusesComplete count squares fourths) (meanSpreadOf (number count) squares fourths) e accepted
+
+  pub values : e ≡ meanSpreadOf (number count) squares fourths
+  values = passed .1
+
+  parts : (not (isComplete count) ≡ false) × (not (inOrder (number count) squares fourths) ≡ false)
+  parts = or-false (not (isComplete count)) (not (inOrder (number count) squares fourths)) (passed .0)
+
+  pub counted : Power count
+  counted = complete-power count (not-false _ (parts .0))
+
+  pub in-order : inOrder (number count) squares fourths ≡ true
+  in-order = not-false _ (parts .1)
+
+  -- 0 ≤ fourth powers ≤ squares ≤ count
+  ordered : T (inOrder (number count) squares fourths)
+  ordered = subst T (sym in-order) tt
+
+  pub fourths-least : T (le nought fourths)
+  fourths-least = rw zero-is at (and-l (le +0·0 fourths) (le fourths squares) (and-l (le +0·0 fourths && le fourths squares) (le squares (number count)) ordered))
+
+  fourths-below : T (le fourths squares)
+  fourths-below = and-r (le +0·0 fourths) (le fourths squares) (and-l (le +0·0 fourths && le fourths squares) (le squares (number count)) ordered)
+
+  squares-below : T (le squares (number count))
+  squares-below = and-r (le +0·0 fourths && le fourths squares) (le squares (number count)) ordered
+
+  pub squares-least : T (le nought squares)
+  squares-least = ascending fourths squares fourths-least fourths-below
+
+  pub positive-count : T (positive (number count))
+  unfolding ofInt
+  positive-count = whole-positive binary64 count (some-counted counted) (few-enough counted)
+
+  pub squares-finite : T (finite squares)
+  squares-finite = between-finite squares (number count) squares-least squares-below (positive-finite (number count) positive-count)
+
+  pub fourths-finite : T (finite fourths)
+  fourths-finite = between-finite fourths squares fourths-least fourths-below squares-finite
+
+  -- the mean is a quotient by the bound
+  pub mean-under : Under (meanOf (number count) squares) unit
+  mean-under =
+      div-under binary64
+      (ordered-under squares (number count) squares-least squares-below
+      (positive-finite (number count) positive-count) (positive-notMinus (number count) positive-count))
+      positive-count
+
+  pub mean-least : T (le nought (meanOf (number count) squares))
+  mean-least = mean-sign squares (number count) squares-least positive-count (mean-under .size tt .isFinite)
+
+  -- `estimate` does not refuse such a count
+  pub good-count : badCount count ≡ false
+  good-count =
+      let l = some-counted counted in
+      rw (ne-eqb count 0 (λ (q : count ≡ 0). omega arith), le-ltb (2 ^ 53) count (few-enough counted))

@@ -1,0 +1,57 @@
+-- What is promised of every accepted estimate of a complete enumeration, of the stored doubles and with no tolerance.
+use mathlib.Core.Path.{_≡_, refl, sym, ap, _∙_}
+use Prim.Native.Nat.{ℕ}
+use native.Mathlib.Decide.{ℕ-discrete}
+use lib.Dec.{T}
+use lib.Ieee.{Float, binary64, fits, mul, le}
+use Rattle.rounding.specs.Laws.Under.{under-le}
+use Rattle.estimate.specs.declared.answer.MeanSpread.{MeanSpread}
+use Rattle.estimate.specs.declared.answer.Estimate.the-variants.{Complete}
+use Rattle.estimate.specs.Estimates.{+0·0, +1·0, number, meanOf, estimateOf, meanIn}
+use Rattle.estimate.specs.Laws.Cases.{too-few, enough}
+use Rattle.estimate_complete.specs.Complete.{Power, varianceOf, completeOf}
+use Rattle.estimate_complete.specs.Laws.Order.{zero-is, one-is}
+use Rattle.estimate_complete.specs.Laws.Root.{spread-least}
+use Rattle.estimate_complete.specs.Laws.Accepted as Accepted
+use Rattle.estimate_complete.specs.Laws.Accepted.{values, in-order, good-count, squares-least, squares-finite, fourths-finite, mean-least, mean-under}
+use Rattle.estimate_complete.specs.Laws.Alone.{itself-over-one, no-spread}
+
+module _ (count : ℕ) (squares fourths : Float) (e : MeanSpread) (accepted : completeOf count squares fourths ≡ Complete e) where
+  -- the count is a power of two up to 2 ^ 34
+  pub counted : Power count
+  counted = Accepted.counted count squares fourths e accepted
+
+  -- the error is +0.0
+  pub no-error : e .error ≡ +0·0
+  no-error = ap (λ (x : MeanSpread). x .error) (values count squares fourths e accepted)
+
+  -- the mean lies in [0, 1]
+  pub mean-within : T (le +0·0 (e .mean)) × T (le (e .mean) +1·0)
+  mean-within =
+      rw (zero-is, one-is, values count squares fourths e accepted)
+      (mean-least count squares fourths e accepted, under-le (mean-under count squares fourths e accepted) tt)
+
+  -- and is the one that `estimate` answers
+  pub same-mean : (old : Float) → meanIn (estimateOf count squares fourths) old ≡ e .mean
+  same-mean old = go (ℕ-discrete count 1)
+    where
+      mean : e .mean ≡ meanOf (number count) squares
+      mean = ap (λ (x : MeanSpread). x .mean) (values count squares fourths e accepted)
+
+      go : Dec (count ≡ 1) → meanIn (estimateOf count squares fourths) old ≡ e .mean
+      go (yes o) = rw (← too-few count squares fourths (good-count count squares fourths e accepted) (in-order count squares fourths e accepted) o) (sym mean)
+      go (no o) = rw (← enough count squares fourths (good-count count squares fourths e accepted) (in-order count squares fourths e accepted) _ refl o) (sym mean)
+
+  -- the spread is a number, and not below zero
+  pub spread-sign : T (le +0·0 (e .spread))
+  spread-sign = rw (zero-is, values count squares fourths e accepted) (spread-least (varianceOf (number count) squares fourths))
+
+-- One configuration, whose square is s and whose fourth power is s times s, rounded: the mean is s itself, and there is no spread.
+pub one-configuration : (s : Float) → T (fits binary64 s) → (e : MeanSpread) → completeOf 1 s (mul binary64 s s) ≡ Complete e
+    → e ≡ record { mean = s; error = +0·0; spread = +0·0 }
+one-configuration s h e accepted =
+    let f = mul binary64 s s in
+    let l = squares-least 1 s f e accepted in
+    let k = squares-finite 1 s f e accepted in
+    values 1 s f e accepted
+    ∙ rw (no-spread s h l k (fourths-finite 1 s f e accepted), itself-over-one s h l k, zero-is)
