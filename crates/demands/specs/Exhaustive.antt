@@ -18,7 +18,10 @@ use Rattle.accuracy.specs.Apart.{Apart}
 use Rattle.accuracy.specs.Ring.{nat}
 use Rattle.accuracy.specs.Laws.Ring.{_⋆_}
 use Rattle.accuracy.specs.Stated.{squaresRoundings, fourthsRoundings, totalBound}
+use Rattle.estimate.specs.declared.answer.Estimate.the-variants.{Complete}
 use Rattle.estimate.specs.Estimates.{number, meanOf}
+use Rattle.estimate_complete.specs.Complete.{meanSpreadOf, completeOf}
+use Rattle.estimate_complete.specs.Theorems.{ordered-complete}
 use Rattle.forest.specs.FreeEdges.{bitOf}
 use Rattle.transfer_matrix.specs.Configuration.{enumeratedMinus}
 use Rattle.transfer_matrix.specs.Job.{Job}
@@ -101,6 +104,14 @@ module _ {n floor : ℕ} {a b : List ℕ} {m : List Float} {us vs : List ℕ} {b
       rw (squares-are k l, fourths-are k l, enumeration-counted)
       (enumerated-answers-bounded free (λ x. configuration x beta) (getD us p 0) (getD vs p 0) (omega arith)
       (λ x h. answerable (enumeration-sound x beta h (beta-inside (length betas) (length us) k l)) p (pair-inside (length betas) (length us) k l)))
+
+  -- `estimate_complete` accepts it: nothing was sampled, so it has no sampling error,
+  pub enumeration-complete : (k : ℕ) → k < length betas * length us
+      → completeOf count (getD squares′ k nan) (getD fourths′ k nan) ≡ Complete (meanSpreadOf (number count) (getD squares′ k nan) (getD fourths′ k nan))
+  enumeration-complete k l =
+      ordered-complete
+      (record { free = free; few = few-free n floor a b m us vs betas factors manner misfit (length work) caller (arrangementOf arrangement) mostCounted (accepted .0); is = enumeration-counted })
+      (enumeration-bounded k l)
 
   -- each correlation summed lies in [-1, 1], and no entry of a propagated vector exceeds the forward vector's in size.
   pub enumeration-within : (x beta : ℕ) → x < 2 ^ free → beta < length betas → Bounded (configuration x beta) us vs

@@ -4,16 +4,19 @@ use Prim.Native.Nat.{ℕ}
 use native.Mathlib.Decide.{ℕ-discrete}
 use lib.Dec.{T}
 use lib.Ieee.{Float, binary64, fits, mul, le}
+use Rattle.rounding.specs.Powers.{Ordered}
 use Rattle.rounding.specs.Laws.Under.{under-le}
 use Rattle.estimate.specs.declared.answer.MeanSpread.{MeanSpread}
 use Rattle.estimate.specs.declared.answer.Estimate.the-variants.{Complete}
 use Rattle.estimate.specs.Estimates.{+0·0, +1·0, number, meanOf, estimateOf, meanIn}
 use Rattle.estimate.specs.Laws.Cases.{too-few, enough}
-use Rattle.estimate_complete.specs.Complete.{Power, varianceOf, completeOf}
+use Rattle.estimate_complete.specs.Complete.{Power, varianceOf, meanSpreadOf, completeOf}
+use Rattle.estimate_complete.specs.Laws.Cases.{complete}
+use Rattle.estimate_complete.specs.Laws.Counted.{power-complete}
 use Rattle.estimate_complete.specs.Laws.Order.{zero-is, one-is}
 use Rattle.estimate_complete.specs.Laws.Root.{spread-least}
 use Rattle.estimate_complete.specs.Laws.Accepted as Accepted
-use Rattle.estimate_complete.specs.Laws.Accepted.{values, in-order, good-count, squares-least, squares-finite, fourths-finite, mean-least, mean-under}
+use Rattle.estimate_complete.specs.Laws.Accepted.{values, in-order, good-count, squares-least, squares-finite, fourths-finite, mean-least, mean-under, ordered-order}
 use Rattle.estimate_complete.specs.Laws.Alone.{itself-over-one, no-spread}
 
 module _ (count : ℕ) (squares fourths : Float) (e : MeanSpread) (accepted : completeOf count squares fourths ≡ Complete e) where
@@ -45,6 +48,12 @@ module _ (count : ℕ) (squares fourths : Float) (e : MeanSpread) (accepted : co
   -- the spread is a number, and not below zero
   pub spread-sign : T (le +0·0 (e .spread))
   spread-sign = rw (zero-is, values count squares fourths e accepted) (spread-least (varianceOf (number count) squares fourths))
+
+-- Totals of a power of two of configurations that are in order are accepted.
+pub ordered-complete : {count : ℕ} {squares fourths : Float} → Power count → Ordered binary64 fourths squares count
+    → completeOf count squares fourths ≡ Complete (meanSpreadOf (number count) squares fourths)
+ordered-complete {count} {squares} {fourths} p o =
+    sym (complete count squares fourths (power-complete p) (meanSpreadOf (number count) squares fourths) refl (ordered-order count squares fourths o))
 
 -- One configuration, whose square is s and whose fourth power is s times s, rounded: the mean is s itself, and there is no spread.
 pub one-configuration : (s : Float) → T (fits binary64 s) → (e : MeanSpread) → completeOf 1 s (mul binary64 s s) ≡ Complete e

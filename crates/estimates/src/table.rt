@@ -27,9 +27,9 @@ pub fn put_estimate(means: &mut [f64], errors: &mut [f64], i: usize, answer: Est
         Estimate::TooFew(mean) => {
             means[i] = mean;
         }
-        Estimate::Complete(row) => {
-            means[i] = row.mean;
-            errors[i] = row.error;
+        Estimate::Complete(all) => {
+            means[i] = all.mean;
+            errors[i] = all.error;
         }
         Estimate::Refused(_) => {}
     }

@@ -5,11 +5,13 @@ use Prim.Native.Nat.{ℕ, _^_}
 use native.Mathlib.Omega.{arith}
 use lib.Dec.{T}
 use lib.Ieee.{Float, binary64, le, ofInt}
-use lib.Ieee.Fits.{and-l, and-r}
+use lib.Ieee.Bits.{is-true}
+use lib.Ieee.Fits.{and-i, and-l, and-r}
 use lib.Ieee.Positive.{positive, positive-finite}
 use lib.Ieee.Scale.{finite}
 use borrow.Author.Tests.{not-false, ne-eqb, le-ltb}
 use Rattle.list_laws.specs.Laws.Search.{or-false}
+use Rattle.rounding.specs.Powers.{Ordered}
 use Rattle.rounding.specs.Under.{nought, unit}
 use Rattle.rounding.specs.Laws.Under.{Under, div-under, positive-notMinus}
 use Rattle.rounding.specs.Laws.Whole.{whole-positive}
@@ -84,3 +86,11 @@ module _ (count : ℕ) (squares fourths : Float) (e : MeanSpread) (accepted : co
   good-count =
       let l = some-counted counted in
       rw (ne-eqb count 0 (λ (q : count ≡ 0). omega arith), le-ltb (2 ^ 53) count (few-enough counted))
+
+-- sums that are in order by the comparisons pass the test
+pub ordered-order : (count : ℕ) (squares fourths : Float) → Ordered binary64 fourths squares count → inOrder (number count) squares fourths ≡ true
+unfolding ofInt
+ordered-order count squares fourths o =
+    is-true (inOrder (number count) squares fourths)
+    (and-i (le +0·0 fourths && le fourths squares) (le squares (number count))
+    (and-i (le +0·0 fourths) (le fourths squares) (rw zero-is (o .nonnegative)) (o .ascending)) (o .counted))
