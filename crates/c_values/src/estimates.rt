@@ -2,8 +2,8 @@
 ghost use Rattle.c_values.specs.Estimated.{Tells, TellsComplete};
 use estimate::Estimate;
 
-// `enough` tells whether there are two configurations or more. Then `mean` and `error` are written, for one only `mean`; where the call is
-// refused, all keep what they held.
+// `enough` tells whether there is an error: of two configurations or more, or of a complete enumeration. Then `mean` and `error` are written,
+// else only `mean`; where the call is refused, all keep what they held.
 pub fn tell_estimate(answer: Estimate, enough: &mut bool, mean: &mut f64, error: &mut f64) -> usize
     ensures { λ r. ⌜ Tells answer r (now (enough .entry)) (now (enough .exit)) (now (mean .entry)) (now (mean .exit)) (now (error .entry)) (now (error .exit)) ⌝ }
 {
