@@ -188,6 +188,31 @@ extern "C" {
         errors_len: usize,
     ) -> usize;
 
+    /// The mean square, the error +0.0 and the spread of a complete enumeration, from its count and two sums.
+    pub fn copperhook_estimate_complete(
+        count: usize,
+        squares: f64,
+        fourths: f64,
+        mean: *mut f64,
+        error: *mut f64,
+        spread: *mut f64,
+    ) -> usize;
+
+    /// The mean squares, the errors +0.0 and the spreads of a complete enumeration, from its count and two lists of sums.
+    pub fn copperhook_estimates_complete(
+        count: usize,
+        squares: *const f64,
+        squares_len: usize,
+        fourths: *const f64,
+        fourths_len: usize,
+        means: *mut f64,
+        means_len: usize,
+        errors: *mut f64,
+        errors_len: usize,
+        spreads: *mut f64,
+        spreads_len: usize,
+    ) -> usize;
+
     /// The square root of IEEE 754.
     pub fn copperhook_sqrt(x: f64) -> f64;
 
