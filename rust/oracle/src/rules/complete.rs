@@ -3,7 +3,7 @@
 /// A power of two up to 2^34: by halving.
 pub fn is_complete(count: usize) -> bool {
     let mut left = count;
-    while left > 1 && left % 2 == 0 {
+    while left > 1 && left.is_multiple_of(2) {
         left /= 2;
     }
     left == 1 && count <= 17_179_869_184
