@@ -5,5 +5,6 @@ pub mod Controls
 pub mod Order
 pub mod Mean
 pub mod Root
+pub mod Most
 pub mod Accepted
 pub mod Alone

@@ -12,11 +12,11 @@ use Rattle.estimate.specs.Estimates.{+0·0, +1·0, number, meanOf, estimateOf, 
 use Rattle.estimate.specs.Laws.Cases.{too-few, enough}
 use Rattle.estimate_complete.specs.Complete.{Power, varianceOf, meanSpreadOf, completeOf}
 use Rattle.estimate_complete.specs.Laws.Cases.{complete}
-use Rattle.estimate_complete.specs.Laws.Counted.{power-complete}
+use Rattle.estimate_complete.specs.Laws.Counted.{power-complete, good-count}
 use Rattle.estimate_complete.specs.Laws.Order.{zero-is, one-is}
 use Rattle.estimate_complete.specs.Laws.Root.{spread-least}
 use Rattle.estimate_complete.specs.Laws.Accepted as Accepted
-use Rattle.estimate_complete.specs.Laws.Accepted.{values, in-order, good-count, squares-least, squares-finite, fourths-finite, mean-least, mean-under, ordered-order}
+use Rattle.estimate_complete.specs.Laws.Accepted.{values, in-order, squares-least, squares-finite, fourths-finite, mean-least, mean-under, spread-below, ordered-order}
 use Rattle.estimate_complete.specs.Laws.Alone.{itself-over-one, no-spread}
 
 module _ (count : ℕ) (squares fourths : Float) (e : MeanSpread) (accepted : completeOf count squares fourths ≡ Complete e) where
@@ -28,13 +28,7 @@ module _ (count : ℕ) (squares fourths : Float) (e : MeanSpread) (accepted : co
   pub no-error : e .error ≡ +0·0
   no-error = ap (λ (x : MeanSpread). x .error) (values count squares fourths e accepted)
 
-  -- the mean lies in [0, 1]
-  pub mean-within : T (le +0·0 (e .mean)) × T (le (e .mean) +1·0)
-  mean-within =
-      rw (zero-is, one-is, values count squares fourths e accepted)
-      (mean-least count squares fourths e accepted, under-le (mean-under count squares fourths e accepted) tt)
-
-  -- and is the one that `estimate` answers
+  -- the mean is the one that `estimate` answers
   pub same-mean : (old : Float) → meanIn (estimateOf count squares fourths) old ≡ e .mean
   same-mean old = go (ℕ-discrete count 1)
     where
@@ -42,12 +36,20 @@ module _ (count : ℕ) (squares fourths : Float) (e : MeanSpread) (accepted : co
       mean = ap (λ (x : MeanSpread). x .mean) (values count squares fourths e accepted)
 
       go : Dec (count ≡ 1) → meanIn (estimateOf count squares fourths) old ≡ e .mean
-      go (yes o) = rw (← too-few count squares fourths (good-count count squares fourths e accepted) (in-order count squares fourths e accepted) o) (sym mean)
-      go (no o) = rw (← enough count squares fourths (good-count count squares fourths e accepted) (in-order count squares fourths e accepted) _ refl o) (sym mean)
+      go (yes o) = rw (← too-few count squares fourths (good-count counted) (in-order count squares fourths e accepted) o) (sym mean)
+      go (no o) = rw (← enough count squares fourths (good-count counted) (in-order count squares fourths e accepted) _ refl o) (sym mean)
 
-  -- the spread is a number, and not below zero
-  pub spread-sign : T (le +0·0 (e .spread))
-  spread-sign = rw (zero-is, values count squares fourths e accepted) (spread-least (varianceOf (number count) squares fourths))
+  -- it lies in [0, 1]
+  pub mean-within : T (le +0·0 (e .mean)) × T (le (e .mean) +1·0)
+  mean-within =
+      rw (zero-is, one-is, values count squares fourths e accepted)
+      (mean-least count squares fourths e accepted, under-le (mean-under count squares fourths e accepted) tt)
+
+  -- and so does the spread: it is no NaN, and not below zero
+  pub spread-within : T (le +0·0 (e .spread)) × T (le (e .spread) +1·0)
+  spread-within =
+      rw (zero-is, one-is, values count squares fourths e accepted)
+      (spread-least (varianceOf (number count) squares fourths), spread-below count squares fourths e accepted)
 
 -- Totals of a power of two of configurations that are in order are accepted.
 pub ordered-complete : {count : ℕ} {squares fourths : Float} → Power count → Ordered binary64 fourths squares count

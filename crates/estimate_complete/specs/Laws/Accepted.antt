@@ -1,27 +1,30 @@
 -- What an accepted estimate has passed, and its values.
 use mathlib.Core.Path.{_≡_, refl, sym, subst}
 use mathlib.Core.Bool.{Bool, true, false, not, _&&_, cond}
-use Prim.Native.Nat.{ℕ, _^_}
+use Prim.Native.Nat.{ℕ}
 use native.Mathlib.Omega.{arith}
 use lib.Dec.{T}
-use lib.Ieee.{Float, binary64, le, ofInt}
+use lib.Ieee.{Float, binary64, mul, div, le, ofInt}
 use lib.Ieee.Bits.{is-true}
 use lib.Ieee.Fits.{and-i, and-l, and-r}
-use lib.Ieee.Positive.{positive, positive-finite}
+use lib.Ieee.Positive.{num, den, den-pos, positive, positive-finite, through}
 use lib.Ieee.Scale.{finite}
-use borrow.Author.Tests.{not-false, ne-eqb, le-ltb}
+use borrow.Author.Tests.{not-false}
 use Rattle.list_laws.specs.Laws.Search.{or-false}
 use Rattle.rounding.specs.Powers.{Ordered}
 use Rattle.rounding.specs.Under.{nought, unit}
-use Rattle.rounding.specs.Laws.Under.{Under, div-under, positive-notMinus}
+use Rattle.rounding.specs.Laws.Powers.{square-under}
+use Rattle.rounding.specs.Laws.Sign.{square-notMinus}
+use Rattle.rounding.specs.Laws.Under.{Within, Under, div-under, positive-notMinus}
 use Rattle.rounding.specs.Laws.Whole.{whole-positive}
 use Rattle.estimate.specs.declared.answer.MeanSpread.{MeanSpread}
 use Rattle.estimate.specs.declared.answer.Estimate.the-variants.{Complete, Refused}
-use Rattle.estimate.specs.Estimates.{+0·0, number, meanOf, badCount, inOrder}
-use Rattle.estimate_complete.specs.Complete.{isComplete, Power, refusesComplete, meanSpreadOf, completeOf}
+use Rattle.estimate.specs.Estimates.{+0·0, number, meanOf, inOrder}
+use Rattle.estimate_complete.specs.Complete.{isComplete, Power, refusesComplete, spreadOf, meanSpreadOf, completeOf}
 use Rattle.estimate_complete.specs.Laws.Counted.{complete-power, few-enough, some-counted}
-use Rattle.estimate_complete.specs.Laws.Order.{zero-is, ordered-under, ascending, between-finite}
+use Rattle.estimate_complete.specs.Laws.Order.{zero-is, ordered-within, ascending, between-finite}
 use Rattle.estimate_complete.specs.Laws.Mean.{mean-sign}
+use Rattle.estimate_complete.specs.Laws.Most.{spread-most}
 
 told : (b : Bool) (r e : MeanSpread) → cond b (Refused 18) (Complete r) ≡ Complete e → (b ≡ false) × (e ≡ r)
 told true r e h = absurd (let z : _≡_ {A = ℕ} 0 1 = cc in omega arith)
@@ -70,22 +73,37 @@ module _ (count : ℕ) (squares fourths : Float) (e : MeanSpread) (accepted : co
   pub fourths-finite : T (finite fourths)
   fourths-finite = between-finite fourths squares fourths-least fourths-below squares-finite
 
-  -- the mean is a quotient by the bound
-  pub mean-under : Under (meanOf (number count) squares) unit
-  mean-under =
+  -- squares and fourth powers are no larger than the count, so their quotients are no larger than 1
+  within-count : {x : Float} → Within x (number count) → Under (div binary64 x (number count)) unit
+  within-count w =
       div-under binary64
-      (ordered-under squares (number count) squares-least squares-below
-      (positive-finite (number count) positive-count) (positive-notMinus (number count) positive-count))
+      (record { sign = positive-notMinus (number count) positive-count; size = λ (f : T (finite (number count))). w })
       positive-count
+
+  squares-within : Within squares (number count)
+  squares-within = ordered-within squares (number count) squares-least squares-below (positive-finite (number count) positive-count)
+
+  pub mean-under : Under (meanOf (number count) squares) unit
+  mean-under = within-count squares-within
+
+  fourths-under : Under (div binary64 fourths (number count)) unit
+  fourths-under =
+      let w = ordered-within fourths squares fourths-least fourths-below squares-finite in
+      within-count (record {
+        isFinite = w .isFinite;
+        atMost =
+            through (num fourths) (num squares) (num (number count)) (den fourths) (den squares) (den (number count)) (den-pos squares)
+            (w .atMost) (squares-within .atMost);
+      })
+
+  -- the spread is at most 1
+  pub spread-below : T (le (spreadOf (number count) squares fourths) unit)
+  spread-below =
+      spread-most (div binary64 fourths (number count)) (mul binary64 (meanOf (number count) squares) (meanOf (number count) squares)) fourths-under
+      (square-under binary64 mean-under .size tt .isFinite) (square-notMinus binary64 (meanOf (number count) squares))
 
   pub mean-least : T (le nought (meanOf (number count) squares))
   mean-least = mean-sign squares (number count) squares-least positive-count (mean-under .size tt .isFinite)
-
-  -- `estimate` does not refuse such a count
-  pub good-count : badCount count ≡ false
-  good-count =
-      let l = some-counted counted in
-      rw (ne-eqb count 0 (λ (q : count ≡ 0). omega arith), le-ltb (2 ^ 53) count (few-enough counted))
 
 -- sums that are in order by the comparisons pass the test
 pub ordered-order : (count : ℕ) (squares fourths : Float) → Ordered binary64 fourths squares count → inOrder (number count) squares fourths ≡ true

@@ -5,10 +5,11 @@ use Prim.Native.Nat.{ℕ, zero, suc, _^_, _≤_, _<_}
 use native.Mathlib.Omega.{arith}
 use lib.Dec.{eqb}
 use lib.Pow.{pow-pos, pow-mono}
-use borrow.Author.Tests.{eq-eqb, eqb-true}
+use borrow.Author.Tests.{eq-eqb, ne-eqb, le-ltb, eqb-true}
 use Rattle.limits.specs.Limits.{mostCounted}
 use Rattle.list_laws.specs.Search.{some}
 use Rattle.list_laws.specs.Laws.Search.{some-at}
+use Rattle.estimate.specs.Estimates.{badCount}
 use Rattle.estimate_complete.specs.Complete.{isComplete, Power}
 
 pub power-complete : {count : ℕ} → Power count → isComplete count ≡ true
@@ -34,3 +35,9 @@ few-enough p = let h = p .few in let m : p .free ≤ 53 = omega arith in rw (p .
 
 pub some-counted : {count : ℕ} → Power count → 0 < count
 some-counted p = rw (p .is) (pow-pos (p .free))
+
+-- nor does `estimate` refuse it
+pub good-count : {count : ℕ} → Power count → badCount count ≡ false
+good-count {count} p =
+    let l = some-counted p in
+    rw (ne-eqb count 0 (λ (q : count ≡ 0). omega arith), le-ltb (2 ^ 53) count (few-enough p))

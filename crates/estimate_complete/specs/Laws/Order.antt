@@ -11,7 +11,7 @@ use lib.Ieee.Fits.{down-pos, and-i, and-l, and-r, eq→eqb}
 use lib.Ieee.Scale.{finite}
 use Rattle.rounding.specs.Under.{nought, unit}
 use Rattle.rounding.specs.Laws.Sign.{notMinus}
-use Rattle.rounding.specs.Laws.Under.{Under, under-nought, under-le}
+use Rattle.rounding.specs.Laws.Under.{Within, under-nought, under-le}
 
 -- ---- from the tests of a program to sizes
 at-most : (a b : ℕ) (c e : Bool) → (T c → a ≡ b) → T (ltb a b || (c && e)) → a ≤ b
@@ -27,25 +27,33 @@ pub minus-zero : (m : ℕ) (e : ℤ) → T (le nought (fin true m e)) → m * up
 unfolding le lt eq
 minus-zero m e h = let z = eqb→eq (0 * up (pos 0) * down e) (m * up e * 1) (and-l (eqb (0 * up (pos 0) * down e) (m * up e * 1)) _ h) in omega (arith, zero-mul (down e))
 
--- a number that is not below zero, and no larger than one without a minus sign
-pub ordered-under : (x y : Float) → T (le nought x) → T (le x y) → T (finite y) → T (notMinus y) → Under x y
+-- a number that is not below zero, and no larger than a finite one
+pub ordered-within : (x y : Float) → T (le nought x) → T (le x y) → T (finite y) → Within x y
 unfolding le lt eq
-ordered-under nan y h l k p = absurd h
-ordered-under (inf true) y h l k p = absurd h
-ordered-under (inf false) nan h l k p = absurd l
-ordered-under (inf false) (inf t) h l k p = absurd k
-ordered-under (inf false) (fin t n d) h l k p = absurd l
-ordered-under (fin s m e) nan h l k p = absurd k
-ordered-under (fin s m e) (inf t) h l k p = absurd k
-ordered-under (fin s m e) (fin true n d) h l k p = absurd p
-ordered-under (fin false m e) (fin false n d) h l k p = record {
-  sign = p;
-  size = λ (f : T (finite (fin false n d))). record { isFinite = tt; atMost = let a = m * up e * down d in let b = n * up d * down e in at-most a b (eqb a b) true (eqb→eq a b) l };
+ordered-within nan y h l k = absurd h
+ordered-within (inf true) y h l k = absurd h
+ordered-within (inf false) nan h l k = absurd l
+ordered-within (inf false) (inf t) h l k = absurd k
+ordered-within (inf false) (fin t n d) h l k = absurd l
+ordered-within (fin s m e) nan h l k = absurd k
+ordered-within (fin s m e) (inf t) h l k = absurd k
+ordered-within (fin false m e) (fin false n d) h l k = record {
+  isFinite = tt;
+  atMost =
+      let a = m * up e * down d in
+      let b = n * up d * down e in
+      at-most a b (eqb a b) true (eqb→eq a b) l;
 }
-ordered-under (fin true m e) (fin false n d) h l k p = record {
-  sign = p;
-  size = λ (f : T (finite (fin false n d))).
-      record { isFinite = tt; atMost = let z = ap (λ (x : ℕ). x * down d) (minus-zero m e h) in omega (arith, zero-mul (down d)) };
+ordered-within (fin false m e) (fin true n d) h l k = record {
+  isFinite = tt;
+  atMost =
+      let a = m * up e * down d in
+      let z = eqb→eq a 0 (and-r (eqb a (n * up d * down e)) (eqb a 0) l) in
+      omega arith;
+}
+ordered-within (fin true m e) (fin t n d) h l k = record {
+  isFinite = tt;
+  atMost = let z = ap (λ (x : ℕ). x * down d) (minus-zero m e h) in omega (arith, zero-mul (down d));
 }
 
 -- ---- numbers that are not below zero

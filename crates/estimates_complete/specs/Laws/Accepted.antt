@@ -1,21 +1,24 @@
 -- What is known of an accepted call: its lists fit, and each row is what `estimate_complete` answers.
-use mathlib.Core.Path.{_≡_, refl, sym}
+use mathlib.Core.Path.{_≡_, refl, sym, ap, _∙_}
 use mathlib.Core.Bool.{true, false, not, _||_}
 use mathlib.Core.List.{List}
 use Prim.Native.Nat.{ℕ, _<_}
 use native.Mathlib.Omega.{arith}
 use lib.Dec.{eqb}
-use lib.Ieee.{Float, nan}
+use lib.Ieee.{Float, nan, binary64}
 use lib.ListN.{length}
-use borrow.Author.Tests.{eqb-true, not-false}
+use borrow.Author.Tests.{eqb-true, eq-eqb, not-false}
 use Rattle.list_laws.specs.Search.{some}
-use Rattle.list_laws.specs.Laws.Search.{none-at, or-false}
+use Rattle.list_laws.specs.Laws.Search.{none-at, none-of, or-false}
 use Rattle.list_laws.specs.Laws.Tabulate.{tabulate-at}
+use Rattle.rounding.specs.Powers.{Ordered}
 use Rattle.refusals.specs.Laws.First.{unless}
 use Rattle.estimate.specs.declared.answer.Estimate.the-variants.{Complete}
 use Rattle.estimate.specs.Estimates.{+0·0, number, meanOf, badCount, inOrder}
-use Rattle.estimate_complete.specs.Complete.{isComplete, spreadOf, completeOf}
+use Rattle.estimate_complete.specs.Complete.{isComplete, Power, spreadOf, completeOf}
+use Rattle.estimate_complete.specs.Laws.Accepted.{ordered-order}
 use Rattle.estimate_complete.specs.Laws.Cases.{complete}
+use Rattle.estimate_complete.specs.Laws.Counted.{power-complete, good-count}
 use Rattle.estimates.specs.Columns.{at, badSums}
 use Rattle.estimates_complete.specs.Columns.{refusalOf, meanColumn, errorColumn, spreadColumn}
 
@@ -68,3 +71,12 @@ module _ (count : ℕ) (squares fourths : List Float) (means errors spreads : �
         tabulate-at (λ i. spreadOf (number count) (at squares i) (at fourths i)) (length squares) i nan h,
       )
       (sym (complete count (at squares i) (at fourths i) counted _ refl (ordered i h)))
+
+-- Totals of a power of two of configurations that are in order at every place are accepted, with columns that fit.
+pub ordered-accepted : {count : ℕ} (squares fourths : List Float) (size : ℕ) → Power count → length squares ≡ size → length fourths ≡ size
+    → ((i : ℕ) → i < size → Ordered binary64 (at fourths i) (at squares i) count) → refusalOf count squares fourths size size size ≡ 0
+ordered-accepted {count} squares fourths size p s f o =
+    let none : some (λ i. not (inOrder (number count) (at squares i) (at fourths i))) (length squares) ≡ false =
+    none-of (λ i. not (inOrder (number count) (at squares i) (at fourths i))) (length squares)
+    (λ i l. ap not (ordered-order count (at squares i) (at fourths i) (o i (omega arith)))) in
+    rw (eq-eqb (length squares) (length fourths) (s ∙ sym f), eq-eqb size (length squares) (sym s), power-complete p, good-count p, none)
