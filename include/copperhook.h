@@ -203,8 +203,8 @@ size_t copperhook_estimates(size_t count, const double *squares, size_t squares_
 /*
  * What the totals of a complete enumeration tell, as copperhook_exhaustive leaves them; that they are complete is the caller's word. Nothing
  * was sampled, so *error is +0.0. *mean is the mean that copperhook_estimate tells. *spread is the spread of the squares over configurations:
- * the square root of the larger of +0.0 and fourths / count - *mean * *mean, +0.0 on a tie too, each step rounded once. It is never a NaN,
- * nor below zero. At count 1 all three are told, too.
+ * the square root of the larger of +0.0 and fourths / count - *mean * *mean, +0.0 on a tie too, each step rounded once. Mean and spread
+ * lie from 0 to 1. At count 1 all three are told, too.
  * Refusal: 18, also where the count is no power of two up to 2^34.
  */
 size_t copperhook_estimate_complete(size_t count, double squares, double fourths, double *mean, double *error, double *spread);

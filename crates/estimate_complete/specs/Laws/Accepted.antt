@@ -22,7 +22,7 @@ use Rattle.estimate.specs.declared.answer.Estimate.the-variants.{Complete, Refu
 use Rattle.estimate.specs.Estimates.{+0·0, number, meanOf, inOrder}
 use Rattle.estimate_complete.specs.Complete.{isComplete, Power, refusesComplete, spreadOf, meanSpreadOf, completeOf}
 use Rattle.estimate_complete.specs.Laws.Counted.{complete-power, few-enough, some-counted}
-use Rattle.estimate_complete.specs.Laws.Order.{zero-is, ordered-within, ascending, between-finite}
+use Rattle.estimate_complete.specs.Laws.Order.{zero-is, ordered-within, ascending}
 use Rattle.estimate_complete.specs.Laws.Mean.{mean-sign}
 use Rattle.estimate_complete.specs.Laws.Most.{spread-most}
 
@@ -67,11 +67,17 @@ module _ (count : ℕ) (squares fourths : Float) (e : MeanSpread) (accepted : co
   unfolding ofInt
   positive-count = whole-positive binary64 count (some-counted counted) (few-enough counted)
 
+  squares-within : Within squares (number count)
+  squares-within = ordered-within squares (number count) squares-least squares-below (positive-finite (number count) positive-count)
+
   pub squares-finite : T (finite squares)
-  squares-finite = between-finite squares (number count) squares-least squares-below (positive-finite (number count) positive-count)
+  squares-finite = squares-within .isFinite
+
+  fourths-within : Within fourths squares
+  fourths-within = ordered-within fourths squares fourths-least fourths-below squares-finite
 
   pub fourths-finite : T (finite fourths)
-  fourths-finite = between-finite fourths squares fourths-least fourths-below squares-finite
+  fourths-finite = fourths-within .isFinite
 
   -- squares and fourth powers are no larger than the count, so their quotients are no larger than 1
   within-count : {x : Float} → Within x (number count) → Under (div binary64 x (number count)) unit
@@ -80,20 +86,16 @@ module _ (count : ℕ) (squares fourths : Float) (e : MeanSpread) (accepted : co
       (record { sign = positive-notMinus (number count) positive-count; size = λ (f : T (finite (number count))). w })
       positive-count
 
-  squares-within : Within squares (number count)
-  squares-within = ordered-within squares (number count) squares-least squares-below (positive-finite (number count) positive-count)
-
   pub mean-under : Under (meanOf (number count) squares) unit
   mean-under = within-count squares-within
 
   fourths-under : Under (div binary64 fourths (number count)) unit
   fourths-under =
-      let w = ordered-within fourths squares fourths-least fourths-below squares-finite in
       within-count (record {
-        isFinite = w .isFinite;
+        isFinite = fourths-finite;
         atMost =
             through (num fourths) (num squares) (num (number count)) (den fourths) (den squares) (den (number count)) (den-pos squares)
-            (w .atMost) (squares-within .atMost);
+            (fourths-within .atMost) (squares-within .atMost);
       })
 
   -- the spread is at most 1

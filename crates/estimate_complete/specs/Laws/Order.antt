@@ -97,16 +97,6 @@ ascending (fin true m e) (fin true n d) h l =
     let q = at-most b a (eqb a b) true (λ (t : T (eqb a b)). sym (eqb→eq a b t)) l in
     minus-zero-least n d (cancelled (n * up d) (down e) (down-pos e) (omega (arith, zero-mul (down d))))
 
--- what is between zero and a finite number
-pub between-finite : (x y : Float) → T (le nought x) → T (le x y) → T (finite y) → T (finite x)
-unfolding le lt eq
-between-finite nan y h l k = absurd h
-between-finite (inf true) y h l k = absurd h
-between-finite (inf false) nan h l k = absurd k
-between-finite (inf false) (inf t) h l k = absurd k
-between-finite (inf false) (fin t n d) h l k = absurd l
-between-finite (fin s m e) y h l k = tt
-
 -- ---- +0.0 and 1.0 by their bits
 pub zero-is : ofBits binary64 0 ≡ nought
 unfolding ofBits
