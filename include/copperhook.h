@@ -62,7 +62,8 @@ enum copperhook_refusal {
     COPPERHOOK_STRIP_SIDES = 15,    /* a strip side is 0, or the sides multiply above 1,024 */
     COPPERHOOK_ODD_CYLINDER = 16,   /* a honeycomb cylinder has odd width */
     COPPERHOOK_DILUTION = 17,       /* keep is not finite, or a magnitude bound is not finite or its size is above 1,024 */
-    COPPERHOOK_SUMS = 18,           /* the count is 0 or above 2^53, or 0 <= fourth powers <= squares <= count fails */
+    COPPERHOOK_SUMS = 18,           /* the count is 0 or above 2^53, or of a complete enumeration no power of two up to 2^34, or
+                                       0 <= fourth powers <= squares <= count fails */
     COPPERHOOK_BETAS = 21,          /* the betas do not rise strictly; asked between 4 and 5 */
     COPPERHOOK_TESTER_LIMIT = 22,   /* in the tester's calls: the window is above 12, or all signs of over 16 free edges are gone through */
     COPPERHOOK_COUPLINGS = 23,      /* of house factors: the couplings have another length, or one is no multiple of 1/128 from -4 to 4 */
@@ -220,6 +221,24 @@ size_t copperhook_estimates(size_t count, const double *squares, size_t squares_
                             double *means, size_t means_len, double *errors, size_t errors_len);
 
 /*
+ * What the totals of a complete enumeration tell, as copperhook_exhaustive leaves them; that they are complete is the caller's word. Nothing
+ * was sampled, so *error is +0.0. *mean is the mean that copperhook_estimate tells. *spread is the spread of the squares over configurations:
+ * the square root of the larger of +0.0 and fourths / count - *mean * *mean, +0.0 on a tie too, each step rounded once. Mean and spread
+ * lie from 0 to 1. At count 1 all three are told, too.
+ * Refusal: 18, also where the count is no power of two up to 2^34.
+ */
+size_t copperhook_estimate_complete(size_t count, double squares, double fourths, double *mean, double *error, double *spread);
+
+/*
+ * The same of all betas and pairs at once, with the spread at i of `spreads`. All five lists have one length, whichever it is. 18 is asked of
+ * the count and of every place before anything is written.
+ * Refusals: 2 (the lists of sums), 12, 18.
+ */
+size_t copperhook_estimates_complete(size_t count, const double *squares, size_t squares_len, const double *fourths, size_t fourths_len,
+                                     double *means, size_t means_len, double *errors, size_t errors_len, double *spreads,
+                                     size_t spreads_len);
+
+/*
  * What part of stored correlations is above zero, zero of either sign, below zero, and 1/2 or more in size. `stored` has from 1 to 256 lists
  * end to end, as copperhook_exhaustive_c stores them or any others, and `lengths` the length of each, from 1 to 2^24; together they are as
  * many as `stored_len`. The eight words of `shares` are top and bottom of four fractions in that order: shares[0] / shares[1] is the part
@@ -300,7 +319,8 @@ size_t copperhook_error_bound(size_t n, size_t floor, const size_t *a, size_t a_
  * The same of each correlation that copperhook_exhaustive and copperhook_sample sum and copperhook_exhaustive_c stores: two factors for each
  * beta and kept edge, all of them from 2^-k to 2^k. With *bound = (r + 1) * 2^-53, and c chunks of s configurations each (enumerated:
  * s = min(1024, count)), the mean that copperhook_estimate tells is within (2 * r + 3 + s + c) * 2^-53 of the exact mean square, while
- * 2 * r + 2 + s + c is at most 94,906,264; past that within 2 * (2 * r + 2 + s + c) * 2^-53. Of its standard error nothing is promised.
+ * 2 * r + 2 + s + c is at most 94,906,264; past that within 2 * (2 * r + 2 + s + c) * 2^-53. Of its standard error, and of the
+ * spread, nothing is promised.
  * Refusals: 1 to 7 (4 and 21 of the betas too), 10.
  */
 size_t copperhook_totals_error_bound(size_t n, size_t floor, const size_t *a, size_t a_len, const size_t *b, size_t b_len,

@@ -10,6 +10,7 @@ mod vertices;
 
 pub use bounds::tell_bound;
 pub use distances::tell_distance;
+pub use estimates::tell_complete;
 pub use estimates::tell_estimate;
 pub use graphs::tell_graph;
 pub use kinds::kind_numbered;

@@ -18,7 +18,12 @@ use Rattle.accuracy.specs.Apart.{Apart}
 use Rattle.accuracy.specs.Ring.{nat}
 use Rattle.accuracy.specs.Laws.Ring.{_⋆_}
 use Rattle.accuracy.specs.Stated.{squaresRoundings, fourthsRoundings, totalBound}
+use Rattle.estimate.specs.declared.answer.Estimate.the-variants.{Complete}
 use Rattle.estimate.specs.Estimates.{number, meanOf}
+use Rattle.estimate_complete.specs.Complete.{Power, meanSpreadOf, completeOf}
+use Rattle.estimate_complete.specs.Theorems.{ordered-complete}
+use Rattle.estimates_complete.specs.Columns as Columns
+use Rattle.estimates_complete.specs.Laws.Accepted.{ordered-accepted}
 use Rattle.forest.specs.FreeEdges.{bitOf}
 use Rattle.transfer_matrix.specs.Configuration.{enumeratedMinus}
 use Rattle.transfer_matrix.specs.Job.{Job}
@@ -36,7 +41,7 @@ use Rattle.entry_correlations.specs.declared.Manner.{Manner}
 use Rattle.totals_call.specs.Calls.{Enumerated, refusedEnumeration}
 use Rattle.error_bound.specs.Bound.{errorBoundOf}
 use Rattle.error_bound.specs.declared.answer.ErrorBound.the-variants.{Within}
-use Rattle.demands.specs.Laws.Lists.{settled-at}
+use Rattle.demands.specs.Laws.Lists.{settled-at, settled-length}
 use Rattle.demands.specs.Configurations as C
 use Rattle.demands.specs.Configurations.{accepted-number, pair-inside, beta-inside, enumeration-facts, few-free, configuration-sound}
 use Rattle.demands.specs.Accurate.{Accurate}
@@ -101,6 +106,27 @@ module _ {n floor : ℕ} {a b : List ℕ} {m : List Float} {us vs : List ℕ} {b
       rw (squares-are k l, fourths-are k l, enumeration-counted)
       (enumerated-answers-bounded free (λ x. configuration x beta) (getD us p 0) (getD vs p 0) (omega arith)
       (λ x h. answerable (enumeration-sound x beta h (beta-inside (length betas) (length us) k l)) p (pair-inside (length betas) (length us) k l)))
+
+  -- so `estimate_complete` accepts it, and `estimates_complete` all of them: nothing was sampled, and there is no sampling error,
+  enumeration-power : Power count
+  enumeration-power = record {
+    free = free;
+    few = few-free n floor a b m us vs betas factors manner misfit (length work) caller (arrangementOf arrangement) mostCounted (accepted .0);
+    is = enumeration-counted;
+  }
+
+  pub enumeration-complete : (k : ℕ) → k < length betas * length us
+      → completeOf count (getD squares′ k nan) (getD fourths′ k nan) ≡ Complete (meanSpreadOf (number count) (getD squares′ k nan) (getD fourths′ k nan))
+  enumeration-complete k l = ordered-complete enumeration-power (enumeration-bounded k l)
+
+  pub enumeration-columns : let size = length betas * length us in Columns.refusalOf count squares′ fourths′ size size size ≡ 0
+  enumeration-columns =
+      ordered-accepted squares′ fourths′ (length betas * length us) enumeration-power
+      (settled-length _ (λ k. enumerated ieee (square ieee) free (λ x. correlationAt (configuration x) us vs k)) (length betas * length us) squares squares′
+      (accepted .0) (call .call .squares-are))
+      (settled-length _ (λ k. enumerated ieee (fourth ieee) free (λ x. correlationAt (configuration x) us vs k)) (length betas * length us) fourths fourths′
+      (accepted .0) (call .call .fourths-are))
+      enumeration-bounded
 
   -- each correlation summed lies in [-1, 1], and no entry of a propagated vector exceeds the forward vector's in size.
   pub enumeration-within : (x beta : ℕ) → x < 2 ^ free → beta < length betas → Bounded (configuration x beta) us vs

@@ -21,7 +21,10 @@ use Rattle.accuracy.specs.Apart.{Apart}
 use Rattle.accuracy.specs.Ring.{nat}
 use Rattle.accuracy.specs.Laws.Ring.{_⋆_}
 use Rattle.accuracy.specs.Stated.{squaresRoundings, fourthsRoundings, totalBound}
+use Rattle.estimate.specs.declared.answer.Estimate.the-variants.{Complete}
 use Rattle.estimate.specs.Estimates.{number, meanOf}
+use Rattle.estimate_complete.specs.Complete.{meanSpreadOf, completeOf}
+use Rattle.estimates_complete.specs.Columns as Columns
 use Rattle.refusals.specs.declared.Answer.the-variants.{Number}
 use Rattle.refusals.specs.Accepted.{Rising}
 use Rattle.house_factors.specs.Factors.{singleFactors}
@@ -109,6 +112,13 @@ module _ {n floor : ℕ} {a b : List ℕ} {m : List Float} {us vs : List ℕ} {b
   -- bounded,
   pub house-enumeration-bounded : (k : ℕ) → k < length betas * length us → Ordered binary64 (getD fourths′ k nan) (getD squares′ k nan) count
   house-enumeration-bounded = Exhaustive.enumeration-bounded lent-totals
+
+  pub house-enumeration-complete : (k : ℕ) → k < length betas * length us
+      → completeOf count (getD squares′ k nan) (getD fourths′ k nan) ≡ Complete (meanSpreadOf (number count) (getD squares′ k nan) (getD fourths′ k nan))
+  house-enumeration-complete = Exhaustive.enumeration-complete lent-totals
+
+  pub house-enumeration-columns : let size = length betas * length us in Columns.refusalOf count squares′ fourths′ size size size ≡ 0
+  house-enumeration-columns = Exhaustive.enumeration-columns lent-totals
 
   pub house-enumeration-within : (x beta : ℕ) → x < 2 ^ free a b m → beta < length betas → Bounded (configurationOf n floor a b m betas manner x beta) us vs
   house-enumeration-within = Exhaustive.enumeration-within lent-totals

@@ -10,7 +10,7 @@ use Rattle.transfer_matrix.specs.Rounded.{ieee}
 use Rattle.sqrt.specs.Sqrt.{sqrt}
 use Rattle.estimate.specs.declared.answer.MeanError.{MeanError}
 use Rattle.estimate.specs.declared.answer.Estimate.{Estimate}
-use Rattle.estimate.specs.declared.answer.Estimate.the-variants.{Estimated, TooFew, Refused}
+use Rattle.estimate.specs.declared.answer.Estimate.the-variants.{Estimated, TooFew, Complete, Refused}
 open Ops ieee using (_⊖_, _⊗_, _⊘_)
 
 infixl 60 _⊖_
@@ -63,13 +63,21 @@ estimateOf count squares fourths =
     (cond (eqb count 1) (TooFew (meanOf n squares))
     (Estimated (meanErrorOf n squares fourths)))
 
--- what an estimate leaves where a mean is to stand, and where an error is: what is there already where it has none
+-- what an estimate leaves where a mean is to stand, where an error is, and where a spread is: what is there already where it has none
 abbrev pub meanIn : Estimate → Float → Float
 meanIn (Estimated e) old = e .mean
 meanIn (TooFew mean) old = mean
+meanIn (Complete e) old = e .mean
 meanIn (Refused k) old = old
 
 abbrev pub errorIn : Estimate → Float → Float
 errorIn (Estimated e) old = e .error
 errorIn (TooFew mean) old = old
+errorIn (Complete e) old = e .error
 errorIn (Refused k) old = old
+
+abbrev pub spreadIn : Estimate → Float → Float
+spreadIn (Estimated e) old = old
+spreadIn (TooFew mean) old = old
+spreadIn (Complete e) old = e .spread
+spreadIn (Refused k) old = old

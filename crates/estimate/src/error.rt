@@ -5,7 +5,7 @@ use crate::MeanError;
 use sqrt::sqrt;
 
 // A variance below zero comes of rounding and counts as +0.0, and so does -0.0.
-fn at_least_zero(v: f64) -> f64
+pub fn at_least_zero(v: f64) -> f64
     ensures { λ r. ⌜ r ≡ atLeastZero v ⌝ }
 {
     if 0.0 < v { v } else { 0.0 }

@@ -8,6 +8,8 @@ mod order;
 
 pub use answer::Estimate;
 pub use answer::MeanError;
+pub use answer::MeanSpread;
+pub use error::at_least_zero;
 use error::mean_error;
 pub use order::bad_count;
 pub use order::in_order;

@@ -1,4 +1,3 @@
 -- Laws that the proofs share.
-mod Rows
 mod Sums
 mod Refusals

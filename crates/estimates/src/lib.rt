@@ -7,6 +7,7 @@ use estimate::estimate;
 mod order;
 mod table;
 
+pub use order::bad_sums;
 use order::refuse;
 use table::put_estimate;
 

@@ -6,7 +6,7 @@ use estimate::bad_count;
 use estimate::in_order;
 
 // Every place is looked at before anything is written.
-fn bad_sums(count: usize, squares: &[f64], fourths: &[f64]) -> bool
+pub fn bad_sums(count: usize, squares: &[f64], fourths: &[f64]) -> bool
     requires { ⌜ length (now squares) ≡ length (now fourths) ⌝ }
     ensures { λ r. ⌜ r ≡ badSums count (now (squares .entry)) (now (fourths .entry)) ⌝ }
 {

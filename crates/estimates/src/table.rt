@@ -16,7 +16,7 @@ fn put_row(means: &mut [f64], errors: &mut [f64], i: usize, row: MeanError)
     errors[i] = row.error;
 }
 
-// One configuration has a mean and no error. A refused estimate leaves its row: `refuse` lets none through to here.
+// One sampled configuration has a mean and no error. A refused estimate leaves its row: `refuse` lets none through to here.
 pub fn put_estimate(means: &mut [f64], errors: &mut [f64], i: usize, answer: Estimate)
     requires { ⌜ (i < length (now means)) × (i < length (now errors)) ⌝ }
     ensures { λ _. ⌜ now (means .exit) ≡ set (now (means .entry)) i (meanIn answer (getD (now (means .entry)) i nan)) ⌝ }
@@ -26,6 +26,10 @@ pub fn put_estimate(means: &mut [f64], errors: &mut [f64], i: usize, answer: Est
         Estimate::Estimated(row) => put_row(means, errors, i, row),
         Estimate::TooFew(mean) => {
             means[i] = mean;
+        }
+        Estimate::Complete(all) => {
+            means[i] = all.mean;
+            errors[i] = all.error;
         }
         Estimate::Refused(_) => {}
     }

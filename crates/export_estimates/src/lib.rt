@@ -1,4 +1,5 @@
 // Estimates from totals, and the square root, over C. A slice is a pointer and the number of its elements; an answer is the refusal's
 // number, 0 for accepted, and a value goes out through a reference.
+mod complete;
 mod means;
 mod roots;

@@ -15,7 +15,7 @@ fn word(list: &[u8], at: usize, i: usize) -> u64
     replay_format::word(list, std::num::wrapping_add_usize(at, i * 8))
 }
 
-// The case, 0 for an estimate, 1 for too few or the refusal's number; the mean and the error, 0 where there is none.
+// The case, 0 for an estimate, 1 for too few, 2 for a complete one or the refusal's number; the mean and the error, 0 where there is none.
 struct Told {
     case: u64,
     mean: u64,
@@ -33,6 +33,11 @@ fn words_of(e: Estimate) -> Told {
             case: 1,
             mean: replay_format::bits_of(mean),
             error: 0,
+        },
+        Estimate::Complete(m) => Told {
+            case: 2,
+            mean: replay_format::bits_of(m.mean),
+            error: replay_format::bits_of(m.error),
         },
         Estimate::Refused(k) => Told {
             case: k as u64,

@@ -6,6 +6,7 @@
 mod accuracies;
 mod betas;
 mod columns;
+mod complete;
 mod correlations;
 mod couplings;
 mod draw;
@@ -52,6 +53,7 @@ pub const GROUPS: &[Group] = &[
     Group { name: "house", share: 4.0, refusals: &[1, 2, 3, 4, 5, 6, 7, 8, 9, 11, 12, 13, 21, 22, 23], try_one: house::try_one },
     Group { name: "previews", share: 1.0, refusals: &[1, 2, 3, 4, 5, 6, 7, 8, 21, 24], try_one: previews::try_one },
     Group { name: "shares", share: 1.0, refusals: &[25], try_one: shares::try_one },
+    Group { name: "complete", share: 1.0, refusals: &[2, 12, 18], try_one: complete::try_one },
 ];
 
 /// How long a group is run.

@@ -2,7 +2,7 @@
 
 use compare::{line, run, Until, GROUPS};
 
-const JOBS: [(&str, u64); 12] = [
+const JOBS: [(&str, u64); 13] = [
     ("generators", 150_000),
     ("graphs", 12_000),
     ("strips", 50_000),
@@ -15,6 +15,7 @@ const JOBS: [(&str, u64); 12] = [
     ("house", 40_000),
     ("previews", 20_000),
     ("shares", 40_000),
+    ("complete", 200_000),
 ];
 
 #[test]

@@ -23,7 +23,7 @@
 //! is refused:
 //!
 //! ```
-//! use copperhook::{estimates, mean_error_bound, Job, Kind, Manner, Refusal, Strip};
+//! use copperhook::{estimates_complete, mean_error_bound, Job, Kind, Manner, Refusal, Strip};
 //!
 //! let strip = Strip { kind: Kind::Triangular, width: 3, length: 3, periodic: false };
 //! let (edges, pairs) = (strip.edge_list()?, strip.labelled_pairs()?);
@@ -37,9 +37,9 @@
 //! let count = job.exhaustive(&betas, &factors.all, Manner::Block, &mut squares, &mut fourths, &mut work)?;
 //! assert_eq!(count, 1 << job.graph.cyclomatic()?);
 //!
-//! let (mut means, mut errors) = (vec![0.0; us.len()], vec![0.0; us.len()]);
-//! estimates(count, &squares, &fourths, &mut means, &mut errors)?;
-//! assert!(means.iter().all(|mean| (0.0..=1.0).contains(mean)));
+//! let [mut means, mut errors, mut spreads] = [(); 3].map(|()| vec![0.0; us.len()]);
+//! estimates_complete(count, &squares, &fourths, &mut means, &mut errors, &mut spreads)?;
+//! assert!(means.iter().all(|mean| (0.0..=1.0).contains(mean)) && errors.iter().all(|&error| error == 0.0));
 //! let bound = job.graph.totals_error_bound(&betas, &factors.all)?.expect("couplings this weak have a bound");
 //! assert!(mean_error_bound(bound, 1, count as u64) < 1e-12);
 //!
@@ -88,7 +88,7 @@ mod strip;
 pub mod sys;
 
 pub use accuracy::mean_error_bound;
-pub use estimate::{estimate, estimates, sqrt, Estimate};
+pub use estimate::{estimate, estimate_complete, estimates, estimates_complete, sqrt, Complete, Estimate};
 pub use graph::{Components, ForestEdge, Graph, Kept};
 pub use job::{Figures, Job, Pair, Sampling};
 pub use kind::Kind;

@@ -30,7 +30,7 @@ numbered! {
     StripSides = 15, "a strip side is 0, or the sides multiply above 1,024";
     OddCylinder = 16, "a honeycomb cylinder has odd width";
     Dilution = 17, "keep isn't finite, or a magnitude bound isn't finite or its size is above 1,024";
-    Sums = 18, "the count is 0 or above 2^53, or 0 <= fourth powers <= squares <= count fails";
+    Sums = 18, "the count is 0 or above 2^53, or of a complete enumeration no power of two up to 2^34, or 0 <= fourth powers <= squares <= count fails";
     Betas = 21, "the betas don't rise strictly";
     TesterLimit = 22, "the window is above 12, or free edges exceed 16, the limits of the tester's calls";
     /// [`house::nearest`](crate::house::nearest) tells what could stand there instead.

@@ -211,6 +211,31 @@ extern "C" {
         errors_len: usize,
     ) -> usize;
 
+    /// The mean square, the error +0.0 and the spread of a complete enumeration, from its count and two sums.
+    pub fn copperhook_estimate_complete(
+        count: usize,
+        squares: f64,
+        fourths: f64,
+        mean: *mut f64,
+        error: *mut f64,
+        spread: *mut f64,
+    ) -> usize;
+
+    /// The mean squares, the errors +0.0 and the spreads of a complete enumeration, from its count and two lists of sums.
+    pub fn copperhook_estimates_complete(
+        count: usize,
+        squares: *const f64,
+        squares_len: usize,
+        fourths: *const f64,
+        fourths_len: usize,
+        means: *mut f64,
+        means_len: usize,
+        errors: *mut f64,
+        errors_len: usize,
+        spreads: *mut f64,
+        spreads_len: usize,
+    ) -> usize;
+
     /// The shares of stored correlations: eight words, top and bottom of each.
     pub fn copperhook_shares(stored: *const f64, stored_len: usize, lengths: *const usize, lengths_len: usize, shares: *mut u64) -> usize;
 

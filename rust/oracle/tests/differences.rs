@@ -2,6 +2,7 @@
 
 use oracle::glass::{correlations, exhaustive, Plan};
 use oracle::lattice::{Graph, Kind};
+use oracle::rules::complete::complete_estimate;
 
 /// The original's answer for one pair, block manner, from couplings.
 fn answer(n: usize, edges: &[(usize, usize)], window: usize, couplings: &[f64], pair: (usize, usize)) -> f64 {
@@ -52,6 +53,15 @@ fn a_component_is_named_by_its_root() {
 #[test]
 fn it_has_no_strip_of_eight_neighbours() {
     assert!(Kind::parse("eight").is_none());
+}
+
+#[test]
+fn all_configurations_have_the_error_of_a_sample() {
+    // four configurations, of which none was drawn: the square of the pair's correlation is the same in two and two
+    let graph = Graph::new(4, &[(0, 1, 1.0), (0, 2, 1.0), (1, 3, 1.0), (2, 3, 1.0), (0, 3, 1.0)]);
+    let totals = exhaustive(&graph, &Plan::new(&graph, &[(0, 1)]), &[0.5], 1);
+    let [_, error, spread] = complete_estimate(totals.count as usize, totals.s1[0], totals.s2[0]);
+    assert!(totals.count == 4.0 && totals.se(0, 0) > 0.01 && error == 0.0 && (spread - totals.se(0, 0)).abs() > 0.01);
 }
 
 #[test]

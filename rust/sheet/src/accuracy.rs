@@ -19,12 +19,13 @@ pub fn foot(sheet: &Sheet) -> String {
         foot +=
             &format!("each {what}{at} is within {within} of the exact value for these factors, proved; no digit below that is printed\n");
     }
+    let second = if sheet.spread() { "spreads" } else { "standard errors" };
     let unproved = match (known.is_empty(), unknown.is_empty()) {
         (_, true) if sheet.columns.len() == 1 => return foot,
-        (_, true) => "of the standard errors".to_string(),
+        (_, true) => format!("of the {second}"),
         (true, _) => "for couplings this strong".to_string(),
         (false, _) if sheet.columns.len() == 1 => format!("for couplings as strong as at beta {}", unknown.join(", ")),
-        (false, _) => format!("for couplings as strong as at beta {}, and of the standard errors", unknown.join(", ")),
+        (false, _) => format!("for couplings as strong as at beta {}, and of the {second}", unknown.join(", ")),
     };
     foot + &format!("no bound is proved {unproved}; no digit below 1e-15 is printed there\n")
 }

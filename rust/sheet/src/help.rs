@@ -55,8 +55,9 @@ a preview: what its figures depend on of the above (the strip, --beta, --pairs, 
 of which configurations: one of these; without any, all, where at most 20 edges are free
     --signs S                one: the sign of each kept edge in order, as +-++, or plus for all
     --seed N                 one: the signs drawn with this seed
-    --enumerate              all, up to 34 free edges: the mean square of each correlation, and its standard error
-    --sample N               drawn ones, N in each chunk: mean square and error again
+    --enumerate              all, up to 34 free edges: the mean square of each correlation, and its spread over them.
+                             Nothing is drawn, so no mean has a sampling error, and none is printed
+    --sample N               drawn ones, N in each chunk: the mean square, and its standard error
         --chunks C           that many chunks, or those of A..B, from A up to, and without, B; 1 by default
         --seed N             the seed of their streams; 1 by default
         --threads N          chunks at a time; the bits do not depend on it
@@ -79,6 +80,9 @@ Beside each stands its distance: the least number of kept edges on a walk from o
 The foot of a text tells how far its correlations, or means, are from the exact ones at most, for the factors that the
 host's exp makes, or with --house for the table's. That is proved, and no digit past it is printed; where no bound is
 proved, none below 1e-15. csv and json carry the bound, and every digit.
+The spread of a pair over all configurations is the square root of the mean of its fourth powers less its mean square
+times itself. No bound is proved of it, nor of a standard error. verify works a sheet of all configurations from before
+spreads out as it was made, with standard errors, and says so.
 
 Every sheet ends, or as csv and json begins, with its record: Copperhook's version and commit, the SHA-256 of the
 library's archive and of the factors (both signs at each beta and kept edge, as the library takes them, eight bytes

@@ -80,6 +80,8 @@ pub struct Options {
     pub format: Format,
     pub bits: bool,
     pub linear: bool,
+    /// An enumeration has the standard errors of a sample, as in sheets from before spreads; verify alone asks for it.
+    pub as_sampled: bool,
     pub output: Option<PathBuf>,
 }
 
@@ -368,6 +370,7 @@ impl Written {
             format: self.format.unwrap_or(Format::Text),
             bits: self.bits,
             linear: self.linear,
+            as_sampled: false,
             output: self.output,
         })
     }

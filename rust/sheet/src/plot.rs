@@ -134,7 +134,10 @@ fn series(sheet: &Sheet, axes: &Axes, beta: usize) -> String {
     for point in points {
         let x = point.row.values[beta][0];
         let told = if sheet.bits { bits(x) } else { format!("{x:?}") };
-        let title = format!("beta {}, {} ({}-{}): {told}", sheet.betas[beta], point.row.label, point.row.u, point.row.v);
+        let mut title = format!("beta {}, {} ({}-{}): {told}", sheet.betas[beta], point.row.label, point.row.u, point.row.v);
+        if sheet.spread() {
+            title += &format!(", spread {:?}", point.row.values[beta][1]);
+        }
         if sheet.drawn() {
             svg += &error_bar(axes, &point, x, point.row.values[beta][1], &stroke.colour);
         }
@@ -200,6 +203,9 @@ fn foot(sheet: &Sheet, axes: &Axes) -> Vec<String> {
     let log = matches!(axes.scale, Scale::Log(..));
     if sheet.drawn() {
         foot.push("bars: one standard error to either side".to_string());
+    }
+    if sheet.spread() {
+        foot.push("no bars: every configuration is counted, so no mean has a sampling error; a mark's title has its spread".to_string());
     }
     if any_negative(sheet) {
         foot.push("hollow marks: negative values".to_string());

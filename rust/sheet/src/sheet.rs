@@ -73,6 +73,11 @@ impl Sheet {
         format!("{}; manner {}{}", self.source, self.manner, if self.house { "; house factors" } else { "" })
     }
 
+    /// Whether the second column is how far the squares spread over all configurations.
+    pub fn spread(&self) -> bool {
+        self.columns.get(1) == Some(&"spread")
+    }
+
     /// Whether the second column is how far a mean of drawn configurations may be off.
     pub fn drawn(&self) -> bool {
         self.drawn && self.columns.len() > 1

@@ -1,4 +1,4 @@
-//! Mean squares of correlations, and their standard errors: over all configurations, or over drawn ones.
+//! Mean squares of correlations: over all configurations, with their spreads, or over drawn ones, with their standard errors.
 
 use crate::board::{counted, Board};
 use crate::explained::refused;
@@ -6,13 +6,13 @@ use crate::options::Drawing;
 use crate::record::{Entry, Field};
 use crate::source::{Bounds, Done, Source, Values};
 use crate::trouble::Trouble;
-use copperhook::{estimates, limits, mean_error_bound, Refusal, Sampling};
+use copperhook::{estimates, estimates_complete, limits, mean_error_bound, Refusal, Sampling};
 use std::collections::BTreeMap;
 use std::ops::Range;
 use std::sync::atomic::{AtomicU64, Ordering};
 use std::sync::Mutex;
 
-/// One configuration has a mean and no error.
+/// Of drawn configurations. One has a mean and no error.
 fn columns(count: usize) -> &'static [&'static str] {
     if count == 1 {
         &["mean_square"]
@@ -27,6 +27,11 @@ fn told(count: usize) -> &'static str {
     } else {
         "mean squares of the correlations, and their standard errors"
     }
+}
+
+/// By beta, then by pair.
+fn by_beta(rows: Vec<Vec<f64>>, pairs: usize) -> Values {
+    rows.chunks(pairs.max(1)).map(|of_beta| of_beta.to_vec()).collect()
 }
 
 /// The sums of squares and of fourth powers, by beta, then by pair.
@@ -52,7 +57,14 @@ impl Sums {
         estimates(count, &self.squares, &self.fourths, &mut means, &mut errors)?;
         let shown = columns(count).len();
         let rows: Vec<Vec<f64>> = means.into_iter().zip(errors).map(|(mean, error)| [mean, error][..shown].to_vec()).collect();
-        Ok(rows.chunks(pairs.max(1)).map(|of_beta| of_beta.to_vec()).collect())
+        Ok(by_beta(rows, pairs))
+    }
+
+    /// What they tell where they are of all configurations: nothing was drawn, so there is no error.
+    fn complete(&self, count: usize, pairs: usize) -> Result<Values, Refusal> {
+        let [mut means, mut errors, mut spreads] = [(); 3].map(|()| vec![0.0; self.squares.len()]);
+        estimates_complete(count, &self.squares, &self.fourths, &mut means, &mut errors, &mut spreads)?;
+        Ok(by_beta(means.into_iter().zip(spreads).map(|(mean, spread)| vec![mean, spread]).collect(), pairs))
     }
 }
 
@@ -69,10 +81,12 @@ pub const MOST_FREE: usize = 34;
 pub struct Enumerated {
     free: usize,
     count: usize,
+    /// With the standard errors of a sample, as sheets had them before spreads.
+    as_sampled: bool,
 }
 
 impl Enumerated {
-    pub fn new(board: &Board) -> Result<Enumerated, Trouble> {
+    pub fn new(board: &Board, as_sampled: bool) -> Result<Enumerated, Trouble> {
         if board.free > MOST_FREE {
             let told = format!("{} free edges; --enumerate takes at most {MOST_FREE}, use --sample", board.free);
             return Err(refused(told, Refusal::FreeEdges));
@@ -82,7 +96,7 @@ impl Enumerated {
             let told = format!("{} free edges; with --tester --enumerate takes at most {most}, leave it out or use --sample", board.free);
             return Err(refused(told, Refusal::TesterLimit));
         }
-        Ok(Enumerated { free: board.free, count: 1 << board.free })
+        Ok(Enumerated { free: board.free, count: 1 << board.free, as_sampled })
     }
 
     /// Which configurations they are, for a sheet's head.
@@ -96,7 +110,8 @@ impl Enumerated {
 
 impl Source for Enumerated {
     fn title(&self) -> String {
-        format!("{}: {}", self.which(), told(self.count))
+        let spreads = "mean squares of the correlations, and their spreads";
+        format!("{}: {}", self.which(), if self.as_sampled { told(self.count) } else { spreads })
     }
 
     fn record(&self) -> [Entry; 6] {
@@ -111,7 +126,11 @@ impl Source for Enumerated {
     }
 
     fn columns(&self) -> &'static [&'static str] {
-        columns(self.count)
+        if self.as_sampled {
+            columns(self.count)
+        } else {
+            &["mean_square", "spread"]
+        }
     }
 
     fn sweeps(&self) -> f64 {
@@ -140,7 +159,8 @@ impl Source for Enumerated {
             let refused = |refusal| board.refused_at(i, refusal);
             let mut sums = Sums::zero(pairs);
             let count = board.exhaustive(i, &mut sums.squares, &mut sums.fourths, work).map_err(refused)?;
-            values.extend(sums.estimates(count, pairs).map_err(refused)?);
+            let estimated = if self.as_sampled { sums.estimates(count, pairs) } else { sums.complete(count, pairs) };
+            values.extend(estimated.map_err(refused)?);
             done(i as u64 + 1, board.betas.len() as u64, "betas");
         }
         Ok(values)

@@ -87,6 +87,10 @@ fn job(found: &Cells, format: Format, threads: usize) -> Result<Options, String>
         by.threads = threads;
     }
     options.bits = found.iter().any(|(place, cell)| place.contains("_bits") || place == "columns" && cell.contains("_bits"));
+    // a sheet of all configurations from before spreads is worked out as it was made
+    let of_all = matches!(options.wanted, Wanted::Unsaid | Wanted::Enumerated) && !options.edges && !options.shares;
+    let named = |(place, cell): (&String, &String)| place.contains("spread") || place == "columns" && cell.contains("spread");
+    options.as_sampled = of_all && !found.iter().any(named);
     Ok(Options { format, output: None, ..*options })
 }
 
@@ -109,6 +113,11 @@ fn compared(name: &str, found: &Cells, expected: &Cells, options: &Options) -> V
             true => "the factors differ: those of the house are the same on every host, so the record was altered\n",
             false => "the factors differ: this host's exp is not the one that the sheet was made with, or the record was altered\n",
         };
+    }
+    if options.as_sampled {
+        told +=
+            "note: the sheet is of all configurations and has no spreads: it was made before there were any, and was worked out as then, \
+                 with the standard errors of a sample\n";
     }
     let how = if options.bits { "bit for bit" } else { "digit by digit" };
     told += &match values.len() {

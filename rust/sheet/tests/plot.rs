@@ -105,6 +105,11 @@ fn samples_have_error_bars() {
     assert_eq!(bars(&sampled), 3 * marks(&sampled));
     assert_eq!((bars(job), bars(&format!("{job} --sample 1")), bars(&format!("{job} --seed 3"))), (0, 0, 0));
     assert!(texts(&printed(&sampled)).contains(&"bars: one standard error to either side".to_string()));
+    // nothing was drawn of an enumeration: it has spreads, and no bars
+    let (all, told) =
+        (printed(job), "no bars: every configuration is counted, so no mean has a sampling error; a mark's title has its spread");
+    assert!(texts(&all).contains(&told.to_string()) && !texts(&printed(&sampled)).contains(&told.to_string()));
+    assert_eq!(parts(&all).0.matches(", spread ").count(), marks(job));
 }
 
 #[test]

@@ -5,6 +5,7 @@ use common::{body, folder, labels_and_bits, printed, table, SQUARE};
 use oracle::glass::{correlations, exhaustive, sample, Acc, Plan};
 use oracle::lattice::{Graph, Kind, Strip};
 use oracle::rng::Rng;
+use oracle::rules::complete::complete_estimate;
 use oracle::rules::strips::eight_edges;
 use std::process::Command;
 
@@ -102,17 +103,17 @@ fn strips_of_eight_neighbours_are_the_originals_of_their_edges() {
 fn the_settled_squares_totals() {
     let expected = "\
 square strip, free, 2 by 2: 4 vertices, 4 kept edges, window 2
-all 2 configurations of 1 free edge: mean squares of the correlations, and their standard errors; manner block
+all 2 configurations of 1 free edge: mean squares of the correlations, and their spreads; manner block
 
-pair              u  v  distance  mean_square at 0.6931471805599453  std_error at 0.6931471805599453
-corner-adj-a      0  1         1                     0.358234484804                   0.163597806603
-corner-adj-l      0  2         1                     0.358234484804                   0.163597806603
-short-end-to-end  0  1         1                     0.358234484804                   0.163597806603
-end-to-end-l      0  2         1                     0.358234484804                   0.163597806603
-opp-corners       0  3         2                     0.203135407555                   0.203135407555
+pair              u  v  distance  mean_square at 0.6931471805599453  spread at 0.6931471805599453
+corner-adj-a      0  1         1                     0.358234484804                0.163597806603
+corner-adj-l      0  2         1                     0.358234484804                0.163597806603
+short-end-to-end  0  1         1                     0.358234484804                0.163597806603
+end-to-end-l      0  2         1                     0.358234484804                0.163597806603
+opp-corners       0  3         2                     0.203135407555                0.203135407555
 
 each mean square is within 1.5e-14 of the exact value for these factors, proved; no digit below that is printed
-no bound is proved of the standard errors; no digit below 1e-15 is printed there
+no bound is proved of the spreads; no digit below 1e-15 is printed there
 pairs: -a across, -l along; adj neighbours, d2 two steps apart; bdry on the boundary, lmid halfway along it; sheet --help tells all
 ";
     assert_eq!(body(&printed(SQUARE)), expected);
@@ -120,8 +121,8 @@ pairs: -a across, -l along; adj neighbours, d2 two steps apart; bdry on the boun
     let tree = printed("--kind square --width 1 --length 3 --beta 0.6931471805599453 --format csv --pairs 0-1");
     // 2 (2 (0 + 5) 3 + 2^2 + 5) + 2 roundings of the square, one configuration in one chunk, and one unit more
     let bound = 83.0 / (1u64 << 53) as f64;
-    let head = "kind,boundary,width,length,beta,pair,u,v,distance,mean_square,mean_square_bound";
-    assert_eq!(table(&tree), format!("{head}\nsquare,free,1,3,0.6931471805599453,0-1,0,1,1,0.36,{bound:?}\n"));
+    let head = "kind,boundary,width,length,beta,pair,u,v,distance,mean_square,spread,mean_square_bound";
+    assert_eq!(table(&tree), format!("{head}\nsquare,free,1,3,0.6931471805599453,0-1,0,1,1,0.36,0.0,{bound:?}\n"));
 }
 
 /// Labels with the bits of the means and of the errors, beta after beta.
@@ -133,6 +134,15 @@ fn estimated(strip: &Strip, betas: &[f64], total: &Acc) -> [Vec<(String, u64)>; 
     };
     // a variance of zero counts as +0.0
     [all(&|b, p| total.mean(b, p)), all(&|b, p| total.se(b, p) + 0.0)]
+}
+
+/// The same of all configurations: the original's means, and the spreads of its totals.
+fn complete(strip: &Strip, betas: &[f64], total: &Acc) -> [Vec<(String, u64)>; 2] {
+    let [means, mut spreads] = estimated(strip, betas, total);
+    for (k, spread) in spreads.iter_mut().enumerate() {
+        spread.1 = complete_estimate(total.count as usize, total.s1[k], total.s2[k])[2].to_bits();
+    }
+    [means, spreads]
 }
 
 #[test]
@@ -154,14 +164,15 @@ fn totals_are_the_originals() {
         let plan = Plan::new(&graph, &pairs);
         let cylinder = if periodic { "--cylinder" } else { "" };
         let line = format!("--kind {name} --width {w} --length {l} {cylinder} --beta 0.3,0.8 --format csv --bits");
-        let told = |more: &str| {
+        let told = |more: &str, second: &str| {
             let csv = printed(&format!("{line} {more}"));
-            ["mean_square", "std_error"].map(|column| labels_and_bits(&csv, column))
+            ["mean_square", second].map(|column| labels_and_bits(&csv, column))
         };
-        assert_eq!(told(""), estimated(&strip, &betas, &exhaustive(&graph, &plan, &betas, 1)), "{line}");
+        assert_eq!(told("", "spread"), complete(&strip, &betas, &exhaustive(&graph, &plan, &betas, 1)), "{line}");
         let total = estimated(&strip, &betas, &sample(&graph, &plan, &betas, 8, 3, 20, 7, 1));
         for threads in [1, 2, 5, 40] {
-            assert_eq!(told(&format!("--sample 7 --chunks 3..20 --seed 8 --threads {threads}")), total, "{line} with {threads} threads");
+            let drawn = format!("--sample 7 --chunks 3..20 --seed 8 --threads {threads}");
+            assert_eq!(told(&drawn, "std_error"), total, "{line} with {threads} threads");
         }
     }
 }
@@ -190,7 +201,7 @@ fn the_foot_tells_what_is_proved() {
     );
     assert_eq!(
         foot(&format!("{square} --enumerate --beta -28,1,30")),
-        format!("each mean square at beta 1 {}{}", of("1.5e-14"), none(&format!("{strong}, and of the standard errors")))
+        format!("each mean square at beta 1 {}{}", of("1.5e-14"), none(&format!("{strong}, and of the spreads")))
     );
     // drawn configurations of all betas are one call
     assert_eq!(foot(&format!("{square} --sample 3 --beta 1,28")), none("for couplings this strong"));
@@ -213,7 +224,7 @@ fn digits_that_are_noise_are_not_printed() {
     assert!(values.iter().all(|x| *x != 0.0 && (x - 1.00256858988e-14).abs() < 2.3e-13), "{csv}");
 }
 
-/// Standard errors have no bound.
+/// Spreads have no bound.
 #[test]
 fn no_digit_below_an_absolute_one_is_printed_without_a_bound() {
     let text = printed("--kind square --width 3 --length 5 --beta 0.02");
@@ -267,6 +278,20 @@ fn the_head_tells_which_configurations() {
     assert_eq!(second("--sample 3 --chunks 2..4"), format!("6 configurations drawn with seed 1, chunks 2 to 3 of 3 samples: {squares}"));
     let one = "1 configuration drawn with seed 1, chunk 0 of 1 sample: the squares of the correlations; manner block";
     assert_eq!(second("--sample 1"), one);
+    let all = "the one configuration of 0 free edges: mean squares of the correlations, and their spreads; manner block";
+    assert_eq!(printed("--kind square --width 1 --length 3 --beta 0.4").lines().nth(1).unwrap(), all);
+}
+
+/// An enumeration has no error, and a sample no spread; `--help` says why.
+#[test]
+fn only_samples_have_errors() {
+    let job = "--kind square --width 3 --length 3 --beta 0.4 --format";
+    for format in ["text", "csv", "json"] {
+        let [all, drawn] = ["--enumerate", "--sample 9"].map(|which| printed(&format!("{job} {format} {which}")));
+        assert!(all.contains("spread") && !all.contains("std_error"), "{all}");
+        assert!(drawn.contains("std_error") && !drawn.contains("spread"), "{drawn}");
+    }
+    assert!(printed("--help").contains("Nothing is drawn, so no mean has a sampling error, and none is printed\n"));
 }
 
 #[test]
@@ -278,7 +303,7 @@ fn other_formats() {
     );
     assert_eq!(json.matches('{').count(), json.matches('}').count());
     let apart = printed("--kind square --width 1 --length 3 --beta 1 --dilute 0,1,1,5 --pairs 0-2,1-0");
-    assert!(apart.contains("\n0-2   0  2         -  0.000000000000\n"), "{apart}");
+    assert!(apart.contains("\n0-2   0  2         -    0.000000000000  0.000000000000\n"), "{apart}");
     assert_eq!(printed("--help"), printed("-h --kind"));
 }
 

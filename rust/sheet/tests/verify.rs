@@ -2,6 +2,8 @@
 
 mod common;
 use common::{folder, printed, sheet};
+use oracle::glass::{exhaustive, Acc, Plan};
+use oracle::lattice::{Kind, Strip};
 use std::path::Path;
 
 const JOBS: [&str; 7] = [
@@ -95,6 +97,73 @@ fn another_build_is_noted() {
     std::fs::write(&file, json.replacen("\"copperhook\": \"", "\"copperhook\": \"9", 1)).unwrap();
     let (status, told) = verified(&file);
     assert!(status == Some(0) && told.starts_with("note: copperhook: the sheet has 9"), "{told}");
+}
+
+/// The original's totals of all configurations of a 3 by 4 square at two betas, and how many pairs they have.
+fn totals() -> (Acc, usize) {
+    let strip = Strip { kind: Kind::Square, w: 3, l: 4, periodic: false };
+    let pairs: Vec<(usize, usize)> = strip.pairs().iter().map(|p| (p.1, p.2)).collect();
+    let graph = strip.graph();
+    (exhaustive(&graph, &Plan::new(&graph, &pairs), &[0.44, 0.6], 1), pairs.len())
+}
+
+/// Sheets of that square as they were before spreads: with the standard errors of a sample, the original's.
+fn before_spreads() -> [String; 2] {
+    let (total, pairs) = totals();
+    let error = |beta: usize, pair: usize| format!("{:?}", total.se(beta, pair) + 0.0);
+    let told = |format: &str| printed(&format!("--kind square --width 3 --length 4 --beta 0.44,0.6 --format {format}"));
+    let csv = told("csv");
+    let (record, rows): (Vec<&str>, Vec<&str>) = csv.lines().partition(|line| line.starts_with('#'));
+    let row = |(i, row): (usize, &&str)| {
+        let mut cells: Vec<String> = row.split(',').map(String::from).collect();
+        cells[10] = if i == 0 { "std_error".to_string() } else { error((i - 1) / pairs, (i - 1) % pairs) };
+        cells.join(",") + "\n"
+    };
+    let csv = record.join("\n") + "\n" + &rows.iter().enumerate().map(row).collect::<String>();
+    let json = told("json").replace("their spreads", "their standard errors");
+    let parts: Vec<&str> = json.split("\"spread\": [").collect();
+    let part = |(p, part): (usize, &&str)| format!("\"std_error\": [{}, {}]{}", error(0, p), error(1, p), part.split_once(']').unwrap().1);
+    let json = parts[0].to_string() + &parts[1..].iter().enumerate().map(part).collect::<String>();
+    [csv, json]
+}
+
+const BEFORE: &str =
+    "note: the sheet is of all configurations and has no spreads: it was made before there were any, and was worked out as then, \
+                      with the standard errors of a sample\n";
+
+/// They agree as they were made, and a digit that was changed is found.
+#[test]
+fn a_sheet_from_before_spreads_goes_on_agreeing() {
+    let file = folder("verify-before").join("sheet");
+    for old in before_spreads() {
+        assert!(old.contains("std_error") && !old.contains("spread"), "{old}");
+        std::fs::write(&file, &old).unwrap();
+        let (status, told) = verified(&file);
+        assert!(status == Some(0) && told.starts_with(BEFORE) && told.ends_with(" cells agree, digit by digit\n"), "{told}");
+        let (first, _) = totals();
+        let told = format!("{:?}", first.se(0, 0));
+        std::fs::write(&file, old.replacen(&told, &format!("{told}1"), 1)).unwrap();
+        let (status, what) = verified(&file);
+        assert!(status == Some(1) && what.contains(": 1 of ") && what.contains("std_error"), "{what}");
+    }
+    // one configuration had a mean alone
+    let csv = printed("--kind square --width 1 --length 3 --beta 0.5 --format csv --pairs 0-1");
+    std::fs::write(&file, csv.replacen(",spread,", ",", 1).replacen(",0.0,", ",", 1)).unwrap();
+    let (status, told) = verified(&file);
+    assert!(status == Some(0) && told.starts_with(BEFORE), "{told}");
+    // a sheet of drawn configurations has no word of it
+    std::fs::write(&file, printed(&format!("{} --format csv", JOBS[2]))).unwrap();
+    assert!(!verified(&file).1.contains("note:"));
+}
+
+/// A spread that was changed is found.
+#[test]
+fn a_changed_spread_is_found() {
+    let file = folder("verify-spread").join("sheet.csv");
+    let csv = printed("--kind square --width 1 --length 3 --beta 0.5 --format csv --pairs 0-1");
+    std::fs::write(&file, csv.replacen(",0.0,", ",0.5,", 1)).unwrap();
+    let (status, told) = verified(&file);
+    assert!(status == Some(1) && told.contains("spread: the sheet has 0.5, worked out 0.0\n"), "{told}");
 }
 
 #[test]

@@ -4,9 +4,9 @@ use mathlib.Core.List.{List, [], _∷_, _++_}
 use Prim.Native.Nat.{ℕ, zero, suc, _<_}
 use native.Mathlib.Omega.{arith}
 use lib.Ieee.{Float, nan}
-use lib.ListN.{getD}
+use lib.ListN.{length, getD}
 use Rattle.list_laws.specs.Tabulate.{tabulate}
-use Rattle.list_laws.specs.Laws.Tabulate.{tabulate-at}
+use Rattle.list_laws.specs.Laws.Tabulate.{tabulate-at, tabulate-length}
 use Rattle.transfer_matrix.specs.Job.{Edge}
 use Rattle.transfer_matrix.specs.Checked.{All, SameEnds, Apart}
 use Rattle.entry_correlations.specs.Correlations.{settled}
@@ -39,3 +39,9 @@ pub settled-at : (refused : ℕ) (f : ℕ → Float) (size : ℕ) (old new : Lis
 unfolding settled
 settled-at refused f size old new accepted is k l =
     ap (λ (x : List Float). getD x k nan) (is ∙ ap (λ (r : ℕ). settled r (tabulate f size) old) accepted) ∙ tabulate-at f size k nan l
+
+pub settled-length : (refused : ℕ) (f : ℕ → Float) (size : ℕ) (old new : List Float) → refused ≡ 0 → new ≡ settled refused (tabulate f size) old
+    → length new ≡ size
+unfolding settled
+settled-length refused f size old new accepted is =
+    ap length (is ∙ ap (λ (r : ℕ). settled r (tabulate f size) old) accepted) ∙ tabulate-length f size

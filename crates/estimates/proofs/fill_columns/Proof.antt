@@ -10,7 +10,7 @@ use Rattle.list_laws.specs.Tabulate.{tabulate}
 use Rattle.estimate.specs.declared.answer.Estimate.{Estimate}
 use Rattle.estimate.specs.Estimates.{meanIn, errorIn}
 use Rattle.estimates.specs.Columns.{estimateAt}
-use Rattle.estimates.proofs.Rows.{rows, no-rows, rows-length, one-more, all-rows}
+use Rattle.estimates.specs.Laws.Rows.{rows, no-rows, rows-length, one-more, all-rows}
 use Rattle.estimates.proofs.fill_columns.Statement.{statement}
 use Rattle.estimates.proofs.fill_columns.Tie as tie
 

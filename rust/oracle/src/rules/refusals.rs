@@ -1,5 +1,6 @@
 //! What each call is refused by: the number of the first check that fits, in document 01's order; 0 for accepted.
 
+use super::complete::is_complete;
 use super::configurations::Drawn;
 use super::house::place;
 use super::lists::{Edges, Pairs};
@@ -148,10 +149,28 @@ pub fn estimate_refusal(count: usize, squares: f64, fourths: f64) -> usize {
     unless(countable(count) && in_order(count, squares, fourths), 18)
 }
 
+/// Check 18 of a complete enumeration.
+pub fn complete_refusal(count: usize, squares: f64, fourths: f64) -> usize {
+    unless(is_complete(count) && in_order(count, squares, fourths), 18)
+}
+
 /// Checks 2, 12 and 18 of a sheet's columns.
 pub fn column_refusal(count: usize, squares: &[f64], fourths: &[f64], columns: [usize; 2]) -> usize {
     let all_in_order = || squares.iter().zip(fourths).all(|(&s, &f)| in_order(count, s, f));
     first(unless(squares.len() == fourths.len(), 2), || {
         first(unless(columns == [squares.len(); 2], 12), || unless(countable(count) && all_in_order(), 18))
     })
+}
+
+/// The same of a complete enumeration's three columns.
+pub fn complete_column_refusal(count: usize, squares: &[f64], fourths: &[f64], columns: [usize; 3]) -> usize {
+    if squares.len() != fourths.len() {
+        2
+    } else if columns.iter().any(|&length| length != squares.len()) {
+        12
+    } else if !is_complete(count) || squares.iter().zip(fourths).any(|(&s, &f)| !in_order(count, s, f)) {
+        18
+    } else {
+        0
+    }
 }
