@@ -1,0 +1,6 @@
+-- Definitions,
+pub mod Records
+pub mod Counts
+pub mod Sheets
+-- and the laws of these definitions, which no reader needs to believe.
+pub mod Laws
