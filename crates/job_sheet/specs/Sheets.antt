@@ -1,9 +1,13 @@
 -- The grammar of a sheet, apart from any reader: exactly one kind 1 first, then all 2, all 3, all 4, then 5 with nothing behind it.
 use mathlib.Core.Path.{_≡_}
+use mathlib.Core.Bool.{cond}
 use mathlib.Core.List.{List}
-use Prim.Native.Nat.{ℕ, _+_, _*_, _≤_, _<_}
+use Prim.Native.Nat.{ℕ, _+_, _*_, _<_}
+use lib.Dec.{ltb}
 use lib.ListN.{length}
 use Rattle.job_sheet.specs.Records.{kindAt}
+use Rattle.job_sheet.specs.Counts.{counted, refused}
+use Rattle.job_sheet.specs.declared.counts.Counts.{Counts}
 
 -- where the records of each kind stand
 abbrev pub edgePlace : (i : ℕ) → ℕ
@@ -34,3 +38,7 @@ pub record Front (bytes : List ℕ) (edges betas pairs : ℕ) : Type 0 where
 pub record Sheet (bytes : List ℕ) (edges betas pairs : ℕ) : Type 0 where
   pub front : Front bytes edges betas pairs
   pub size : length bytes ≡ sheetLength edges betas pairs
+
+-- What the reader tells of bytes with a sheet at their front: its numbers of records or, where bytes are behind it, 20.
+abbrev pub toldOf : List ℕ → (edges betas pairs : ℕ) → Counts
+toldOf bytes edges betas pairs = cond (ltb (sheetLength edges betas pairs) (length bytes)) (refused 20) (counted edges betas pairs)

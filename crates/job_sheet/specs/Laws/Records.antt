@@ -158,6 +158,16 @@ module _ (sheet : List ℕ) (place last : ℕ) where
       go true h = absurd (h refl)
       go false h = refl
 
+  -- no other number
+  pub refusal-number : (refusalAt sheet place last ≡ 0) ⊎ ((refusalAt sheet place last ≡ 19) ⊎ (refusalAt sheet place last ≡ 20))
+  unfolding refusalAt
+  refusal-number = go (badRecord sheet place last) (badTail sheet place)
+    where
+      go : (p q : Bool) → (told p q ≡ 0) ⊎ ((told p q ≡ 19) ⊎ (told p q ≡ 20))
+      go true q = inr (inl refl)
+      go false true = inr (inr refl)
+      go false false = inl refl
+
   pub ended : refusalAt sheet place last ≡ 0 → 5 ≤ kindAt sheet place → length sheet ≤ place + 1
   unfolding badTail
   ended e h = go (ltb (place + 1) (length sheet)) refl (sym (by-tail (λ z. omega arith)) ∙ e)
@@ -208,3 +218,11 @@ answer-refused sheet place last k e z = rw (← e, ne-eqb k 0 z)
 pub answer-read : (sheet : List ℕ) (place last : ℕ) → refusalAt sheet place last ≡ 0 → recordAt sheet place last ≡ recordOf sheet place (kindAt sheet place)
 unfolding recordAt
 answer-read sheet place last e = rw e
+
+-- nothing may follow the end
+closed : (last kind : ℕ) → 5 ≤ last → mayFollow last kind ≡ false
+unfolding mayFollow
+closed last kind h = rw (ne-eqb last 0 (λ e. omega arith), le-leb 5 last h)
+
+pub from-five : (sheet : List ℕ) (place last : ℕ) → 5 ≤ last → refusalAt sheet place last ≡ 19
+from-five sheet place last h = sym (out-of-order sheet place last (closed last (kindAt sheet place) h))
