@@ -2,6 +2,7 @@
 use mathlib.Core.Path.{_≡_}
 use mathlib.Core.List.{List, [], _∷_, _++_}
 use Prim.Native.Nat.{ℕ, _+_, _^_, _<_}
+use lib.Ieee.{Float, nan, binary64, ofBits, toBits}
 use lib.ListN.{length, getD}
 use Rattle.list_laws.specs.Tabulate.{tabulate}
 use Rattle.little_endian.specs.Words.{wordAt, bytesOf}
@@ -85,3 +86,23 @@ jobIn bytes edges betas pairs = record {
 -- The job of a sheet, by the numbers of records that the reader tells.
 unfoldable pub jobOf : List ℕ → Job
 jobOf bytes = let c = countsOf bytes in jobIn bytes (c .edges) (c .betas) (c .pairs)
+
+-- the bits of doubles, one pattern for every NaN, and the doubles of bits
+unfoldable pub bitsOf : List Float → List ℕ
+bitsOf xs = tabulate (λ i. toBits binary64 (getD xs i nan)) (length xs)
+
+unfoldable pub doublesOf : List ℕ → List Float
+doublesOf bits = tabulate (λ i. ofBits binary64 (getD bits i 0)) (length bits)
+
+-- The job that a caller hands in, in the lists' order.
+abbrev pub given : (n floor : ℕ) → (a b : List ℕ) → List Float → (us vs : List ℕ) → List Float → Job
+given n floor a b m us vs betas = record {
+  vertices = n;
+  floor = floor;
+  ones = a;
+  others = b;
+  magnitudes = bitsOf m;
+  betas = bitsOf betas;
+  firsts = us;
+  seconds = vs;
+}
