@@ -39,8 +39,13 @@ appended-byte place b l h = record {
 put-over : (front buffer s : List ℕ) (place : ℕ) → length front ≡ place → put (over front buffer) place s ≡ over (front ++ s) buffer
 unfolding put
 put-over front buffer s place e =
-    rw (← e, take-at front (drop (length front) buffer) (length front) refl, drop-append-add front (drop (length front) buffer) (length s),
-    drop-drop (length s) (length front) buffer, length-append front s)
+    rw (
+      ← e,
+      take-at front (drop (length front) buffer) (length front) refl,
+      drop-append-add front (drop (length front) buffer) (length s),
+      drop-drop (length s) (length front) buffer,
+      length-append front s,
+    )
 
 pub appended-word : {l l′ : List ℕ} (place width x : ℕ) → place + width ≤ length l → l′ ≡ put l place (bytesOf width x) → Appended place (bytesOf width x) l l′
 appended-word {l} {l′} place width x h q = record {
