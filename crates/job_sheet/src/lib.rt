@@ -6,5 +6,6 @@ pub use counts::Counts;
 pub use counts::count_records;
 pub use record::Record;
 pub use record::check_record;
+pub use record::number_at;
 pub use record::read_record;
 pub use record::record_length;

@@ -79,7 +79,7 @@ pub fn check_record(sheet: &[u8], place: usize, last: usize) -> usize
 }
 
 // The number of so few bytes that begin at `place`.
-fn number_at(sheet: &[u8], place: usize, width: usize) -> usize
+pub fn number_at(sheet: &[u8], place: usize, width: usize) -> usize
     requires { ⌜ (width ≤ 8) × (place + width ≤ length (now sheet)) ⌝ }
     ensures { λ r. ⌜ r ≡ wordAt (now (sheet .entry)) place width ⌝ }
 {
