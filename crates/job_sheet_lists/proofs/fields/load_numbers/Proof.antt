@@ -54,7 +54,7 @@ loop-again c =
     let a = s .args in
     let f = s .pre .fits in
     let next =
-        loaded-more (λ j. wordAt (a .sheet .now) (a .place + a .step * j + a .offset) 2) (a .out .now) _ _ _ (omega arith) (l .loop .inv .0) (c .number-at .ensures) in
+    loaded-more (λ j. wordAt (a .sheet .now) (a .place + a .step * j + a .offset) 2) (a .out .now) _ _ _ (omega arith) (l .loop .inv .0) (c .number-at .ensures) in
     (next, omega arith, loaded-length _ _ _ _ (omega arith) next)
 
 same-length : tie.Need-same-length Inv-loop μ-loop
