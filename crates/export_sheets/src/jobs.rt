@@ -16,14 +16,15 @@ fn tell_job(
         (now (pairs .entry)) (now (pairs .exit)) (now («n_betas» .entry)) (now («n_betas» .exit)) ⌝ }
 {
     let refusal = job.refusal;
-    if refusal == 0 {
-        *n = job.n;
-        *floor = job.floor;
-        *edges = job.edges;
-        *pairs = job.pairs;
-        *n_betas = job.betas;
+    if refusal != 0 {
+        return refusal;
     }
-    refusal
+    *n = job.n;
+    *floor = job.floor;
+    *edges = job.edges;
+    *pairs = job.pairs;
+    *n_betas = job.betas;
+    0
 }
 
 // As `job_sheet_lists::sheet_job`, its numbers through references, which keep what they held where the call is refused.

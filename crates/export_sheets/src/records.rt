@@ -7,7 +7,7 @@ use job_sheet::read_record;
 
 // The parts of a record at `place` through references; what it has not keeps what it held.
 fn tell_record(
-    record: Record,
+    answer: Record,
     place: usize,
     kind: &mut usize,
     next: &mut usize,
@@ -15,11 +15,11 @@ fn tell_record(
     second: &mut usize,
     value: &mut u64,
 ) -> usize
-    requires { ⌜ nextOf record place 0 < 2 ^ 64 ⌝ }
-    ensures { λ r. ⌜ Tells record place r (now (kind .entry)) (now (kind .exit)) (now (next .entry)) (now (next .exit)) (now (first .entry)) (now (first .exit))
+    requires { ⌜ nextOf answer place 0 < 2 ^ 64 ⌝ }
+    ensures { λ r. ⌜ Tells answer place r (now (kind .entry)) (now (kind .exit)) (now (next .entry)) (now (next .exit)) (now (first .entry)) (now (first .exit))
         (now (second .entry)) (now (second .exit)) (now (value .entry)) (now (value .exit)) ⌝ }
 {
-    match record {
+    match answer {
         Record::Size(n, floor) => {
             *kind = 1;
             *next = place + 4;
@@ -73,6 +73,6 @@ pub extern "C" fn copperhook_sheet_read(
     ensures { λ r. ⌜ Tells (recordAt (now (sheet .entry)) place last) place r (now (kind .entry)) (now (kind .exit)) (now (next .entry)) (now (next .exit))
         (now (first .entry)) (now (first .exit)) (now (second .entry)) (now (second .exit)) (now (value .entry)) (now (value .exit)) ⌝ }
 {
-    let record = read_record(sheet, place, last);
-    tell_record(record, place, kind, next, first, second, value)
+    let answer = read_record(sheet, place, last);
+    tell_record(answer, place, kind, next, first, second, value)
 }
