@@ -16,6 +16,7 @@ mod graphs;
 mod guarded;
 mod house;
 mod shapes;
+mod sheets;
 mod strips;
 mod totals;
 
@@ -47,6 +48,7 @@ pub const GROUPS: &[Group] = &[
     Group { name: "accuracies", share: 1.0, refusals: &[1, 2, 3, 4, 5, 6, 7, 10, 21], try_one: accuracies::try_one },
     Group { name: "wide", share: 0.0, refusals: &[], try_one: correlations::try_wide },
     Group { name: "house", share: 4.0, refusals: &[1, 2, 3, 4, 5, 6, 7, 8, 9, 11, 12, 13, 21, 22, 23], try_one: house::try_one },
+    Group { name: "sheets", share: 1.0, refusals: &[1, 2, 3, 4, 5, 6, 7, 8, 12, 19, 20, 21], try_one: sheets::try_one },
 ];
 
 /// How long a group is run.

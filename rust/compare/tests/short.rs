@@ -2,7 +2,7 @@
 
 use compare::{line, run, Until, GROUPS};
 
-const JOBS: [(&str, u64); 10] = [
+const JOBS: [(&str, u64); 11] = [
     ("generators", 150_000),
     ("graphs", 12_000),
     ("strips", 50_000),
@@ -13,6 +13,7 @@ const JOBS: [(&str, u64); 10] = [
     ("columns", 20_000),
     ("accuracies", 20_000),
     ("house", 40_000),
+    ("sheets", 20_000),
 ];
 
 #[test]

@@ -4,7 +4,7 @@ use crate::numbered::numbered;
 use std::fmt;
 
 numbered! {
-    /// Why a call is refused. The numbers follow the order of the checks, but that strips check 15 to 17 before 12, 21 stands between 4
+    /// Why a call is refused. The numbers follow the order of the checks, but that 19 and 20 stand before 1, strips check 15 to 17 before 12, 21 stands between 4
     /// and 5, 22 right behind 6 for the window and right behind 9 for free edges, and 23 in the place of 10: of several reasons that fit,
     /// the first is returned.
     pub enum Refusal;
@@ -31,6 +31,8 @@ numbered! {
     OddCylinder = 16, "a honeycomb cylinder has odd width";
     Dilution = 17, "keep isn't finite, or a magnitude bound isn't finite or its size is above 1,024";
     Sums = 18, "the count is 0 or above 2^53, or 0 <= fourth powers <= squares <= count fails";
+    SheetRecord = 19, "a record of the job sheet is missing, cut short, of unknown kind or out of order";
+    SheetTail = 20, "bytes after the end of the job sheet";
     Betas = 21, "the betas don't rise strictly";
     TesterLimit = 22, "the window is above 12, or free edges exceed 16, the limits of the tester's calls";
     /// [`house::nearest`](crate::house::nearest) tells what could stand there instead.

@@ -141,6 +141,7 @@ fn header_and_bindings_have_the_same_limits() {
         ("TESTER_FREE", limits::TESTER_FREE),
         ("STANDARD_PAIRS", limits::STANDARD_PAIRS),
         ("LABEL_BYTES", limits::LABEL_BYTES),
+        ("SHEET_BYTES", limits::SHEET_BYTES),
     ];
     assert_eq!(enumerated("limit"), limits.map(|(name, most)| format!("COPPERHOOK_{name} = {most}")));
 }

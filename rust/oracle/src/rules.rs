@@ -8,6 +8,7 @@ pub mod house;
 pub mod lists;
 pub mod natural;
 pub mod refusals;
+pub mod sheets;
 pub mod strips;
 pub mod sweeps;
 pub mod totals;
