@@ -21,7 +21,7 @@ pub two-lengths : (k l x y : ℕ) → length (bytesOf k x ++ bytesOf l y) ≡ k 
 two-lengths k l x y = length-append (bytesOf k x) (bytesOf l y) ∙ omega (arith, bytesOf-length k x, bytesOf-length l y)
 
 pub size-length : (n floor : ℕ) → length (sizeRecord n floor) ≡ 4
-size-length n floor = omega (arith, two-lengths 2 1 n floor)
+size-length n floor = simp (length-append, bytesOf-length) (omega arith)
 
 pub edge-length : (a b bits : ℕ) → length (edgeRecord a b bits) ≡ 13
 edge-length a b bits =

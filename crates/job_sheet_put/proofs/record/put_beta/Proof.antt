@@ -7,7 +7,7 @@ use Rattle.job_sheet_put.proofs.record.put_beta.Statement.{statement}
 use Rattle.job_sheet_put.proofs.record.put_beta.Tie as tie
 
 put-word-requires : tie.Need-put-word-requires
-put-word-requires c κs = let a = c .before .before .args in omega (arith, length-set (a .sheet .now) (a .place) 3)
+put-word-requires c κs = simp length-set (omega arith)
 
 returns : tie.Need-returns
 returns c = one-field _ _ _ _ (omega arith) (c .before .before .put-word .ensures)
