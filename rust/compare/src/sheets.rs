@@ -50,9 +50,7 @@ fn write(draw: &mut Draw, job: &Job) -> Result<(usize, Option<Vec<u8>>), String>
         let (a, a_len, b, b_len, m, m_len) = (a.pointer(), a.len(), b.pointer(), b.len(), m.pointer(), m.len());
         let (us, us_len, vs, vs_len, x, x_len) = (us.pointer(), us.len(), vs.pointer(), vs.len(), lent.pointer(), lent.len());
         let (n, floor, out) = (edges.n, edges.floor, buffer.pointer_mut());
-        sys::copperhook_sheet_write(
-            n, floor, a, a_len, b, b_len, m, m_len, us, us_len, vs, vs_len, x, x_len, out, room, &mut bytes,
-        )
+        sys::copperhook_sheet_write(n, floor, a, a_len, b, b_len, m, m_len, us, us_len, vs, vs_len, x, x_len, out, room, &mut bytes)
     };
     let expected = write_refusal(edges, pairs, betas, room);
     equal("write: answer", number, expected)?;
@@ -138,7 +136,8 @@ fn read_job(draw: &mut Draw, sheet: &[u8]) -> Result<usize, String> {
     let none = Sheet::default();
     let job = if expected == 0 { job.as_ref().unwrap_or(&none) } else { &none };
     let front = |new: &[usize], length: usize| [new, &numbers(length)[new.len()..]].concat();
-    let doubled = |new: &[u64], held: &[f64]| [&new.iter().map(|&bits| f64::from_bits(bits)).collect::<Vec<_>>()[..], &held[new.len()..]].concat();
+    let doubled =
+        |new: &[u64], held: &[f64]| [&new.iter().map(|&bits| f64::from_bits(bits)).collect::<Vec<_>>()[..], &held[new.len()..]].concat();
     (a.holds("job: a", &front(&job.a, lengths[0]))?, b.holds("job: b", &front(&job.b, lengths[1]))?);
     (us.holds("job: us", &front(&job.us, lengths[3]))?, vs.holds("job: vs", &front(&job.vs, lengths[4]))?);
     (m.holds("job: m", &doubled(&job.m, &doubles[0]))?, x.holds("job: betas", &doubled(&job.betas, &doubles[1]))?);

@@ -141,7 +141,9 @@ impl JobSheet {
         let (mut us, mut vs, mut betas) = (vec![0; sheet.len() / 5], vec![0; sheet.len() / 5], vec![0.0; sheet.len() / 9]);
         let (mut n, mut floor, mut edges, mut pairs, mut n_betas) = (0, 0, 0, 0, 0);
         let (told_n, told_floor): (*mut usize, *mut usize) = (&mut n, &mut floor);
-        Refusal::told(call!(copperhook_sheet_job(; read sheet; with told_n, told_floor; write a, b, m, us, vs, betas; tell edges, pairs, n_betas)))?;
+        Refusal::told(
+            call!(copperhook_sheet_job(; read sheet; with told_n, told_floor; write a, b, m, us, vs, betas; tell edges, pairs, n_betas)),
+        )?;
         a.truncate(edges);
         b.truncate(edges);
         m.truncate(edges);

@@ -6,7 +6,9 @@ use crate::options::Options;
 use crate::sha256::sha256;
 use crate::trouble::Trouble;
 use crate::values::spelled;
-use copperhook::{limits, Arrangement, Caller, Dilution, EdgeList, Factors, Graph, Job, JobSheet, Kind, LabelledPair, Manner, Refusal, Strip};
+use copperhook::{
+    limits, Arrangement, Caller, Dilution, EdgeList, Factors, Graph, Job, JobSheet, Kind, LabelledPair, Manner, Refusal, Strip,
+};
 use std::ops::Range;
 use std::path::Path;
 
@@ -111,7 +113,8 @@ impl Board {
             return Err(named(Refusal::TesterLimit));
         }
         let pairs = us.iter().zip(&vs).map(|(u, v)| LabelledPair { label: format!("{u}-{v}"), u: *u, v: *v }).collect();
-        let mut board = Board::ready(options, None, edges.clone(), [n, window], pairs, betas.clone(), Some(file.display().to_string()), &named)?;
+        let mut board =
+            Board::ready(options, None, edges.clone(), [n, window], pairs, betas.clone(), Some(file.display().to_string()), &named)?;
         (board.floor, board.job_sha256) = (floor, Some(sha256(&sheet)));
         Ok(board)
     }
@@ -141,7 +144,26 @@ impl Board {
         let arrangement = if options.less_room { Arrangement::LessRoom } else { Arrangement::KeepAll };
         let caller = if options.tester { Caller::Tester } else { Caller::Desk };
         let (calls, house) = (copperhook::Options { manner, arrangement, caller }, options.house);
-        Ok(Board { strip, betas, options: calls, pairs, distances, n, kept, free, window, floor: window, job_sha256: None, rooms, factors, house, own, edges, us, vs })
+        Ok(Board {
+            strip,
+            betas,
+            options: calls,
+            pairs,
+            distances,
+            n,
+            kept,
+            free,
+            window,
+            floor: window,
+            job_sha256: None,
+            rooms,
+            factors,
+            house,
+            own,
+            edges,
+            us,
+            vs,
+        })
     }
 
     /// The work memory of one call that keeps all, in doubles.

@@ -77,11 +77,10 @@ pub fn of_job(file: &Path, job: &Job, betas: &[f64], refusal: Refusal) -> Troubl
     };
     let oversized = |x: &f64| !x.is_finite() || x.abs() > 1024.0;
     let told = match refusal {
-        Refusal::VertexCount => format!("{n} vertices; 1 to {}", limits::VERTICES),
+        Refusal::VertexCount => format!("{n} vertices; 1 to 1,024"),
         Refusal::ListLengths => {
             let (edges, pairs) = (a.len(), job.us.len());
-            let (e, p, b) = (limits::EDGES, limits::PAIRS, limits::BETAS);
-            format!("{edges} edges, {pairs} pairs and {} betas; at most {e}, {p} and {b}", betas.len())
+            format!("{edges} edges, {pairs} pairs and {} betas; at most 4,096, {} and {}", betas.len(), limits::PAIRS, limits::BETAS)
         }
         Refusal::EdgeEnds => (0..a.len()).find(|&i| bad_end(a[i], b[i])).map_or(String::new(), |i| ends(i, a[i], b[i], "edge")),
         Refusal::PairEnds => {

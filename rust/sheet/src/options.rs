@@ -79,7 +79,10 @@ pub struct Options {
 pub enum Asked {
     Help,
     Version,
-    Verify { file: PathBuf, threads: usize },
+    Verify {
+        file: PathBuf,
+        threads: usize,
+    },
     /// A job sheet, record by record.
     Show(PathBuf),
     Sheet(Options),
@@ -307,7 +310,9 @@ impl Written {
             ("--edges", self.edges),
         ];
         match given.iter().find(|g| g.1) {
-            Some((name, _)) => Err(Trouble::asked(format!("--job and {name} cannot be combined: the job sheet has its own graph, pairs and betas"))),
+            Some((name, _)) => {
+                Err(Trouble::asked(format!("--job and {name} cannot be combined: the job sheet has its own graph, pairs and betas")))
+            }
             None => Ok(()),
         }
     }
