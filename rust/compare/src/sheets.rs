@@ -57,8 +57,12 @@ fn write(draw: &mut Draw, job: &Job) -> Result<(usize, Option<Vec<u8>>), String>
     let after = if expected == 0 { [&sheet, &before[sheet.len()..]].concat() } else { before };
     buffer.holds("write: sheet", &after)?;
     equal("write: bytes", bytes, if expected == 0 { sheet.len() } else { 0xb0 })?;
-    (a.holds("a", &edges.a)?, b.holds("b", &edges.b)?, m.holds("m", &edges.m)?);
-    (us.holds("us", &pairs.us)?, vs.holds("vs", &pairs.vs)?, lent.holds("betas", betas)?);
+    a.holds("a", &edges.a)?;
+    b.holds("b", &edges.b)?;
+    m.holds("m", &edges.m)?;
+    us.holds("us", &pairs.us)?;
+    vs.holds("vs", &pairs.vs)?;
+    lent.holds("betas", betas)?;
     Ok((number, (expected == 0).then_some(sheet)))
 }
 
@@ -138,9 +142,12 @@ fn read_job(draw: &mut Draw, sheet: &[u8]) -> Result<usize, String> {
     let front = |new: &[usize], length: usize| [new, &numbers(length)[new.len()..]].concat();
     let doubled =
         |new: &[u64], held: &[f64]| [&new.iter().map(|&bits| f64::from_bits(bits)).collect::<Vec<_>>()[..], &held[new.len()..]].concat();
-    (a.holds("job: a", &front(&job.a, lengths[0]))?, b.holds("job: b", &front(&job.b, lengths[1]))?);
-    (us.holds("job: us", &front(&job.us, lengths[3]))?, vs.holds("job: vs", &front(&job.vs, lengths[4]))?);
-    (m.holds("job: m", &doubled(&job.m, &doubles[0]))?, x.holds("job: betas", &doubled(&job.betas, &doubles[1]))?);
+    a.holds("job: a", &front(&job.a, lengths[0]))?;
+    b.holds("job: b", &front(&job.b, lengths[1]))?;
+    us.holds("job: us", &front(&job.us, lengths[3]))?;
+    vs.holds("job: vs", &front(&job.vs, lengths[4]))?;
+    m.holds("job: m", &doubled(&job.m, &doubles[0]))?;
+    x.holds("job: betas", &doubled(&job.betas, &doubles[1]))?;
     let counts = if expected == 0 { [job.n, job.floor, edges, pairs, betas] } else { [0xb6; 5] };
     for (i, name) in ["n", "floor", "edges", "pairs", "n_betas"].into_iter().enumerate() {
         equal(&format!("job: {name}"), told[i], counts[i])?;

@@ -42,6 +42,18 @@ pub struct Board {
     vs: Vec<usize>,
 }
 
+/// What a board is made of.
+struct Given {
+    strip: Option<Strip>,
+    edges: EdgeList,
+    n: usize,
+    window: usize,
+    pairs: Vec<LabelledPair>,
+    betas: Vec<f64>,
+    /// How the strip is diluted, or the file of the job sheet.
+    own: Option<String>,
+}
+
 /// So many of something.
 pub fn counted(count: usize, one: &str, many: &str) -> String {
     format!("{count} {}", if count == 1 { one } else { many })
@@ -98,8 +110,8 @@ impl Board {
             None => strip.labelled_pairs().map_err(named)?,
             Some(pairs) => pairs.iter().map(|&(u, v)| LabelledPair { label: format!("{u}-{v}"), u, v }).collect(),
         };
-        let own = diluted(options);
-        Board::ready(options, Some(strip), edges, [n, window], pairs, options.betas.clone(), own, &named)
+        let (strip, betas, own) = (Some(strip), options.betas.clone(), diluted(options));
+        Board::ready(options, Given { strip, edges, n, window, pairs, betas, own }, &named)
     }
 
     fn of_job(options: &Options, file: &Path) -> Result<Board, Trouble> {
@@ -113,24 +125,15 @@ impl Board {
             return Err(named(Refusal::TesterLimit));
         }
         let pairs = us.iter().zip(&vs).map(|(u, v)| LabelledPair { label: format!("{u}-{v}"), u: *u, v: *v }).collect();
-        let mut board =
-            Board::ready(options, None, edges.clone(), [n, window], pairs, betas.clone(), Some(file.display().to_string()), &named)?;
+        let own = Some(file.display().to_string());
+        let given = Given { strip: None, edges: edges.clone(), n, window, pairs, betas: betas.clone(), own };
+        let mut board = Board::ready(options, given, &named)?;
         (board.floor, board.job_sha256) = (floor, Some(sha256(&sheet)));
         Ok(board)
     }
 
-    /// `own` is how a strip is diluted, or the job sheet's file.
-    #[allow(clippy::too_many_arguments)]
-    fn ready(
-        options: &Options,
-        strip: Option<Strip>,
-        edges: EdgeList,
-        [n, window]: [usize; 2],
-        pairs: Vec<LabelledPair>,
-        betas: Vec<f64>,
-        own: Option<String>,
-        named: &dyn Fn(Refusal) -> Trouble,
-    ) -> Result<Board, Trouble> {
+    fn ready(options: &Options, given: Given, named: &dyn Fn(Refusal) -> Trouble) -> Result<Board, Trouble> {
+        let Given { strip, edges, n, window, pairs, betas, own } = given;
         let graph = edges.graph(n).with_floor(window);
         let (us, vs): (Vec<usize>, Vec<usize>) = pairs.iter().map(|p| (p.u, p.v)).unzip();
         let job = Job { graph, us: &us, vs: &vs };

@@ -37,7 +37,7 @@ fn found(sheet: &[u8], place: usize, last: usize) -> String {
     };
     match sheet.get(place).copied().map(usize::from) {
         None => format!("the sheet ends there, without its end record; a record of kind {expected} may follow"),
-        Some(kind @ 1..=5) if kind == 1 && last != 0 || kind != 1 && kind < last || kind != 1 && last == 0 => {
+        Some(kind @ 1..=5) if (kind == 1) != (last == 0) || kind < last => {
             format!("a record of kind {kind} is out of order; kind {expected} may stand there")
         }
         Some(kind @ 1..=5) => format!("a record of kind {kind} has {} bytes, and {} are left", SIZES[kind], sheet.len() - place),

@@ -85,7 +85,7 @@ pub enum Asked {
     },
     /// A job sheet, record by record.
     Show(PathBuf),
-    Sheet(Options),
+    Sheet(Box<Options>),
 }
 
 /// The options as they are written, before they are put together.
@@ -184,7 +184,7 @@ fn made(words: &[String]) -> Result<Asked, Trouble> {
             written.value(name, value)?;
         }
     }
-    written.put_together().map(Asked::Sheet)
+    written.put_together().map(|options| Asked::Sheet(Box::new(options)))
 }
 
 /// The first option stays: a second one would say something else.
