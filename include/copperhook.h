@@ -56,7 +56,7 @@ enum copperhook_refusal {
     COPPERHOOK_FREE_EDGES = 9,      /* over 34 free edges for enumerated totals, or over 24 for stored correlations */
     COPPERHOOK_FACTORS = 10,        /* the factor list has another length, or an entry is not finite and above zero */
     COPPERHOOK_SAMPLES = 11,        /* chunks times samples per chunk exceed 2^32 */
-    COPPERHOOK_BUFFER = 12,         /* a result list is not of its exact length (edges, labels and pair sets: too short) */
+    COPPERHOOK_BUFFER = 12,         /* a result list is not of its exact length (edges, labels, pair sets and job sheets: too short) */
     COPPERHOOK_WORK_MEMORY = 13,    /* the work memory is shorter than the room */
     COPPERHOOK_PARTITION_SUM = 14,  /* some pair's partition sum Z is not finite and above zero */
     COPPERHOOK_STRIP_SIDES = 15,    /* a strip side is 0, or the sides multiply above 1,024 */
