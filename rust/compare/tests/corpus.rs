@@ -46,9 +46,9 @@ fn same_sheet(sheet: &[u8]) -> bool {
         sheets::Sheet { n: s.n, floor: s.floor, a, b, m, us, vs, betas }
     });
     assert_eq!(flat.map_err(|number| *number), sheets::read(sheet), "{sheet:02x?}");
-    if let Ok(s) = &found {
-        // what the library writes of it again is the sheet itself
-        assert!(s.job().sheet_bytes(&s.betas).is_ok_and(|again| again == sheet) || s.job().sheet_bytes(&s.betas).is_err());
+    // what the library writes of it again, where its job passes the checks, is the sheet itself
+    if let Some(again) = found.as_ref().ok().and_then(|s| s.job().sheet_bytes(&s.betas).ok()) {
+        assert_eq!(again, sheet);
     }
     found.is_ok()
 }
@@ -57,7 +57,7 @@ fn same_sheet(sheet: &[u8]) -> bool {
 fn every_sheet_of_the_corpus_is_read_as_the_rules_read_it() {
     let sheets: Vec<Vec<u8>> = CORPUS.lines().map(bytes).collect();
     let whole = sheets.iter().filter(|sheet| same_sheet(sheet)).count();
-    assert!(sheets.len() > 20 && whole > 5, "{} sheets, {whole} whole", sheets.len());
+    assert!(sheets.len() > 20 && whole >= 5, "{} sheets, {whole} whole", sheets.len());
     for sheet in &sheets {
         for cut in 0..sheet.len() {
             same_sheet(&sheet[..cut]);
