@@ -1,5 +1,5 @@
 -- What stands at a place of a sheet, by the kind read last: document 02's records, little-endian, each kind a byte.
-use mathlib.Core.Bool.{Bool, false, cond, not, _||_, _&&_}
+use mathlib.Core.Bool.{Bool, cond, not, _||_, _&&_}
 use mathlib.Core.List.{List}
 use Prim.Native.Nat.{ℕ, _+_}
 use lib.Dec.{eqb, ltb, leb}

@@ -1,5 +1,5 @@
 -- Both round trips, of jobs whose numbers fit their fields and of bytes that the reader accepts.
-use mathlib.Core.Path.{_≡_, refl, sym, ap, _∙_}
+use mathlib.Core.Path.{_≡_}
 use mathlib.Core.List.{List}
 use Prim.Native.Nat.{ℕ}
 use lib.ListN.{length}
@@ -8,7 +8,7 @@ use Rattle.little_endian.specs.Laws.Rows.{stand-whole}
 use Rattle.job_sheet.specs.Counts.{counted, countsOf}
 use Rattle.job_sheet.specs.Sheets.{Sheet}
 use Rattle.job_sheet.specs.Theorems.{accepted-is-sheet, sheet-is-accepted}
-use Rattle.job_sheet_bytes.specs.Jobs.{Job, Fits, sheetOf, jobIn, jobOf}
+use Rattle.job_sheet_bytes.specs.Jobs.{Job, Fits, sheetOf, jobOf}
 use Rattle.job_sheet_bytes.specs.Laws.Bytes.{laid, sheet-length}
 use Rattle.job_sheet_bytes.specs.Laws.Read.{front-of, job-read}
 use Rattle.job_sheet_bytes.specs.Laws.Written.{written-again, fits-read}

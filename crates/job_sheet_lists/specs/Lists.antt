@@ -2,13 +2,13 @@
 use mathlib.Core.Path.{_≡_}
 use mathlib.Core.Bool.{Bool, cond, _||_}
 use mathlib.Core.List.{List}
-use Prim.Native.Nat.{ℕ, zero, suc, _+_, _*_, _≤_, _<_}
+use Prim.Native.Nat.{ℕ, _+_, _*_, _≤_, _<_}
 use lib.Dec.{eqb, ltb}
 use lib.ListN.{length}
 use Rattle.list_laws.specs.Front.{over}
 use Rattle.refusals.specs.Answers.{left}
 use Rattle.job_sheet.specs.Counts.{countsOf}
-use Rattle.job_sheet_bytes.specs.Jobs.{Job, jobOf}
+use Rattle.job_sheet_bytes.specs.Jobs.{jobOf}
 use Rattle.job_sheet_lists.specs.declared.answer.SheetJob.{SheetJob}
 
 -- 12: a list is shorter than the sheet has records for it

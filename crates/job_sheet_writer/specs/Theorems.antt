@@ -2,7 +2,7 @@
 use mathlib.Core.Path.{_≡_, refl, sym, ap, _∙_}
 use mathlib.Core.Bool.{false}
 use mathlib.Core.List.{List}
-use Prim.Native.Nat.{ℕ, zero, suc, _≤_}
+use Prim.Native.Nat.{ℕ, zero, suc}
 use native.Mathlib.Omega.{arith}
 use lib.Ieee.{Float}
 use lib.ListN.{length, take}
@@ -10,16 +10,16 @@ use lib.Seq.{take-at}
 use Rattle.list_laws.specs.Front.{over}
 use Rattle.refusals.specs.Request.{someOversized}
 use Rattle.refusals.specs.Answers.{answered, left}
-use Rattle.refusals.specs.declared.Answer.{Answer}
-use Rattle.refusals.specs.declared.Answer.the-variants.{Number, Refused}
+use Rattle.refusals.specs.declared.Answer.the-variants.{Number}
 use Rattle.little_endian.specs.Words.{Bytes}
 use Rattle.job_sheet.specs.Counts.{counted, countsOf}
 use Rattle.job_sheet.specs.Sheets.{sheetLength}
-use Rattle.job_sheet_bytes.specs.Jobs.{Job, given, sheetOf, jobOf, bitsOf, doublesOf}
+use Rattle.job_sheet_bytes.specs.Jobs.{given, sheetOf, jobOf, bitsOf, doublesOf}
 use Rattle.job_sheet_bytes.specs.Laws.Bytes.{sheet-length}
 use Rattle.job_sheet_bytes.specs.Theorems.{written-is-accepted, read-what-was-written, read-fits, written-as-it-was-read}
 use Rattle.job_sheet_writer.specs.Writes.{sheetRefusal, Wrote}
-use Rattle.job_sheet_writer.specs.Laws.Passed.{Doubles, sizes, fits-given, doubles-of-bits, bits-of-doubles, bits-length}
+use Rattle.job_sheet_writer.specs.Laws.Passed.{Doubles, sizes, fits-given, doubles-of-bits, bits-of-doubles}
+use Rattle.job_sheet_put.specs.Laws.Rows.{bits-length}
 
 -- an answer that is a length is that of an accepted call
 accepted-answer : (k x long : ℕ) → Number long ≡ answered k x → (k ≡ 0) × (long ≡ x)

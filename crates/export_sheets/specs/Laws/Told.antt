@@ -21,7 +21,7 @@ use Rattle.job_sheet_writer.specs.Writes.{sheetRefusal, Wrote}
 use Rattle.job_sheet.specs.Records.{recordLength, kindAt, refusalAt, recordOf, recordAt, nextOf}
 use Rattle.job_sheet.specs.Laws.Records.{accepted, answer-read, answer-refused}
 use Rattle.job_sheet.specs.declared.record.Record.{Record}
-use Rattle.job_sheet.specs.declared.record.Record.the-variants.{Size, Edge, Beta, Pair, End, Refused}
+use Rattle.job_sheet.specs.declared.record.Record.the-variants.{Size, Edge, Beta, Pair, End}
 use Rattle.job_sheet_lists.specs.Lists.{refusalOf, refusedJob, numbersOf, ReadJob}
 use Rattle.job_sheet_lists.specs.declared.answer.SheetJob.{SheetJob}
 use Rattle.export_sheets.specs.Jobs.{TellsJob, Told}

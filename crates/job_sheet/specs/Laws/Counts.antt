@@ -10,7 +10,6 @@ use borrow.Author.Tests.{ne-eqb, lt-ltb, le-ltb}
 use Rattle.job_sheet.specs.Records.{recordLength, kindAt, refusalAt}
 use Rattle.job_sheet.specs.Counts.{counted, refused, start, behind, Passed, readFrom, countsOf}
 use Rattle.job_sheet.specs.Laws.Records.{length-positive, accepted}
-use Rattle.job_sheet.specs.declared.counts.Counts.{Counts}
 use Rattle.job_sheet.specs.declared.counts.Reading.{Reading}
 
 -- ---- one call

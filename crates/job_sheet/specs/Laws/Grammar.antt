@@ -8,7 +8,7 @@ use native.Mathlib.Omega.{arith}
 use lib.Dec.{ltb}
 use lib.ListN.{length}
 use borrow.Author.Tests.{ltb-true, ltb-false}
-use Rattle.job_sheet.specs.Records.{recordLength, kindAt, refusalAt, mayFollow}
+use Rattle.job_sheet.specs.Records.{recordLength, kindAt, mayFollow}
 use Rattle.job_sheet.specs.Counts.{counted, refused, start, behind, readFrom, countsOf}
 use Rattle.job_sheet.specs.Sheets.{endPlace, sheetLength, Front, toldOf}
 use Rattle.job_sheet.specs.Laws.Records.{may-follow, first-follows, has-body, has-tail, has-end, length-1, length-2, length-3, length-4, length-5}

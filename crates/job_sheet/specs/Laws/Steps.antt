@@ -1,5 +1,5 @@
 -- A reading behind a record of each kind.
-use mathlib.Core.Path.{_≡_, refl, ap, _∙_}
+use mathlib.Core.Path.{_≡_, refl}
 use Prim.Native.Nat.{ℕ, _+_}
 use native.Mathlib.Nat.{add-zero}
 use Rattle.job_sheet.specs.Records.{recordLength}

@@ -1,19 +1,17 @@
 -- What stands where in a sheet.
-use mathlib.Core.Path.{_≡_, refl, sym, ap, subst, _∙_}
+use mathlib.Core.Path.{_≡_, sym, ap, subst, _∙_}
 use mathlib.Core.List.{List, [], _∷_, _++_}
 use Prim.Native.Nat.{ℕ, _+_, _*_, _^_, _≤_, _<_}
 use native.Mathlib.Nat.{zero-add}
 use native.Mathlib.Omega.{arith}
-use lib.ListN.{length, getD, length-append}
-use Rattle.list_laws.specs.Tabulate.{tabulate}
-use Rattle.list_laws.specs.Laws.Tabulate.{tabulate-length, tabulate-at, tabulated}
+use lib.ListN.{length, length-append}
 use Rattle.little_endian.specs.Words.{Bytes, wordAt, bytesOf}
 use Rattle.little_endian.specs.Rows.{rows, Stand}
 use Rattle.little_endian.specs.Laws.Words.{bytesOf-length}
-use Rattle.little_endian.specs.Laws.Rows.{stand-both, stand-left, stand-right, stand-all, stand-whole, stand-first, stand-rest, stand-byte, field-read, field-stands, rows-length, rows-stand, row-stands}
+use Rattle.little_endian.specs.Laws.Rows.{stand-both, stand-left, stand-right, stand-first, stand-rest, stand-byte, field-read, field-stands, rows-length}
 use Rattle.job_sheet.specs.Records.{kindAt}
-use Rattle.job_sheet.specs.Sheets.{edgePlace, betaPlace, pairPlace, endPlace, sheetLength, Front, Sheet}
-use Rattle.job_sheet_bytes.specs.Jobs.{Job, Fits, sizeRecord, edgeRecord, betaRecord, pairRecord, endRecord, edgeRows, betaRows, pairRows, sheetOf, jobIn}
+use Rattle.job_sheet.specs.Sheets.{edgePlace, betaPlace, endPlace, sheetLength}
+use Rattle.job_sheet_bytes.specs.Jobs.{Job, sizeRecord, edgeRecord, betaRecord, pairRecord, endRecord, edgeRows, betaRows, pairRows, sheetOf}
 
 -- ---- the lengths
 

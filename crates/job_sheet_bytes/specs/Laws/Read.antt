@@ -1,18 +1,17 @@
 -- The job that is read from a sheet of it.
-use mathlib.Core.Path.{_≡_, refl, sym, ap, _∙_}
+use mathlib.Core.Path.{_≡_, refl, sym}
 use mathlib.Core.List.{List, [], _∷_, _++_}
-use Prim.Native.Nat.{ℕ, _+_, _*_, _^_, _≤_, _<_}
+use Prim.Native.Nat.{ℕ, _+_, _<_}
 use native.Mathlib.Omega.{arith}
 use lib.ListN.{length, getD}
-use Rattle.list_laws.specs.Tabulate.{tabulate}
 use Rattle.list_laws.specs.Laws.Tabulate.{tabulated}
 use Rattle.little_endian.specs.Words.{wordAt, bytesOf}
-use Rattle.little_endian.specs.Rows.{rows, Stand}
+use Rattle.little_endian.specs.Rows.{Stand}
 use Rattle.little_endian.specs.Laws.Words.{bytesOf-length}
 use Rattle.little_endian.specs.Laws.Rows.{stand-left, stand-first, row-stands}
 use Rattle.job_sheet.specs.Records.{kindAt}
-use Rattle.job_sheet.specs.Sheets.{edgePlace, betaPlace, pairPlace, endPlace, sheetLength, Front, Sheet}
-use Rattle.job_sheet_bytes.specs.Jobs.{Job, Fits, sizeRecord, edgeRecord, betaRecord, pairRecord, endRecord, edgeRows, betaRows, pairRows, sheetOf, jobIn}
+use Rattle.job_sheet.specs.Sheets.{edgePlace, betaPlace, pairPlace, Front}
+use Rattle.job_sheet_bytes.specs.Jobs.{Job, Fits, edgeRecord, betaRecord, pairRecord, edgeRows, betaRows, pairRows, jobIn}
 use Rattle.job_sheet_bytes.specs.Laws.Bytes.{Laid, edge-length, beta-length, pair-length, two-lengths, one-read, last-read}
 
 module _ (bytes : List ℕ) (j : Job) (f : Fits j) (l : Laid bytes j) where

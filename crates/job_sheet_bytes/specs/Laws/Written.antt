@@ -1,7 +1,7 @@
 -- The sheet of the job that is read from a sheet is that sheet.
-use mathlib.Core.Path.{_≡_, refl, sym, ap, _∙_}
+use mathlib.Core.Path.{_≡_, refl, sym, _∙_}
 use mathlib.Core.List.{List, []}
-use Prim.Native.Nat.{ℕ, _+_, _*_, _^_, _≤_, _<_}
+use Prim.Native.Nat.{ℕ, _+_, _*_, _^_, _<_}
 use native.Mathlib.Omega.{arith}
 use lib.ListN.{length, getD, List·getD-eq-default}
 use lib.Dec.{ltb}
@@ -14,7 +14,7 @@ use Rattle.little_endian.specs.Rows.{Stand}
 use Rattle.little_endian.specs.Laws.Words.{word-at-below}
 use Rattle.little_endian.specs.Laws.Rows.{stand-none, stand-byte, stand-all, rows-stand}
 use Rattle.job_sheet.specs.Sheets.{edgePlace, betaPlace, pairPlace, endPlace, Sheet}
-use Rattle.job_sheet_bytes.specs.Jobs.{Job, Fits, edgeRows, betaRows, pairRows, sheetOf, jobIn}
+use Rattle.job_sheet_bytes.specs.Jobs.{Fits, edgeRows, betaRows, pairRows, sheetOf, jobIn}
 use Rattle.job_sheet_bytes.specs.Laws.Bytes.{Laid, edge-length, beta-length, pair-length, size-stands, edge-stands, beta-stands, pair-stands, sheet-stands, sheet-length}
 
 module _ (bytes : List ℕ) (edges betas pairs : ℕ) where

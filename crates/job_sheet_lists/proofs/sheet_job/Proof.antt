@@ -1,5 +1,5 @@
 -- The counts, the lists' lengths, and each list by its own loop.
-use mathlib.Core.Path.{_≡_, sym, _∙_}
+use mathlib.Core.Path.{sym, _∙_}
 use native.Mathlib.Omega.{arith}
 use borrow.Author.Needs.{needs}
 use Rattle.job_sheet_lists.specs.Laws.Calls.{counted-is, refused-sheet, short-first, short-second, short-third, Roomy, places-fit}

@@ -1,23 +1,22 @@
 -- A call's answer and lists, from the counts of its sheet.
 use mathlib.Core.Path.{_≡_, refl, sym, ap, _∙_}
-use mathlib.Core.Bool.{Bool, true, false, cond, _||_, or-true}
+use mathlib.Core.Bool.{true, false, _||_}
 use mathlib.Core.List.{List}
-use Prim.Native.Nat.{ℕ, zero, suc, _+_, _*_, _≤_, _<_}
+use Prim.Native.Nat.{ℕ, zero, suc, _+_, _*_}
 use native.Mathlib.Omega.{arith}
-use lib.Dec.{eqb, ltb}
+use lib.Dec.{ltb}
 use lib.ListN.{length}
 use borrow.Author.Tests.{ne-eqb, ltb-false}
 use Rattle.list_laws.specs.Front.{over}
 use Rattle.list_laws.specs.Tabulate.{tabulate}
 use Rattle.list_laws.specs.Laws.Search.{or-false}
-use Rattle.refusals.specs.Answers.{left}
 use Rattle.little_endian.specs.Words.{wordAt}
 use Rattle.job_sheet.specs.Counts.{counted, countsOf}
-use Rattle.job_sheet.specs.Sheets.{edgePlace, betaPlace, pairPlace, sheetLength, Sheet}
+use Rattle.job_sheet.specs.Sheets.{sheetLength, Sheet}
 use Rattle.job_sheet.specs.Theorems.{accepted-is-sheet}
 use Rattle.job_sheet.specs.declared.counts.Counts.{Counts}
 use Rattle.job_sheet_bytes.specs.Jobs.{jobIn, jobOf}
-use Rattle.job_sheet_lists.specs.Lists.{refusalOf, refusedJob, numbersOf, ReadJob, Loads}
+use Rattle.job_sheet_lists.specs.Lists.{refusalOf, refusedJob, ReadJob, Loads}
 use Rattle.job_sheet_lists.specs.declared.answer.SheetJob.{SheetJob}
 
 -- the counts of an accepted sheet

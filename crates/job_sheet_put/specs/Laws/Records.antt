@@ -1,13 +1,13 @@
 -- A record of each kind, its kind first and then its fields.
-use mathlib.Core.Path.{_≡_, refl, sym, ap, _∙_}
+use mathlib.Core.Path.{_≡_, refl}
 use mathlib.Core.List.{List, [], _∷_, _++_}
-use Prim.Native.Nat.{ℕ, _+_, _≤_, _<_}
+use Prim.Native.Nat.{ℕ, _+_, _≤_}
 use native.Mathlib.Omega.{arith}
 use lib.ListN.{length, set, length-set}
 use Rattle.list_laws.specs.Part.{put}
 use Rattle.little_endian.specs.Words.{bytesOf}
 use Rattle.little_endian.specs.Laws.Words.{bytesOf-length}
-use Rattle.job_sheet_bytes.specs.Jobs.{sizeRecord, edgeRecord, betaRecord, pairRecord}
+use Rattle.job_sheet_bytes.specs.Jobs.{edgeRecord}
 use Rattle.job_sheet_bytes.specs.Laws.Bytes.{two-lengths}
 use Rattle.job_sheet_put.specs.Behind.{Appended}
 use Rattle.job_sheet_put.specs.Laws.Behind.{appended-byte, appended-word, appended-then}

@@ -1,7 +1,7 @@
 -- A row more of each kind, from lists as they are lent; and a whole sheet.
-use mathlib.Core.Path.{_≡_, refl, sym, ap, subst, _∙_}
-use mathlib.Core.List.{List, [], _∷_, _++_}
-use Prim.Native.Nat.{ℕ, zero, suc, _+_, _*_, _≤_, _<_}
+use mathlib.Core.Path.{_≡_, refl, sym, subst, _∙_}
+use mathlib.Core.List.{List, [], _++_}
+use Prim.Native.Nat.{ℕ, zero, suc, _+_, _*_, _<_}
 use native.Mathlib.Nat.{zero-add}
 use native.Mathlib.Omega.{arith}
 use lib.Ieee.{Float, nan, binary64, toBits}
@@ -11,7 +11,7 @@ use Rattle.list_laws.specs.Laws.Tabulate.{tabulate-length, tabulate-at}
 use Rattle.little_endian.specs.Rows.{rows}
 use Rattle.little_endian.specs.Laws.Rows.{rows-length}
 use Rattle.job_sheet.specs.Sheets.{edgePlace, betaPlace, endPlace}
-use Rattle.job_sheet_bytes.specs.Jobs.{Job, sizeRecord, edgeRecord, betaRecord, pairRecord, endRecord, edgeRows, betaRows, bitsOf, given, sheetOf}
+use Rattle.job_sheet_bytes.specs.Jobs.{sizeRecord, edgeRecord, betaRecord, pairRecord, edgeRows, betaRows, bitsOf, given, sheetOf}
 use Rattle.job_sheet_bytes.specs.Laws.Bytes.{size-length, edge-length, beta-length, pair-length, sheet-length}
 use Rattle.job_sheet_put.specs.Behind.{Appended, rawEdge, rawBeta, rawPair, Room}
 use Rattle.job_sheet_put.specs.Laws.Behind.{appended-byte, appended-then, appended-row, appended-all}
@@ -39,7 +39,7 @@ unfolding rows
 rows-alike f g zero h = refl
 rows-alike f g (suc n) h = rw (rows-alike f g n (λ i l. h i (omega arith)), h n (omega arith))
 
-bits-at : (xs : List Float) (i : ℕ) → i < length xs → getD (bitsOf xs) i 0 ≡ toBits binary64 (getD xs i nan)
+pub bits-at : (xs : List Float) (i : ℕ) → i < length xs → getD (bitsOf xs) i 0 ≡ toBits binary64 (getD xs i nan)
 unfolding bitsOf
 bits-at xs i h = tabulate-at _ (length xs) i 0 h
 

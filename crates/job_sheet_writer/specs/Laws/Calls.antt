@@ -1,8 +1,7 @@
 -- A call's answer and buffer, from what its checks answered.
 use mathlib.Core.Path.{_≡_, refl, sym, ap, _∙_}
-use mathlib.Core.Bool.{Bool, true, false}
-use mathlib.Core.List.{List, [], _∷_, _++_}
-use Prim.Native.Nat.{ℕ, _+_, _*_, _≤_, _<_}
+use mathlib.Core.List.{List, [], _∷_}
+use Prim.Native.Nat.{ℕ, _≤_, _<_}
 use native.Mathlib.Omega.{arith}
 use lib.Dec.{ltb}
 use lib.Ieee.{Float}
@@ -13,7 +12,7 @@ use Rattle.list_laws.specs.Front.{over}
 use Rattle.refusals.specs.Key.{Key}
 use Rattle.refusals.specs.Request.{callRequest}
 use Rattle.refusals.specs.Refusal.{refusal, ofJob, ofRoom}
-use Rattle.refusals.specs.Answers.{answered, left}
+use Rattle.refusals.specs.Answers.{left}
 use Rattle.refusals.specs.Laws.Answers.{refused-is, number-is, left-alone}
 use Rattle.refusals.specs.Laws.Later.{Then, refusal-in-parts, refused-before, refused-here, refused-not}
 use Rattle.refusals.specs.declared.Answer.the-variants.{Number, Refused}
@@ -21,7 +20,7 @@ use Rattle.job_checks.specs.Checked.{CheckedJob}
 use Rattle.job_sheet.specs.Sheets.{sheetLength}
 use Rattle.job_sheet_bytes.specs.Jobs.{given, sheetOf}
 use Rattle.job_sheet_put.specs.Behind.{Room}
-use Rattle.job_sheet_writer.specs.Writes.{ofSheet, sheetRequest, sheetRefusal, Wrote}
+use Rattle.job_sheet_writer.specs.Writes.{sheetRequest, sheetRefusal, Wrote}
 
 -- 1 to 8, and then 12
 pub in-parts : (n floor : ℕ) (a b : List ℕ) (m : List Float) (us vs : List ℕ) (betas : List Float) (room : ℕ)

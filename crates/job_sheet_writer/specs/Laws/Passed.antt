@@ -2,28 +2,26 @@
 use mathlib.Core.Path.{_≡_, refl, sym, ap, subst, _∙_}
 use mathlib.Core.Bool.{Bool, true, false, not, _&&_}
 use mathlib.Core.List.{List}
-use Prim.Native.Nat.{ℕ, zero, suc, _+_, _*_, _^_, _≤_, _<_}
+use Prim.Native.Nat.{ℕ, _*_, _^_, _≤_, _<_}
 use native.Mathlib.Omega.{arith}
 use lib.Dec.{T, eqb, ltb, leb}
 use lib.Ieee.{Float, nan, inf, fin, binary64, fits, isNan, ofBits, toBits, le, neg, top}
-use lib.Ieee.Bits.{ofBits-toBits, toBits-lt, ofBits-fits, toBits-ofBits}
+use lib.Ieee.Bits.{ofBits-toBits, toBits-lt, toBits-ofBits}
 use lib.ListN.{length, getD, List·getD-eq-default}
 use borrow.Author.Tests.{ltb-true, ltb-false, leb-false, not-false}
 use Rattle.limits.specs.declared.Caller.the-variants.{Desk}
-use Rattle.list_laws.specs.Search.{some}
 use Rattle.list_laws.specs.Laws.Search.{or-false, none-at}
-use Rattle.list_laws.specs.Tabulate.{tabulate}
 use Rattle.list_laws.specs.Laws.Tabulate.{tabulate-length, tabulate-at, tabulated}
 use Rattle.transfer_matrix.specs.Job.{windowOf}
 use Rattle.refusals.specs.Key.{Key}
 use Rattle.refusals.specs.Edges.{keptEarly, keptLate}
 use Rattle.refusals.specs.Request.{callRequest, badEnds, outside, limit, oversized, someOversized}
 use Rattle.refusals.specs.Refusal.{refusal, ofJob}
-use Rattle.refusals.specs.Accepted.{AcceptedBetas}
 use Rattle.refusals.specs.AcceptedJob.{AcceptedJob}
 use Rattle.refusals.specs.Laws.First.{passed-at}
 use Rattle.refusals.specs.Laws.Later.{and-true, passed-before}
 use Rattle.refusals.specs.Laws.AcceptedJob.{accepted-with}
+use Rattle.job_sheet_put.specs.Laws.Rows.{bits-at, bits-length}
 use Rattle.job_sheet_bytes.specs.Jobs.{Fits, given, bitsOf, doublesOf}
 use Rattle.job_sheet_writer.specs.Writes.{sheetRefusal}
 use Rattle.job_sheet_writer.specs.Laws.Calls.{in-parts}
@@ -42,10 +40,6 @@ floor-low floor early late = omega arith
 bits-top : 2 * top binary64 ≡ 256 ^ 8
 bits-top = refl
 
-bits-at : (xs : List Float) (i : ℕ) → i < length xs → getD (bitsOf xs) i 0 ≡ toBits binary64 (getD xs i nan)
-unfolding bitsOf
-bits-at xs i h = tabulate-at _ (length xs) i 0 h
-
 -- an entry behind a list of bits, or of numbers below a limit
 below-at : (l : List ℕ) (limit : ℕ) → 0 < limit → ((i : ℕ) → i < length l → getD l i 0 < limit) → (i : ℕ) → getD l i 0 < limit
 below-at l limit z h i = go (ltb i (length l)) refl
@@ -53,10 +47,6 @@ below-at l limit z h i = go (ltb i (length l)) refl
     go : (t : Bool) → ltb i (length l) ≡ t → getD l i 0 < limit
     go true e = h i (ltb-true i (length l) e)
     go false e = omega (arith, List·getD-eq-default l 0 {n = i} (ltb-false i (length l) e))
-
-pub bits-length : (xs : List Float) → length (bitsOf xs) ≡ length xs
-unfolding bitsOf
-bits-length xs = tabulate-length _ (length xs)
 
 bits-fit : (xs : List Float) → Doubles xs → (i : ℕ) → getD (bitsOf xs) i 0 < 256 ^ 8
 bits-fit xs d =

@@ -2,16 +2,15 @@
 use mathlib.Core.Path.{_≡_, refl, sym, ap, _∙_}
 use mathlib.Core.List.{List, [], _∷_, _++_}
 use Prim.Native.Nat.{ℕ, zero, suc, _+_, _*_, _/_, _%_, _^_, _≤_, _<_}
-use native.Mathlib.Nat.{pow-suc, pow-succ', div-div-eq-div-mul, mod-eq-of-lt}
+use native.Mathlib.Nat.{pow-succ', div-div-eq-div-mul, mod-eq-of-lt}
 use native.Mathlib.Numerals.{add-one}
 use native.Mathlib.Omega.{arith}
 use lib.Arith.{mod-mul}
-use lib.ListN.{length, take, drop, getD}
+use lib.ListN.{length, getD}
 use lib.Seq.{drop-cons}
 use Rattle.list_laws.specs.Tabulate.{tabulate}
-use Rattle.list_laws.specs.Laws.Tabulate.{tabulate-suc, tabulate-length, tabulated}
+use Rattle.list_laws.specs.Laws.Tabulate.{tabulate-length, tabulated}
 use Rattle.list_laws.specs.Part.{part}
-use Rattle.list_laws.specs.Laws.Part.{part-at, part-length}
 use Rattle.little_endian.specs.Words.{Bytes, word, wordAt, bytesOf}
 
 pub bytesOf-length : (width x : ℕ) → length (bytesOf width x) ≡ width

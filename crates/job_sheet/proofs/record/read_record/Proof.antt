@@ -1,8 +1,7 @@
 -- The refusal, or the record, which is whole.
-use mathlib.Core.Path.{_≡_, sym, ap, _∙_}
+use mathlib.Core.Path.{sym, _∙_}
 use native.Mathlib.Omega.{arith}
 use borrow.Author.Needs.{needs}
-use Rattle.job_sheet.specs.Records.{recordOf}
 use Rattle.job_sheet.specs.Laws.Records.{answer-refused, answer-read, accepted, accepted-within}
 use Rattle.job_sheet.proofs.record.read_record.Statement.{statement}
 use Rattle.job_sheet.proofs.record.read_record.Tie as tie

@@ -1,6 +1,5 @@
 -- The record of each kind, whose fields all lie in the sheet.
-use mathlib.Core.Path.{_≡_, ap, _∙_}
-use Prim.Native.Nat.{ℕ}
+use mathlib.Core.Path.{ap, _∙_}
 use native.Mathlib.Omega.{arith}
 use borrow.Author.Needs.{needs}
 use Rattle.job_sheet.specs.Records.{recordLength}

@@ -1,5 +1,5 @@
 -- The first i bytes are written, and what is left of the number is its digits from i on.
-use mathlib.Core.Path.{_≡_, refl, sym, ap, _∙_}
+use mathlib.Core.Path.{_≡_, refl, ap, _∙_}
 use Prim.Native.Nat.{ℕ, _+_, _-_, _/_, _%_, _^_, _≤_, _<_}
 use native.Mathlib.Nat.{pow-suc, div-div-eq-div-mul}
 use native.Mathlib.Numerals.{add-one}
