@@ -40,8 +40,8 @@ extern "C" {
 #endif
 
 /*
- * Why a call is refused, in checking order; but 24 stands right behind 2, 21 between 4 and 5, 22 right behind 6 for the window and right
- * behind 9 for free edges, 23 in the place of 10, and calls for strips check 15 to 17 before 12. 25 is that of copperhook_shares alone.
+ * Why a call is refused, in checking order; but 19 and 20 stand before 1, 24 right behind 2, 21 between 4 and 5, 22 right behind 6 for the
+ * window and right behind 9 for free edges, 23 in the place of 10, and calls for strips check 15 to 17 before 12. 25 is that of copperhook_shares alone.
  */
 enum copperhook_refusal {
     COPPERHOOK_ACCEPTED = 0,
@@ -56,7 +56,7 @@ enum copperhook_refusal {
     COPPERHOOK_FREE_EDGES = 9,      /* over 34 free edges for enumerated totals, or over 24 for stored correlations */
     COPPERHOOK_FACTORS = 10,        /* the factor list has another length, or an entry is not finite and above zero */
     COPPERHOOK_SAMPLES = 11,        /* chunks times samples per chunk exceed 2^32 */
-    COPPERHOOK_BUFFER = 12,         /* a result list is not of its exact length (edges, labels and pair sets: too short) */
+    COPPERHOOK_BUFFER = 12,         /* a result list is not of its exact length (edges, labels, pair sets and job sheets: too short) */
     COPPERHOOK_WORK_MEMORY = 13,    /* the work memory is shorter than the room */
     COPPERHOOK_PARTITION_SUM = 14,  /* some pair's partition sum Z is not finite and above zero */
     COPPERHOOK_STRIP_SIDES = 15,    /* a strip side is 0, or the sides multiply above 1,024 */
@@ -64,6 +64,8 @@ enum copperhook_refusal {
     COPPERHOOK_DILUTION = 17,       /* keep is not finite, or a magnitude bound is not finite or its size is above 1,024 */
     COPPERHOOK_SUMS = 18,           /* the count is 0 or above 2^53, or of a complete enumeration no power of two up to 2^34, or
                                        0 <= fourth powers <= squares <= count fails */
+    COPPERHOOK_SHEET_RECORD = 19,   /* a record of a job sheet is missing, cut short, of unknown kind or out of order */
+    COPPERHOOK_SHEET_TAIL = 20,     /* bytes after the end of a job sheet */
     COPPERHOOK_BETAS = 21,          /* the betas do not rise strictly; asked between 4 and 5 */
     COPPERHOOK_TESTER_LIMIT = 22,   /* in the tester's calls: the window is above 12, or all signs of over 16 free edges are gone through */
     COPPERHOOK_COUPLINGS = 23,      /* of house factors: the couplings have another length, or one is no multiple of 1/128 from -4 to 4 */
@@ -72,7 +74,7 @@ enum copperhook_refusal {
                                        lent, or an entry that is not from -1 to 1 */
 };
 
-/* The most of each that a job may have, and how much a standard pair set takes at most. */
+/* The most of each that a job may have, and how much a standard pair set and a job sheet take at most. */
 enum copperhook_limit {
     COPPERHOOK_MOST_VERTICES = 1024,
     COPPERHOOK_MOST_EDGES = 4096,
@@ -85,7 +87,8 @@ enum copperhook_limit {
     COPPERHOOK_SHARE_LISTS = 256,
     COPPERHOOK_SHARE_ENTRIES = 16777216,
     COPPERHOOK_STANDARD_PAIRS = 18,
-    COPPERHOOK_LABEL_BYTES = 306
+    COPPERHOOK_LABEL_BYTES = 306,
+    COPPERHOOK_SHEET_BYTES = 55109 /* the longest job sheet that copperhook_sheet_write writes */
 };
 
 /*
@@ -389,6 +392,43 @@ size_t copperhook_components(size_t n, const size_t *a, size_t a_len, const size
  */
 size_t copperhook_distance(size_t n, const size_t *a, size_t a_len, const size_t *b, size_t b_len, const double *m, size_t m_len,
                            size_t u, size_t v, bool *joined, size_t *edges);
+
+/*
+ * ---- Job sheets: a job as bytes, little-endian, each record's kind a byte before its body. Kind 1, vertices u16 and floor u8; 2, edge ends
+ * u16, u16 and magnitude f64; 3, beta f64; 4, pair ends u16, u16; 5, end, no body. Exactly one kind 1 first, then all 2, all 3, all 4, then 5
+ * with nothing behind it: 5 + 13 edges + 9 betas + 5 pairs bytes. Reading asks for order, kinds and lengths alone: what a job's checks are
+ * for, as 0 vertices, a NaN or falling betas, is read as it stands.
+ */
+
+/*
+ * The record at `place`, where `last` is the kind read last, 0 at first: its kind in *kind and the place behind it in *next. Kind 1 has the
+ * vertices in *first and the floor in *second, 2 the ends there and the magnitude in *value, 3 the beta in *value, 4 the ends in *first and
+ * *second; what a kind has not stays as it was. A double goes out by its bits, a NaN too. Read on with *next and *kind, up to kind 5; from 5
+ * on, any number, there is no record.
+ * Refusals: 19 (any place), 20, which is answered in the end record's place.
+ */
+size_t copperhook_sheet_read(const uint8_t *sheet, size_t sheet_len, size_t place, size_t last, size_t *kind, size_t *next,
+                             size_t *first, size_t *second, double *value);
+
+/*
+ * A whole sheet: its vertices in *n, its floor in *floor, its records at the fronts of the lists, and how many there are in *edges, *pairs and
+ * *n_betas; what lies behind them stays. None of the checks of a job is asked. Lists of COPPERHOOK_MOST_EDGES, COPPERHOOK_MOST_PAIRS and
+ * COPPERHOOK_MOST_BETAS hold every sheet that copperhook_sheet_write writes.
+ * Refusals: 19, 20, 12 (too short: any of the six lists).
+ */
+size_t copperhook_sheet_job(const uint8_t *sheet, size_t sheet_len, size_t *n, size_t *floor, size_t *a, size_t a_len, size_t *b,
+                            size_t b_len, double *m, size_t m_len, size_t *us, size_t us_len, size_t *vs, size_t vs_len,
+                            double *betas, size_t betas_len, size_t *edges, size_t *pairs, size_t *n_betas);
+
+/*
+ * The sheet of a job at the front of `sheet`, and its length in *bytes; what lies behind it stays. The job is written as it is handed in: every
+ * edge, dropped ones too, ends and pairs in their order and direction, -0.0 by its bits, and the floor, not the window. Read again it is the
+ * same job, and a sheet that is read and passes these checks is written again byte for byte.
+ * Refusals: 1 to 8 (4 and 21 of the betas too), 12 (too short). COPPERHOOK_SHEET_BYTES are always enough.
+ */
+size_t copperhook_sheet_write(size_t n, size_t floor, const size_t *a, size_t a_len, const size_t *b, size_t b_len, const double *m,
+                              size_t m_len, const size_t *us, size_t us_len, const size_t *vs, size_t vs_len, const double *betas,
+                              size_t betas_len, uint8_t *sheet, size_t sheet_len, size_t *bytes);
 
 /* ---- Strips: w vertices across and l along, free or periodic across. Vertex (x, y), x along and y across, is x * w + y. */
 

@@ -36,7 +36,7 @@ pub fn mix_doubles(hash: u64, xs: &[f64]) -> u64
     let mut h = hash;
     let mut i: usize = 0;
     while i < xs.len() {
-        h = mix(h, crate::words::bits_of(xs[i]));
+        h = mix(h, little_endian::bits_of(xs[i]));
         i += 1;
     }
     h

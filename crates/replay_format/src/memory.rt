@@ -1,7 +1,7 @@
 // What results and work memory hold: filled before a call, and looked at after it.
-use crate::words::bits_of;
 use crate::words::float_of;
 use crate::words::word;
+use little_endian::bits_of;
 
 // All of a list the double at `place`.
 pub fn fill(list: &[u8], place: usize, out: &mut [f64]) {

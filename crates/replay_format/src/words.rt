@@ -6,6 +6,7 @@ ghost use lib.Ieee.{binary64, ofBits, toBits, nan};
 ghost use lib.ListN.{length, getD};
 ghost use Rattle.list_laws.specs.Tabulate.{tabulate};
 ghost use Rattle.replay_format.specs.Words.{wordAt, placeAt, every};
+use little_endian::bits_of;
 
 fn wide(x: u8) -> u64
     ensures { λ r. ⌜ r ≡ x ⌝ }
@@ -55,16 +56,6 @@ pub fn float_of(bits: u64) -> f64
         return f64::from_bits(bits);
     }
     0.0 / 0.0
-}
-
-// The bits of a double; one pattern for every NaN.
-pub fn bits_of(x: f64) -> u64
-    ensures { λ r. ⌜ r ≡ toBits binary64 x ⌝ }
-{
-    if x == x {
-        return f64::to_bits(x);
-    }
-    0x7ff8_0000_0000_0000
 }
 
 // The place some words on; no list of a record is longer than 65,536.

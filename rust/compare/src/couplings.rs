@@ -9,7 +9,7 @@ use oracle::rules::lists::Pairs;
 use oracle::rules::refusals::{first, graph_refusal, unless};
 
 /// Betas of any size, up to 64, mostly in rising order; now and then too many, or a bad one.
-fn betas(draw: &mut Draw) -> Vec<f64> {
+pub fn betas(draw: &mut Draw) -> Vec<f64> {
     let count = draw.of(&[0, 1, 2, 5, 5, 64]) + if draw.once_in(40) { 64 } else { 0 };
     let apart = draw.once_in(2);
     let mut betas: Vec<f64> = (0..count)

@@ -19,6 +19,7 @@ mod house;
 mod previews;
 mod shapes;
 mod shares;
+mod sheets;
 mod spoils;
 mod strips;
 mod totals;
@@ -54,6 +55,7 @@ pub const GROUPS: &[Group] = &[
     Group { name: "previews", share: 1.0, refusals: &[1, 2, 3, 4, 5, 6, 7, 8, 21, 24], try_one: previews::try_one },
     Group { name: "shares", share: 1.0, refusals: &[25], try_one: shares::try_one },
     Group { name: "complete", share: 1.0, refusals: &[2, 12, 18], try_one: complete::try_one },
+    Group { name: "sheets", share: 1.0, refusals: &[1, 2, 3, 4, 5, 6, 7, 8, 12, 19, 20, 21], try_one: sheets::try_one },
 ];
 
 /// How long a group is run.

@@ -2,7 +2,7 @@
 
 use compare::{line, run, Until, GROUPS};
 
-const JOBS: [(&str, u64); 13] = [
+const JOBS: [(&str, u64); 14] = [
     ("generators", 150_000),
     ("graphs", 12_000),
     ("strips", 50_000),
@@ -16,6 +16,7 @@ const JOBS: [(&str, u64); 13] = [
     ("previews", 20_000),
     ("shares", 40_000),
     ("complete", 200_000),
+    ("sheets", 20_000),
 ];
 
 #[test]

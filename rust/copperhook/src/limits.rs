@@ -1,4 +1,4 @@
-//! The most of each that a job may have, and how much a standard pair set takes at most.
+//! The most of each that a job may have, and how much a standard pair set and a job sheet take at most.
 
 /// The most vertices of a graph.
 pub const VERTICES: usize = 1024;
@@ -24,3 +24,5 @@ pub const SHARE_ENTRIES: usize = 1 << 24;
 pub const STANDARD_PAIRS: usize = 18;
 /// The most bytes that the labels of a standard pair set take, each with the zero byte behind it.
 pub const LABEL_BYTES: usize = 306;
+/// The longest job sheet that is written: that of a job with the most edges, betas and pairs.
+pub const SHEET_BYTES: usize = 55_109;

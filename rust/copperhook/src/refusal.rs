@@ -4,9 +4,9 @@ use crate::numbered::numbered;
 use std::fmt;
 
 numbered! {
-    /// Why a call is refused. The numbers follow the order of the checks, but that strips check 15 to 17 before 12, 24 stands right
-    /// behind 2, 21 between 4 and 5, 22 right behind 6 for the window and right behind 9 for free edges, and 23 in the place of 10; 25 is that of shares alone. Of
-    /// several reasons that fit, the first is returned.
+    /// Why a call is refused. The numbers follow the order of the checks, but that 19 and 20 stand before 1, 24 right behind 2, 21 between
+    /// 4 and 5, 22 right behind 6 for the window and right behind 9 for free edges, and 23 in the place of 10; strips check 15 to 17 before
+    /// 12, and 25 is that of shares alone. Of several reasons that fit, the first is returned.
     pub enum Refusal;
 
     /// Returns what is wrong, as a sentence without its full stop.
@@ -31,6 +31,8 @@ numbered! {
     OddCylinder = 16, "a honeycomb cylinder has odd width";
     Dilution = 17, "keep isn't finite, or a magnitude bound isn't finite or its size is above 1,024";
     Sums = 18, "the count is 0 or above 2^53, or of a complete enumeration no power of two up to 2^34, or 0 <= fourth powers <= squares <= count fails";
+    SheetRecord = 19, "a record of the job sheet is missing, cut short, of unknown kind or out of order";
+    SheetTail = 20, "bytes after the end of the job sheet";
     Betas = 21, "the betas don't rise strictly";
     TesterLimit = 22, "the window is above 12, or free edges exceed 16, the limits of the tester's calls";
     /// [`house::nearest`](crate::house::nearest) tells what could stand there instead.

@@ -591,6 +591,63 @@ extern "C" {
         pairs: *mut usize,
     ) -> usize;
 
+    /// A record of a job sheet, by its place and the kind read last.
+    pub fn copperhook_sheet_read(
+        sheet: *const u8,
+        sheet_len: usize,
+        place: usize,
+        last: usize,
+        kind: *mut usize,
+        next: *mut usize,
+        first: *mut usize,
+        second: *mut usize,
+        value: *mut f64,
+    ) -> usize;
+
+    /// A whole job sheet.
+    pub fn copperhook_sheet_job(
+        sheet: *const u8,
+        sheet_len: usize,
+        n: *mut usize,
+        floor: *mut usize,
+        a: *mut usize,
+        a_len: usize,
+        b: *mut usize,
+        b_len: usize,
+        m: *mut f64,
+        m_len: usize,
+        us: *mut usize,
+        us_len: usize,
+        vs: *mut usize,
+        vs_len: usize,
+        betas: *mut f64,
+        betas_len: usize,
+        edges: *mut usize,
+        pairs: *mut usize,
+        n_betas: *mut usize,
+    ) -> usize;
+
+    /// The sheet of a job.
+    pub fn copperhook_sheet_write(
+        n: usize,
+        floor: usize,
+        a: *const usize,
+        a_len: usize,
+        b: *const usize,
+        b_len: usize,
+        m: *const f64,
+        m_len: usize,
+        us: *const usize,
+        us_len: usize,
+        vs: *const usize,
+        vs_len: usize,
+        betas: *const f64,
+        betas_len: usize,
+        sheet: *mut u8,
+        sheet_len: usize,
+        bytes: *mut usize,
+    ) -> usize;
+
     /// The kind that a name means.
     pub fn copperhook_kind_parse(name: *const u8, name_len: usize, kind: *mut usize) -> bool;
 

@@ -144,6 +144,7 @@ fn header_and_bindings_have_the_same_limits() {
         ("SHARE_ENTRIES", limits::SHARE_ENTRIES),
         ("STANDARD_PAIRS", limits::STANDARD_PAIRS),
         ("LABEL_BYTES", limits::LABEL_BYTES),
+        ("SHEET_BYTES", limits::SHEET_BYTES),
     ];
     assert_eq!(enumerated("limit"), limits.map(|(name, most)| format!("COPPERHOOK_{name} = {most}")));
 }

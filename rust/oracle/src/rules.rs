@@ -11,6 +11,7 @@ pub mod natural;
 pub mod previews;
 pub mod refusals;
 pub mod shares;
+pub mod sheets;
 pub mod strips;
 pub mod sweeps;
 pub mod totals;

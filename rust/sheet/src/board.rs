@@ -1,14 +1,20 @@
 //! A strip made ready: its edges, the pairs that are asked for, and its factors at each beta.
 
 use crate::explained;
+use crate::job_sheet;
 use crate::options::Options;
+use crate::sha256::sha256;
 use crate::trouble::Trouble;
 use crate::values::spelled;
-use copperhook::{limits, Arrangement, Caller, Dilution, EdgeList, Factors, Graph, Job, Kind, LabelledPair, Manner, Refusal, Strip};
+use copperhook::{
+    limits, Arrangement, Caller, Dilution, EdgeList, Factors, Graph, Job, JobSheet, Kind, LabelledPair, Manner, Refusal, Strip,
+};
 use std::ops::Range;
+use std::path::Path;
 
 pub struct Board {
-    pub strip: Strip,
+    /// `None` where the job is that of a job sheet.
+    pub strip: Option<Strip>,
     pub betas: Vec<f64>,
     /// The manner, the arrangement, and who calls.
     pub options: copperhook::Options,
@@ -19,16 +25,33 @@ pub struct Board {
     pub kept: usize,
     pub free: usize,
     pub window: usize,
+    /// As the job has it: the window of a strip.
+    floor: usize,
+    /// Of the job sheet, where there is one.
+    pub job_sha256: Option<String>,
     /// The work memory of one call in each arrangement, in doubles.
     rooms: [usize; 2],
     /// Of both signs, at each beta and kept edge.
     pub factors: Factors,
     /// Whether they are the library's own, and not the host's exponentials.
     pub house: bool,
-    diluted: Option<String>,
+    /// How the strip is diluted, or the file of the job sheet.
+    own: Option<String>,
     edges: EdgeList,
     us: Vec<usize>,
     vs: Vec<usize>,
+}
+
+/// What a board is made of.
+struct Given {
+    strip: Option<Strip>,
+    edges: EdgeList,
+    n: usize,
+    window: usize,
+    pairs: Vec<LabelledPair>,
+    betas: Vec<f64>,
+    /// How the strip is diluted, or the file of the job sheet.
+    own: Option<String>,
 }
 
 /// So many of something.
@@ -73,8 +96,15 @@ pub fn title(strip: &Strip, diluted: Option<&str>, [n, kept, window]: [usize; 3]
 }
 
 impl Board {
-    /// Every limit of the strip, the pairs and the betas is asked here.
+    /// Every limit of the strip, the pairs and the betas is asked here, or those of the job of a job sheet.
     pub fn new(options: &Options) -> Result<Board, Trouble> {
+        match &options.job {
+            None => Board::of_strip(options),
+            Some(file) => Board::of_job(options, file),
+        }
+    }
+
+    fn of_strip(options: &Options) -> Result<Board, Trouble> {
         let named = |refusal| explained::of_strip(options, refusal);
         let (strip, edges) = strip(options)?;
         let (n, window) = (strip.n().map_err(named)?, strip.window().map_err(named)?);
@@ -85,20 +115,68 @@ impl Board {
             return Err(explained::refused(explained::tester_window(&strip, window), Refusal::TesterLimit));
         }
         let pairs = pairs(options, &strip).map_err(named)?;
+        let (strip, betas, own) = (Some(strip), options.betas.clone(), diluted(options));
+        Board::ready(options, Given { strip, edges, n, window, pairs, betas, own }, &named)
+    }
+
+    fn of_job(options: &Options, file: &Path) -> Result<Board, Trouble> {
+        let JobSheet { n, floor, edges, us, vs, betas } = job_sheet::read(file)?;
+        let job = Job { graph: edges.graph(n).with_floor(floor), us: &us, vs: &vs };
+        let named = |refusal| explained::of_job(file, &job, &betas, refusal);
+        // the checks of a job in their order, 21 among them
+        let sheet = job.sheet_bytes(&betas).map_err(named)?;
+        let window = job.graph.window().map_err(named)?;
+        if options.tester && window > limits::TESTER_WINDOW {
+            return Err(named(Refusal::TesterLimit));
+        }
+        let pairs = us.iter().zip(&vs).map(|(u, v)| LabelledPair { label: format!("{u}-{v}"), u: *u, v: *v }).collect();
+        let own = Some(file.display().to_string());
+        let given = Given { strip: None, edges: edges.clone(), n, window, pairs, betas: betas.clone(), own };
+        let mut board = Board::ready(options, given, &named)?;
+        (board.floor, board.job_sha256) = (floor, Some(sha256(&sheet)));
+        Ok(board)
+    }
+
+    fn ready(options: &Options, given: Given, named: &dyn Fn(Refusal) -> Trouble) -> Result<Board, Trouble> {
+        let Given { strip, edges, n, window, pairs, betas, own } = given;
         let graph = edges.graph(n).with_floor(window);
         let (us, vs): (Vec<usize>, Vec<usize>) = pairs.iter().map(|p| (p.u, p.v)).unzip();
         let job = Job { graph, us: &us, vs: &vs };
         let rooms = [job.room().map_err(named)?, job.room_in(Arrangement::LessRoom).map_err(named)?];
-        let factors = if options.house { graph.house_factors(&options.betas) } else { graph.factors(&options.betas) };
-        let factors = factors.map_err(|refusal| explained::of_factors(options, &edges.m, refusal))?;
+        let factors = if options.house { graph.house_factors(&betas) } else { graph.factors(&betas) };
+        let factors = factors.map_err(|refusal| explained::of_factors(options, &betas, &edges.m, refusal))?;
         let free = graph.cyclomatic().map_err(named)?;
         let distances = pairs.iter().map(|p| graph.distance(p.u, p.v)).collect::<Result<_, _>>().map_err(named)?;
-        let (betas, kept) = (options.betas.clone(), factors.kept);
+        let kept = factors.kept;
         let manner = if options.per_element { Manner::PerElement } else { Manner::Block };
         let arrangement = if options.less_room { Arrangement::LessRoom } else { Arrangement::KeepAll };
         let caller = if options.tester { Caller::Tester } else { Caller::Desk };
-        let (calls, house, diluted) = (copperhook::Options { manner, arrangement, caller }, options.house, diluted(options));
-        Ok(Board { strip, betas, options: calls, pairs, distances, n, kept, free, window, rooms, factors, house, diluted, edges, us, vs })
+        let (calls, house) = (copperhook::Options { manner, arrangement, caller }, options.house);
+        Ok(Board {
+            strip,
+            betas,
+            options: calls,
+            pairs,
+            distances,
+            n,
+            kept,
+            free,
+            window,
+            floor: window,
+            job_sha256: None,
+            rooms,
+            factors,
+            house,
+            own,
+            edges,
+            us,
+            vs,
+        })
+    }
+
+    /// Kind, boundary, width and length, as the first cells of a row; of a job sheet there are none.
+    pub fn strip_cells(&self) -> String {
+        self.strip.map_or("job,,,".to_string(), |s| format!("{},{},{},{}", s.kind.name(), s.boundary(), s.width, s.length))
     }
 
     /// The work memory of one call that keeps all, in doubles.
@@ -132,6 +210,11 @@ impl Board {
 
     pub fn graph(&self) -> Graph<'_> {
         self.edges.graph(self.n).with_floor(self.window)
+    }
+
+    /// The job as a job sheet has it.
+    pub fn lent_job(&self) -> Job<'_> {
+        Job { graph: self.edges.graph(self.n).with_floor(self.floor), us: &self.us, vs: &self.vs }
     }
 
     pub fn job(&self) -> Job<'_> {
@@ -182,7 +265,13 @@ impl Board {
 
     /// What it is, on one line.
     pub fn title(&self) -> String {
-        title(&self.strip, self.diluted.as_deref(), [self.n, self.kept, self.window])
+        match &self.strip {
+            Some(strip) => title(strip, self.own.as_deref(), [self.n, self.kept, self.window]),
+            None => {
+                let (n, kept) = (counted(self.n, "vertex", "vertices"), counted(self.kept, "kept edge", "kept edges"));
+                format!("job {}: {n}, {kept}, window {}", self.own.as_deref().unwrap_or_default(), self.window)
+            }
+        }
     }
 
     /// Entries that the sweeps of one call step over.

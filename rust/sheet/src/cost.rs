@@ -107,9 +107,10 @@ pub fn work_memory(board: &mut Board, threads: usize) -> Result<Vec<f64>, Troubl
         Ok(work)
     });
     work.map_err(|lacking| {
-        let (strip, needed) = (&board.strip, size(bytes(board.room(), threads)));
+        let needed = size(bytes(board.room(), threads));
+        let which = board.strip.map_or(board.title(), |strip| format!("--width {} --length {}", strip.width, strip.length));
         let less = if board.has_less_room() { " with less room" } else { "" };
-        Trouble::Machine(format!("--width {} --length {}: the work memory is {needed}{less}, {lacking}", strip.width, strip.length))
+        Trouble::Machine(format!("{which}: the work memory is {needed}{less}, {lacking}"))
     })
 }
 

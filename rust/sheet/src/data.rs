@@ -16,8 +16,7 @@ pub fn csv(sheet: &Sheet) -> String {
     for (i, beta) in sheet.betas.iter().enumerate() {
         for row in &sheet.rows {
             let distance = row.distance.map_or(String::new(), |d| d.to_string());
-            let strip = format!("{},{},{},{}", sheet.kind, sheet.boundary, sheet.width, sheet.length);
-            text += &format!("{strip},{beta},{},{},{},{distance}", row.label, row.u, row.v);
+            text += &format!("{},{beta},{},{},{},{distance}", sheet.strip, row.label, row.u, row.v);
             for &x in &row.values[i] {
                 text += &format!(",{x:?}");
                 if sheet.bits {

@@ -3,7 +3,8 @@
 use crate::options::Options;
 use crate::trouble::Trouble;
 use crate::values::spelled;
-use copperhook::{house, limits, Kind, Refusal, Strip};
+use copperhook::{house, limits, Graph, Job, Kind, Refusal, Strip};
+use std::path::Path;
 
 pub fn refused(told: String, refusal: Refusal) -> Trouble {
     Trouble::Refused { told, number: refusal.number() }
@@ -75,6 +76,44 @@ pub fn of_place(place: usize, edges: usize) -> Trouble {
     refused(format!("--drop {place}: {there}"), Refusal::EdgePlace)
 }
 
+/// Of the job of a job sheet: what is wrong with it, and where.
+pub fn of_job(file: &Path, job: &Job, betas: &[f64], refusal: Refusal) -> Trouble {
+    let Graph { n, a, b, m, .. } = job.graph;
+    let bad_end = |u: usize, v: usize| u == v || u.max(v) >= n;
+    let ends = |i: usize, u: usize, v: usize, what: &str| match u == v {
+        true => format!("{what} {i} is {u}-{v}: its ends must differ"),
+        false => format!("{what} {i} is {u}-{v}: vertices are 0 to {}", n - 1),
+    };
+    let oversized = |x: &f64| !x.is_finite() || x.abs() > 1024.0;
+    let told = match refusal {
+        Refusal::VertexCount => format!("{n} vertices; 1 to 1,024"),
+        Refusal::ListLengths => {
+            let (edges, pairs) = (a.len(), job.us.len());
+            format!("{edges} edges, {pairs} pairs and {} betas; at most 4,096, {} and {}", betas.len(), limits::PAIRS, limits::BETAS)
+        }
+        Refusal::EdgeEnds => (0..a.len()).find(|&i| bad_end(a[i], b[i])).map_or(String::new(), |i| ends(i, a[i], b[i], "edge")),
+        Refusal::PairEnds => {
+            let (us, vs) = (job.us, job.vs);
+            (0..us.len()).find(|&i| bad_end(us[i], vs[i])).map_or(String::new(), |i| ends(i, us[i], vs[i], "pair"))
+        }
+        Refusal::Magnitude if m.iter().any(oversized) => {
+            let i = m.iter().position(oversized).unwrap_or_default();
+            format!("the magnitude of edge {i} is {}; it must be finite and of size 1,024 at most", spelled(m[i]))
+        }
+        Refusal::Magnitude | Refusal::Betas => match of_betas(betas, refusal) {
+            Trouble::Refused { told, .. } => told.split(": --beta").next().unwrap_or_default().to_string(),
+            other => other.to_string(),
+        },
+        Refusal::Window | Refusal::TesterLimit => {
+            let most = if refusal == Refusal::Window { limits::WINDOW } else { limits::TESTER_WINDOW };
+            let window = job.graph.window().unwrap_or_default();
+            format!("a window of {window}, the largest of the floor {} and the longest kept edge; at most {most}", job.graph.floor)
+        }
+        other => other.sentence().to_string(),
+    };
+    refused(format!("{}: {told}", file.display()), refusal)
+}
+
 /// Of the list of betas.
 pub fn of_betas(betas: &[f64], refusal: Refusal) -> Trouble {
     let strong = betas.iter().find(|b| !b.is_finite() || b.abs() > 1024.0);
@@ -108,12 +147,12 @@ fn out_of_order(betas: &[f64]) -> String {
 }
 
 /// Of the factors at each beta and edge, whose magnitudes these are.
-pub fn of_factors(options: &Options, magnitudes: &[f64], refusal: Refusal) -> Trouble {
+pub fn of_factors(options: &Options, betas: &[f64], magnitudes: &[f64], refusal: Refusal) -> Trouble {
     let kept: Vec<f64> = magnitudes.iter().copied().filter(|m| *m != 0.0).collect();
-    let products = options.betas.iter().flat_map(|&beta| kept.iter().map(move |&m| (beta, m)));
+    let products = betas.iter().flat_map(|&beta| kept.iter().map(move |&m| (beta, m)));
     match products.into_iter().find(|(beta, m)| house::factor(beta * m).is_none()) {
         Some((beta, m)) if refusal == Refusal::Couplings => refused(off_grid(options, &kept, beta, m), refusal),
-        _ => of_betas(&options.betas, refusal),
+        _ => of_betas(betas, refusal),
     }
 }
 
@@ -127,6 +166,7 @@ fn off_grid(options: &Options, kept: &[f64], beta: f64, m: f64) -> String {
     // of a zero the sign says nothing here
     let nearest = spelled(house::nearest(product) + 0.0);
     let change = match (mended(options, kept, m), options.dilution) {
+        _ if options.job.is_some() => "change it in the job sheet".to_string(),
         (Some(betas), _) => format!("use --beta {betas}"),
         (None, Some(by)) if by.low != by.high => {
             let bounds = format!("equal bounds, as --dilute {},1,1,{}", spelled(by.keep), by.seed);

@@ -6,12 +6,15 @@ The sheet of a strip: how strongly pairs of its spins hold together, as exact pa
 usage: sheet [make] --kind K --width N --length N --beta B,.. [options]
        sheet [make] --kind K --width N --length N --edges [options]
        sheet preview --kind K --width N --length N --beta B,.. --drop PLACE,..|all [options]
+       sheet [make] --job FILE [options]
+       sheet show FILE
        sheet verify FILE [--threads N]
        sheet --help | --version
 
 make, which an option as the first word means, works a sheet out. verify works one in csv or json out again, from the
 record that it carries, compares it cell by cell (with --bits bit for bit, else digit by digit) and tells what differs.
 preview tells what dropping edges would do, each alone, before one is dropped; see below.
+show lists a job sheet, record by record with the byte of each, and where it stops being one, the byte and the reason.
 
 the strip
     --kind K                 square, tri (with a diagonal), honey, or eight (with both diagonals)
@@ -20,6 +23,10 @@ the strip
                              than 2 twice the width less 1, goes up to 24
     --cylinder               periodic across; without it free
     --dilute KEEP,LO,HI,SEED each edge is kept with probability KEEP, its magnitude drawn from LO to HI
+or a job, as a file that travels between halls
+    --job FILE               the job sheet in this file, in place of the strip, its betas and its pairs
+    --write-job FILE         the job, of a strip or of a job sheet, as a job sheet to this file, which is there whole or
+                             not at all: vertices and floor, every edge, betas and pairs, doubles by their bits
 what is asked of it
     --beta B,..              inverse temperatures, up to 64, each above the one before
     --pairs U-V,..           these pairs of vertices, up to 256; without it the standard pairs, see below.
@@ -100,9 +107,13 @@ examples
     sheet preview --kind honey --width 4 --length 5 --dilute 0.9,0.5,1.5,11 --beta 0.44,0.6 --drop all
     sheet --kind square --width 4 --length 6 --beta 0.4375,0.6015625 --house
     sheet --kind square --width 4 --length 5 --beta 0.44 --enumerate --shares
+    sheet --kind tri --width 3 --length 8 --beta 0.3 --seed 7 --write-job board.job
+    sheet show board.job
+    sheet --job board.job --seed 7
     sheet verify board.csv
     sheet --kind square --width 8 --length 12 --beta 0.2,0.44,0.8 --signs plus --format svg --output plot.svg
 
 Exit status: 0, 2 for a bad option or a refused job, 1 where memory or a file cannot be had.
+Of show: 0 for a job sheet whose job the library takes, else 2.
 Of verify: 0 where all agrees, 1 for a difference, 2 where the sheet cannot be read or worked out.
 ";

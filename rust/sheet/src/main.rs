@@ -10,6 +10,7 @@ mod data;
 mod edges;
 mod explained;
 mod help;
+mod job_sheet;
 mod json;
 mod marks;
 mod options;
@@ -50,6 +51,7 @@ fn make(options: &Options) -> Result<String, Trouble> {
         return shares::listed(options);
     }
     let mut board = Board::new(options)?;
+    job_sheet::write_if_asked(options, &board)?;
     for warning in explained::warnings(options) {
         tell(&format!("sheet: warning: {warning}\n"));
     }
@@ -84,6 +86,11 @@ fn run(words: &[String]) -> Result<u8, Trouble> {
             let verdict = verify::verify(&file, threads, make)?;
             output::to_stdout(&verdict.told)?;
             return Ok(u8::from(!verdict.agrees));
+        }
+        Asked::Show(file) => {
+            let shown = job_sheet::show(&file)?;
+            output::to_stdout(&shown.told)?;
+            return Ok(if shown.is_sheet { 0 } else { 2 });
         }
         Asked::Sheet(options) => {
             let target = Target::ready(options.output.as_deref())?;

@@ -37,6 +37,9 @@ pub fn family(sheet: &Sheet, row: &Row) -> String {
         (_, true) => "along",
         _ => "oblique",
     };
+    if sheet.strip.starts_with("job") {
+        return "pairs".to_string();
+    }
     match (sheet.standard, row.label.starts_with("centre"), way) {
         (false, ..) => way.to_string(),
         (_, _, "oblique") => "opposite corners".to_string(),

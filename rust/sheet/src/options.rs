@@ -54,6 +54,11 @@ pub enum Dropped {
 
 #[derive(Clone, Debug, PartialEq)]
 pub struct Options {
+    /// The job sheet that stands in for the strip, its pairs and the betas.
+    pub job: Option<PathBuf>,
+    /// Where the job goes as a job sheet.
+    pub write_job: Option<PathBuf>,
+    /// Of the strip; nothing where there is a job sheet.
     pub kind: String,
     pub width: usize,
     pub length: usize,
@@ -90,13 +95,20 @@ pub struct Options {
 pub enum Asked {
     Help,
     Version,
-    Verify { file: PathBuf, threads: usize },
+    Verify {
+        file: PathBuf,
+        threads: usize,
+    },
+    /// A job sheet, record by record.
+    Show(PathBuf),
     Sheet(Box<Options>),
 }
 
 /// The options as they are written, before they are put together.
 #[derive(Default)]
 struct Written {
+    job: Option<PathBuf>,
+    write_job: Option<PathBuf>,
     kind: Option<String>,
     width: Option<usize>,
     length: Option<usize>,
@@ -132,6 +144,7 @@ pub fn parse(words: &[String]) -> Result<Asked, Trouble> {
         Some((first, rest)) if first == "make" => made(rest, Written::default()),
         Some((first, rest)) if first == "preview" => made(rest, Written { preview: true, ..Written::default() }),
         Some((first, rest)) if first == "verify" => verified(rest),
+        Some((first, rest)) if first == "show" => shown(rest),
         Some((first, _)) if first.starts_with('-') => made(words, Written::default()),
         Some((first, _)) => Err(Trouble::asked(format!("'{first}' is no subcommand and no option; sheet --help tells them"))),
     }
@@ -161,6 +174,17 @@ fn verified(words: &[String]) -> Result<Asked, Trouble> {
     }
     let file = file.ok_or_else(|| Trouble::asked("verify needs a file: a sheet in csv or json"))?;
     Ok(Asked::Verify { file, threads: threads.unwrap_or(1) })
+}
+
+/// `show FILE`.
+fn shown(words: &[String]) -> Result<Asked, Trouble> {
+    match words {
+        [option] if option == "--help" || option == "-h" => Ok(Asked::Help),
+        [option, ..] if option.starts_with("--") => Err(Trouble::asked(format!("show has no option {option}; sheet --help tells them"))),
+        [file] => Ok(Asked::Show(PathBuf::from(file))),
+        [_, second, ..] => Err(Trouble::asked(format!("show takes one file; {second} is a second"))),
+        [] => Err(Trouble::asked("show needs a file: a job sheet")),
+    }
 }
 
 fn made(words: &[String], mut written: Written) -> Result<Asked, Trouble> {
@@ -215,7 +239,7 @@ impl Written {
 
     fn value(&mut self, name: &str, value: Option<String>) -> Result<(), Trouble> {
         const NAMES: &str =
-            "--kind --width --length --dilute --beta --pairs --drop --floor --signs --seed --sample --chunks --threads --manner --format --output";
+            "--kind --width --length --dilute --job --write-job --beta --pairs --drop --floor --signs --seed --sample --chunks --threads --manner --format --output";
         if !NAMES.split(' ').any(|known| known == name) {
             return Err(Trouble::asked(format!("there is no option {name}; sheet --help tells them")));
         }
@@ -228,6 +252,8 @@ impl Written {
             "--width" => once(&mut self.width, name, values::count(&value).map_err(at)?),
             "--length" => once(&mut self.length, name, values::count(&value).map_err(at)?),
             "--dilute" => once(&mut self.dilution, name, values::dilution(&value).map_err(at)?),
+            "--job" => once(&mut self.job, name, PathBuf::from(&value)),
+            "--write-job" => once(&mut self.write_job, name, PathBuf::from(&value)),
             "--beta" => once(&mut self.betas, name, values::list(&value, values::number).map_err(at)?),
             "--pairs" => once(&mut self.pairs, name, values::list(&value, values::pair).map_err(at)?),
             "--drop" => once(&mut self.dropped, name, values::dropped(&value).map_err(at)?),
@@ -284,6 +310,7 @@ impl Written {
             ("--tester", self.tester),
             ("--house", self.house),
             ("--shares", self.shares),
+            ("--write-job", self.write_job.is_some()),
         ];
         if let Some((name, _)) = given.iter().find(|g| g.1) {
             return Err(Trouble::asked(format!("--edges and {name} cannot be combined: the edges do not depend on it")));
@@ -309,6 +336,9 @@ impl Written {
         if let Some((name, _)) = given.iter().find(|g| g.1) {
             return Err(Trouble::asked(format!("preview and {name} cannot be combined: the figures do not depend on it")));
         }
+        if let Some((name, _)) = [("--job", self.job.is_some()), ("--write-job", self.write_job.is_some())].iter().find(|g| g.1) {
+            return Err(Trouble::asked(format!("preview and {name} cannot be combined: a preview is of a strip's edges")));
+        }
         match self.format {
             Some(Format::Json | Format::Svg) => Err(Trouble::asked("preview is told as text or csv")),
             _ if self.dropped.is_none() => Err(Trouble::asked("--drop is required (places of edges, as 0,3, or all)")),
@@ -331,6 +361,26 @@ impl Written {
         }
     }
 
+    /// A job sheet has its own graph, pairs and betas.
+    fn only_job(&self) -> Result<(), Trouble> {
+        let given = [
+            ("--kind", self.kind.is_some()),
+            ("--width", self.width.is_some()),
+            ("--length", self.length.is_some()),
+            ("--cylinder", self.cylinder),
+            ("--dilute", self.dilution.is_some()),
+            ("--beta", self.betas.is_some()),
+            ("--pairs", self.pairs.is_some()),
+            ("--edges", self.edges),
+        ];
+        match given.iter().find(|g| g.1) {
+            Some((name, _)) => {
+                Err(Trouble::asked(format!("--job and {name} cannot be combined: the job sheet has its own graph, pairs and betas")))
+            }
+            None => Ok(()),
+        }
+    }
+
     fn put_together(mut self) -> Result<Options, Trouble> {
         fn needed<T>(slot: Option<T>, name: &str, what: &str) -> Result<T, Trouble> {
             slot.ok_or_else(|| Trouble::asked(format!("{name} is required ({what})")))
@@ -343,6 +393,10 @@ impl Written {
         } else if let Some((name, _)) = [("--drop", self.dropped.is_some()), ("--floor", self.floor.is_some())].iter().find(|g| g.1) {
             return Err(Trouble::asked(format!("{name} is for a preview; write sheet preview {name} ..")));
         }
+        if self.job.is_some() {
+            self.only_job()?;
+            (self.kind, self.width, self.length, self.betas) = (Some(String::new()), Some(0), Some(0), Some(Vec::new()));
+        }
         if self.edges {
             self.only_edges()?;
             self.betas = Some(Vec::new());
@@ -351,6 +405,8 @@ impl Written {
             self.only_shares()?;
         }
         Ok(Options {
+            job: self.job.take(),
+            write_job: self.write_job.take(),
             wanted: self.wanted()?,
             kind: needed(self.kind, "--kind", "square, tri, honey or eight")?,
             width: needed(self.width, "--width", "vertices across")?,
@@ -495,6 +551,15 @@ mod tests {
         assert_eq!(parsed("verify").unwrap_err().to_string(), "verify needs a file: a sheet in csv or json");
         assert_eq!(parsed("verify a b").unwrap_err().to_string(), "verify takes one file; b is a second");
         assert_eq!(parsed("verify a --bits").unwrap_err().to_string(), "verify has no option --bits; sheet --help tells them");
+        assert_eq!(parsed("show").unwrap_err().to_string(), "show needs a file: a job sheet");
+        assert_eq!(parsed("show a b").unwrap_err().to_string(), "show takes one file; b is a second");
+        assert_eq!(parsed("show --bits").unwrap_err().to_string(), "show has no option --bits; sheet --help tells them");
+        assert_eq!(parsed("show a"), Ok(Asked::Show(PathBuf::from("a"))));
+        for name in ["--kind sq", "--width 2", "--cylinder", "--beta 1", "--pairs 0-1", "--edges"] {
+            let first = name.split(' ').next().unwrap();
+            let told = format!("--job and {first} cannot be combined: the job sheet has its own graph, pairs and betas");
+            assert_eq!(parsed(&format!("--job a {name}")).unwrap_err().to_string(), told);
+        }
         assert_eq!(parsed("verify --threads 3 a"), Ok(Asked::Verify { file: PathBuf::from("a"), threads: 3 }));
         assert_eq!((parsed("--cylinder --help"), parsed("--version")), (Ok(Asked::Help), Ok(Asked::Version)));
     }

@@ -49,7 +49,7 @@ impl Target {
             Target::Stream(path) => {
                 (path, fs::OpenOptions::new().write(true).open(path).and_then(|mut stream| stream.write_all(text.as_bytes())))
             }
-            Target::Whole { file, mode } => (file, replace(file, mode.as_ref(), text)),
+            Target::Whole { file, mode } => (file, replace(file, mode.as_ref(), text.as_bytes())),
         };
         written.or_else(|e| {
             tell("sheet: it cannot be written to its file, and goes to standard output\n");
@@ -59,10 +59,16 @@ impl Target {
     }
 }
 
-fn replace(path: &Path, mode: Option<&Permissions>, text: &str) -> io::Result<()> {
+/// Bytes to a file, which is there whole or not at all; one that is there keeps its mode.
+pub fn to_file(path: &Path, bytes: &[u8]) -> io::Result<()> {
+    let mode = fs::metadata(path).ok().map(|there| there.permissions());
+    replace(path, mode.as_ref(), bytes)
+}
+
+fn replace(path: &Path, mode: Option<&Permissions>, bytes: &[u8]) -> io::Result<()> {
     let beside = beside(path)?;
     let written = File::create_new(&beside).and_then(|mut file| {
-        file.write_all(text.as_bytes())?;
+        file.write_all(bytes)?;
         mode.map_or(Ok(()), |mode| file.set_permissions(mode.clone()))?;
         file.sync_all()
     });

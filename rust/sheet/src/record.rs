@@ -48,9 +48,11 @@ impl Record {
         // only where it is so: sheets of the host's factors stay as they were
         entries.extend(options.house.then(|| ("factors", Field::text("house"))));
         entries.push(("factors_sha256", Field::text(factors_sha256(board))));
-        entries.push(("command", Field::text(command(options, &board.strip))));
-        entries.extend(strip(&board.strip, [board.n, board.kept, board.free, board.window]));
+        entries.push(("command", Field::text(command(options, board.strip.as_ref()))));
+        entries.extend(strip(board.strip.as_ref(), [board.n, board.kept, board.free, board.window]));
         entries.extend(dilution(options));
+        // only where there is one: sheets of strips stay as they were
+        entries.extend(board.job_sha256.clone().map(|sha| ("job_sha256", Field::text(sha))));
         entries.extend(source.record());
         entries.push(("manner", Field::text(manner(options))));
         Record(entries)
@@ -59,8 +61,8 @@ impl Record {
     /// Of a list of edges, or of a preview, which no configuration enters: the strip, with its vertices, kept and free edges and window.
     pub fn of_edges(options: &Options, of: &Strip, figures: [usize; 4]) -> Record {
         let mut entries = build().to_vec();
-        entries.push(("command", Field::text(command(options, of))));
-        entries.extend(strip(of, figures));
+        entries.push(("command", Field::text(command(options, Some(of)))));
+        entries.extend(strip(Some(of), figures));
         entries.extend(dilution(options));
         Record(entries)
     }
@@ -70,12 +72,13 @@ fn build() -> [Entry; 3] {
     [("copperhook", Field::text(VERSION)), ("commit", Field::text(COMMIT)), ("archive_sha256", Field::text(ARCHIVE_SHA256))]
 }
 
-fn strip(strip: &Strip, [n, kept, free, window]: [usize; 4]) -> [Entry; 8] {
+fn strip(strip: Option<&Strip>, [n, kept, free, window]: [usize; 4]) -> [Entry; 8] {
+    let of = |field: &dyn Fn(&Strip) -> Field| strip.map_or(Field::Nothing, field);
     [
-        ("kind", Field::text(strip.kind.name())),
-        ("boundary", Field::text(strip.boundary())),
-        ("width", Field::number(strip.width)),
-        ("length", Field::number(strip.length)),
+        ("kind", of(&|strip| Field::text(strip.kind.name()))),
+        ("boundary", of(&|strip| Field::text(strip.boundary()))),
+        ("width", of(&|strip| Field::number(strip.width))),
+        ("length", of(&|strip| Field::number(strip.length))),
         ("vertices", Field::number(n)),
         ("kept_edges", Field::number(kept)),
         ("free_edges", Field::number(free)),
@@ -110,11 +113,12 @@ fn factors_sha256(board: &Board) -> String {
 }
 
 /// The line that asks for the same numbers, however it was asked: nothing unsaid, in one order, and nothing that no number depends on.
-fn command(options: &Options, strip: &Strip) -> String {
+fn command(options: &Options, strip: Option<&Strip>) -> String {
     let list = |items: Vec<String>| items.join(",");
     let subcommand = if options.dropped.is_some() { "preview" } else { "make" };
-    let mut words = vec![format!("sheet {subcommand} --kind"), strip.kind.name()];
-    words.push(format!("--width {} --length {}", options.width, options.length));
+    let mut words = vec![format!("sheet {subcommand}")];
+    words.extend(strip.map(|strip| format!("--kind {} --width {} --length {}", strip.kind.name(), options.width, options.length)));
+    words.extend(options.job.as_ref().map(|file| format!("--job {}", file.display())));
     words.extend(options.cylinder.then(|| "--cylinder".to_string()));
     words.extend(options.dilution.map(|by| {
         let numbers = [by.keep, by.low, by.high].map(spelled).join(",");
@@ -124,7 +128,7 @@ fn command(options: &Options, strip: &Strip) -> String {
         words.push("--edges".to_string());
         return words.join(" ");
     }
-    words.push(format!("--beta {}", list(options.betas.iter().map(|&b| spelled(b)).collect())));
+    words.extend(strip.map(|_| format!("--beta {}", list(options.betas.iter().map(|&b| spelled(b)).collect()))));
     words.extend(options.pairs.as_ref().map(|pairs| format!("--pairs {}", list(pairs.iter().map(|(u, v)| format!("{u}-{v}")).collect()))));
     if let Some(dropped) = &options.dropped {
         words.extend(options.floor.map(|floor| format!("--floor {floor}")));

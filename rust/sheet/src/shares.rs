@@ -13,7 +13,7 @@ use crate::source::{Done, Source, FEW};
 use crate::text::aligned;
 use crate::totals::Enumerated;
 use crate::trouble::Trouble;
-use crate::{explained, values};
+use crate::{explained, job_sheet, values};
 use copperhook::{limits, shares, Refusal, Share, Shares};
 
 /// The names of the four shares.
@@ -71,7 +71,7 @@ fn enumerated(options: &Options, board: &Board) -> Result<Enumerated, Trouble> {
         let told = format!("{free} free edges; --shares takes all 2^{free} configurations: say --enumerate too, if they are meant");
         return Err(Trouble::asked(told));
     }
-    Enumerated::new(board)
+    Enumerated::new(board, false)
 }
 
 /// Beta after beta: the shares of each pair, and those of all pairs pooled.
@@ -98,6 +98,7 @@ fn betas(board: &Board, work: &mut [f64], stored: &mut [f64], done: Done) -> Res
 impl Listing {
     fn new(options: &Options) -> Result<Listing, Trouble> {
         let mut board = Board::new(options)?;
+        job_sheet::write_if_asked(options, &board)?;
         for warning in explained::warnings(options) {
             progress::tell(&format!("sheet: warning: {warning}\n"));
         }
@@ -170,8 +171,7 @@ each down, and the hundredths missing from 100 go to those that lost most by it,
     }
 
     fn csv(&self) -> String {
-        let (s, boundary) = (&self.board.strip, self.board.strip.boundary());
-        let strip = format!("{},{boundary},{},{}", s.kind.name(), s.width, s.length);
+        let strip = self.board.strip_cells();
         let mut text: String = self.record.0.iter().map(|(key, field)| format!("# {key}: {}\n", field.shown())).collect();
         let heads = KINDS.map(|kind| format!(",{kind}_top,{kind}_bottom,{kind}_percent"));
         text += &format!("kind,boundary,width,length,beta,pair,u,v,distance{}\n", heads.concat());

@@ -18,10 +18,10 @@ pub struct Row {
 
 pub struct Sheet {
     pub record: Record,
-    pub kind: String,
-    pub boundary: String,
+    /// Kind, boundary, width and length of the strip, cell by cell; of a job sheet only that it is one.
+    pub strip: String,
+    /// Of the strip; 1 of a job sheet, whose vertices have no places across.
     pub width: usize,
-    pub length: usize,
     pub title: String,
     pub source: String,
     manner: &'static str,
@@ -49,10 +49,8 @@ impl Sheet {
         };
         Sheet {
             record: Record::new(options, board, source),
-            kind: board.strip.kind.name(),
-            boundary: board.strip.boundary(),
-            width: board.strip.width,
-            length: board.strip.length,
+            strip: board.strip_cells(),
+            width: board.strip.map_or(1, |strip| strip.width),
             title: board.title(),
             source: source.title(),
             manner: if board.options.manner == copperhook::Manner::Block { "block" } else { "element" },
@@ -64,7 +62,7 @@ impl Sheet {
             less_room: less_room(board, source.threads()),
             bits: options.bits,
             drawn: matches!(options.wanted, Wanted::Sampled(_)),
-            standard: options.pairs.is_none(),
+            standard: options.pairs.is_none() && board.strip.is_some(),
         }
     }
 

@@ -79,10 +79,11 @@ fn job(found: &Cells, format: Format, threads: usize) -> Result<Options, String>
     let command = found.get("command").ok_or("it has no record of a command, so it cannot be worked out again")?;
     let words: Vec<String> = command.split(' ').map(String::from).collect();
     let rest = words.strip_prefix(&["sheet".to_string()]).ok_or_else(|| format!("its command is '{command}', which is none of a sheet"))?;
-    let Ok(Asked::Sheet(mut options)) = options::parse(rest) else {
+    let Ok(Asked::Sheet(options)) = options::parse(rest) else {
         let why = options::parse(rest).err().map_or("which makes no sheet".to_string(), |trouble| trouble.to_string());
         return Err(format!("its command is '{command}': {why}"));
     };
+    let mut options = *options;
     if let Wanted::Sampled(by) = &mut options.wanted {
         by.threads = threads;
     }
@@ -91,7 +92,7 @@ fn job(found: &Cells, format: Format, threads: usize) -> Result<Options, String>
     let of_all = matches!(options.wanted, Wanted::Unsaid | Wanted::Enumerated) && !options.edges && !options.shares;
     let named = |(place, cell): (&String, &String)| place.contains("spread") || place == "columns" && cell.contains("spread");
     options.as_sampled = of_all && !found.iter().any(named);
-    Ok(Options { format, output: None, ..*options })
+    Ok(Options { format, output: None, ..options })
 }
 
 /// What differs, and where.

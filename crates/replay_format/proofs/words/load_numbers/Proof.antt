@@ -7,7 +7,7 @@ use borrow.Author.Needs.{needs}
 use Rattle.replay_format.specs.Words.{wordAt, placeAt}
 use Rattle.list_laws.specs.Front.{over}
 use Rattle.list_laws.specs.Tabulate.{tabulate}
-use Rattle.replay_format.proofs.Loading.{loaded-none, loaded-more, loaded-length, loaded-all}
+use Rattle.little_endian.specs.Laws.Loaded.{loaded-none, loaded-more, loaded-length, loaded-all}
 use Rattle.replay_format.proofs.words.load_numbers.Statement.{statement}
 use Rattle.replay_format.proofs.words.load_numbers.Tie as tie
 

@@ -4,7 +4,7 @@ use mathlib.Core.List.{List, [], _∷_, _++_, append-nil}
 use Prim.Native.Nat.{ℕ, _+_, _≤_, _<_}
 use native.Mathlib.Numerals.{add-one}
 use native.Mathlib.Omega.{arith}
-use lib.ListN.{length, drop, set, drop-of-length-le}
+use lib.ListN.{length, set, drop-of-length-le}
 use Rattle.list_laws.specs.Front.{over}
 use Rattle.list_laws.specs.Laws.Front.{over-more, over-length}
 use Rattle.list_laws.specs.Tabulate.{tabulate}

@@ -7,8 +7,8 @@ use lib.Dec.{T}
 use lib.Ieee.{Float, nan, inf, fin, eq, ne, isNan, binary64, toBits}
 use lib.Ieee.Compare.{differs-from-itself}
 use denote.Floats.{passes}
-use Rattle.replay_format.proofs.words.bits_of.Statement.{statement}
-use Rattle.replay_format.proofs.words.bits_of.Tie as tie
+use Rattle.little_endian.proofs.doubles.bits_of.Statement.{statement}
+use Rattle.little_endian.proofs.doubles.bits_of.Tie as tie
 
 not-nan : (x : Float) → T (eq x x) → T (not (isNan x))
 unfolding eq isNan

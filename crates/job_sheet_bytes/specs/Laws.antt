@@ -1,0 +1,4 @@
+-- What is proved of the definitions.
+pub mod Bytes
+pub mod Read
+pub mod Written
