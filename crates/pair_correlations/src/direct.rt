@@ -7,7 +7,7 @@ ghost use Rattle.pair_correlations.specs.Aim.{DirectSource};
 ghost use Rattle.pair_correlations.specs.Direct.{DirectAsked, AnsweredAt};
 use crate::write::write_two;
 use pair_sums::Source;
-use plan_layout::earlier;
+use pair_places::earlier;
 
 // A vertex, and the places of its forward and its backward vector.
 pub struct VertexPlaces {

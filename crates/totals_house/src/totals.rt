@@ -16,7 +16,7 @@ ghost use Rattle.totals_house_betas.specs.Betas.{HousePassed, OnGrid, PlanOfBet
 use house_table::table;
 use job_run::clear;
 use plan_layout::make_plan;
-use plan_layout::order_pairs;
+use pair_order::order_pairs;
 use totals_call::EDGES;
 use totals_call::PAIRS;
 use totals_call::PLAN;

@@ -20,7 +20,7 @@ ghost use Rattle.totals_house_betas.specs.Betas.{HousePassed, OnGrid, PlanOfNum
 use house_table::table;
 use job_run::clear;
 use plan_layout::make_plan;
-use plan_layout::order_pairs;
+use pair_order::order_pairs;
 use step_tables::pow2;
 use totals_call::EDGES;
 use totals_call::PAIRS;
