@@ -17,7 +17,7 @@ ghost use Rattle.graph.specs.Graphs.{componentNames, measureOf, Componen
 ghost use Rattle.graph.specs.Reached.{Distanced};
 use distance::Reach;
 use graph_checks::is_outside;
-use kept_edges::build::build;
+use graph_build::build;
 use kept_edges::window_of;
 use limits::EDGES;
 use refusals::Answer;

@@ -7,7 +7,7 @@ ghost use Rattle.refusals.specs.Edges.{dropping};
 ghost use Rattle.kept_edges.specs.Keep.{Holds, KeptEdges};
 ghost use Rattle.job_checks.specs.Checked.{CheckedKept, CheckedJob};
 use graph_checks::bad_edges;
-use kept_edges::build::check_graph_dropping;
+use graph_build::check_graph_dropping;
 use kept_edges::window_of;
 use limits::Caller;
 use limits::TESTER_WINDOW;

@@ -8,8 +8,8 @@ use Prim.Native.Nat.{ℕ}
 use mathlib.Core.Bool.{cond}
 use mathlib.Core.Path.{_≡_, refl, _∙_}
 use borrow.Author.Needs.{needs}
-use Rattle.kept_edges.proofs.build.check_raw.Statement.{statement}
-use Rattle.kept_edges.proofs.build.check_raw.Tie as tie
+use Rattle.graph_build.proofs.check_raw.Statement.{statement}
+use Rattle.graph_build.proofs.check_raw.Tie as tie
 
 -- the request, at the place before the first check
 abbrev asked : tie.After-shared-slice-known6 → Request

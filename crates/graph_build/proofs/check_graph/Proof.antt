@@ -1,8 +1,8 @@
 -- Past the end no magnitude is dropped.
 use Rattle.refusals.specs.Laws.Dropping.{dropping-none}
 use borrow.Author.Needs.{needs}
-use Rattle.kept_edges.proofs.build.check_graph.Statement.{statement}
-use Rattle.kept_edges.proofs.build.check_graph.Tie as tie
+use Rattle.graph_build.proofs.check_graph.Statement.{statement}
+use Rattle.graph_build.proofs.check_graph.Tie as tie
 
 returns : tie.Need-returns
 returns c = rw (dropping-none (c .before .before .before .before .before .before .before .before .before .before .before .before .before .before .before .before .before .before .before .args .m .now)) at (c .before .before .before .before .before .before .check-graph-dropping .ensures)

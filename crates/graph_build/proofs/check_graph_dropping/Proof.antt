@@ -1,12 +1,12 @@
 -- The checks of the lists as they are lent, and of the kept edges at the fronts of the buffers.
-use Rattle.kept_edges.proofs.Building.{room-for, early-part, late-part, early-fits, late-fits, few, ends-low}
-use Rattle.kept_edges.proofs.Building.{raw-accepted, raw-refused, twice-refused, none-refused}
+use Rattle.graph_build.proofs.Building.{room-for, early-part, late-part, early-fits, late-fits, few, ends-low}
+use Rattle.graph_build.proofs.Building.{raw-accepted, raw-refused, twice-refused, none-refused}
 use mathlib.Core.Path.{sym, _∙_}
 use Rattle.refusals.specs.Laws.Dropping.{dropping-length}
 use native.Mathlib.Omega.{arith}
 use borrow.Author.Needs.{needs}
-use Rattle.kept_edges.proofs.build.check_graph_dropping.Statement.{statement}
-use Rattle.kept_edges.proofs.build.check_graph_dropping.Tie as tie
+use Rattle.graph_build.proofs.check_graph_dropping.Statement.{statement}
+use Rattle.graph_build.proofs.check_graph_dropping.Tie as tie
 
 returns : tie.Need-returns
 returns c = raw-refused (c .before .before .check-raw .ensures) (c .refused .ensures) (λ z. omega arith)
