@@ -7,7 +7,7 @@ ghost use lib.ListN.{length};
 ghost use Rattle.c_values.specs.Kinds.{stripNumbered};
 ghost use Rattle.export_strips.specs.Strips.{StripEdges};
 use c_values::strip_numbered;
-use c_values::tell_number;
+use c_answers::tell_number;
 
 // As `strip_edges::raw_edges`, how many there are in `edges`; where the call is refused, that keeps what it held.
 #[no_mangle]

@@ -1,5 +1,5 @@
 // A graph's window and number of edges through references.
-ghost use Rattle.c_values.specs.Graphs.{Tells};
+ghost use Rattle.c_answers.specs.Graphs.{Tells};
 use graph_edges::Made;
 
 // Where the call is refused, `window` and `edges` keep what they held.

@@ -4,7 +4,7 @@ use Prim.Native.Nat.{ℕ, zero, suc}
 use Rattle.refusals.specs.Answers.{left}
 use Rattle.graph_edges.specs.Graphs.{made}
 use Rattle.graph_edges.specs.declared.Graph.{Graph}
-use Rattle.c_values.specs.Graphs.{numberOf, windowIn, edgesIn}
+use Rattle.c_answers.specs.Graphs.{numberOf, windowIn, edgesIn}
 
 -- ---- of a call whose refusal and graph are known
 

@@ -1,5 +1,5 @@
 // The distance of two vertices through references, and whether there is one.
-ghost use Rattle.c_values.specs.Distances.{Tells};
+ghost use Rattle.c_answers.specs.Distances.{Tells};
 use graph::Reached;
 
 // Where the call is refused both keep what they held, and where no walk leads there `edges` does.

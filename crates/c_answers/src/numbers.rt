@@ -1,5 +1,5 @@
 // A number through a reference.
-ghost use Rattle.c_values.specs.Numbers.{Tells};
+ghost use Rattle.c_answers.specs.Numbers.{Tells};
 use refusals::Answer;
 
 // Where the call is refused, `held` keeps what it held.

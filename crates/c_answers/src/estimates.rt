@@ -1,5 +1,5 @@
 // An estimate through references.
-ghost use Rattle.c_values.specs.Estimated.{Tells, TellsComplete};
+ghost use Rattle.c_answers.specs.Estimated.{Tells, TellsComplete};
 use estimate::Estimate;
 
 // `enough` tells whether there is an error: of two configurations or more, or of a complete enumeration. Then `mean` and `error` are written,

@@ -1,5 +1,5 @@
 // A vertex through references, and whether there is one.
-ghost use Rattle.c_values.specs.Vertices.{Tells};
+ghost use Rattle.c_answers.specs.Vertices.{Tells};
 use strip::Sited;
 
 // Where the call is refused both keep what they held, and for a site outside `vertex` does.

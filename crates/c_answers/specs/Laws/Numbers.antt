@@ -4,7 +4,7 @@ use Prim.Native.Nat.{ℕ, zero, suc}
 use Rattle.refusals.specs.Answers.{answered, left}
 use Rattle.refusals.specs.Laws.Answers.{left-alone}
 use Rattle.refusals.specs.declared.Answer.{Answer}
-use Rattle.c_values.specs.Numbers.{numberOf, heldOf, Tells}
+use Rattle.c_answers.specs.Numbers.{numberOf, heldOf, Tells}
 
 number-answered : (k x : ℕ) → numberOf (answered k x) ≡ k
 number-answered zero x = refl

@@ -1,5 +1,5 @@
 // An error bound through references, and whether one is known.
-ghost use Rattle.c_values.specs.Bounds.{Tells};
+ghost use Rattle.c_answers.specs.Bounds.{Tells};
 use error_bound::ErrorBound;
 
 // Where none is known `bound` keeps what it held, and where the call is refused both do.
