@@ -4,13 +4,13 @@ ghost use mathlib.Core.List.{[]};
 ghost use Rattle.limits.specs.Limits.{mostEdges};
 ghost use Rattle.refusals.specs.Edges.{dropping};
 ghost use Rattle.kept_edges.specs.Keep.{Holds, CheckedRaw, CheckedGraph};
-use kept_edges::keep::keep_dropping;
 use graph_checks::bad_edges;
 use graph_checks::bad_lists;
 use graph_checks::bad_sizes;
 use graph_checks::bad_vertices;
 use graph_checks::joined_twice;
 use graph_checks::unordered_betas;
+use kept_edges::keep::keep_dropping;
 
 // The refusal's number, 0 for accepted, and how many edges are kept.
 pub struct Checked {
