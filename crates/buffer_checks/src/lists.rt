@@ -5,7 +5,7 @@ ghost use Rattle.limits.specs.Limits.{mostVertices, mostEdges, mostWindow};
 ghost use Rattle.transfer_matrix.specs.Room.{arranged};
 ghost use Rattle.refusals.specs.Request.{lent};
 ghost use Rattle.refusals.specs.AcceptedJob.{buffersRefusal, listsRefusal};
-ghost use Rattle.plan_layout.specs.Places.{Pairs};
+ghost use Rattle.pair_places.specs.Places.{Pairs};
 use crate::factors::bad_factors;
 use plan_layout::room_needed;
 

@@ -5,7 +5,7 @@ ghost use Rattle.limits.specs.Limits.{mostVertices, mostEdges, mostBetas, mostW
 ghost use Rattle.transfer_matrix.specs.Room.{arranged};
 ghost use Rattle.refusals.specs.Request.{lent, signedFactors, tooManyChunks};
 ghost use Rattle.refusals.specs.AcceptedTotals.{misfits, enumerationLists, samplingLists};
-ghost use Rattle.plan_layout.specs.Places.{Pairs};
+ghost use Rattle.pair_places.specs.Places.{Pairs};
 use crate::factors::bad_factors;
 use crate::lists::check_buffers;
 use limits::Caller;

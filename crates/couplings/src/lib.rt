@@ -7,7 +7,7 @@ ghost use Rattle.limits.specs.Limits.{mostBetas, mostEdges};
 ghost use Rattle.list_laws.specs.Part.{put};
 ghost use Rattle.list_laws.specs.Tabulate.{tabulate};
 ghost use Rattle.couplings.specs.Couplings.{allCouplings, Coupled};
-use kept_edges::build::check_graph;
+use graph_build::check_graph;
 use limits::EDGES;
 
 // The couplings of one beta to the results, from `at` on.

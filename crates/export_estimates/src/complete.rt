@@ -3,8 +3,8 @@ ghost use mathlib.Core.Path.{_≡_};
 ghost use Rattle.estimate.specs.Estimates.{meanIn, errorIn, spreadIn};
 ghost use Rattle.estimate_complete.specs.Complete.{completeOf};
 ghost use Rattle.estimates_complete.specs.Columns.{CompleteColumns};
-ghost use Rattle.c_values.specs.Estimated.{numberOf};
-use c_values::tell_complete;
+ghost use Rattle.c_answers.specs.Estimated.{numberOf};
+use c_answers::tell_complete;
 
 // As `estimate_complete::estimate_complete`; where the call is refused, `mean`, `error` and `spread` keep what they held.
 #[no_mangle]

@@ -2,8 +2,8 @@
 ghost use mathlib.Core.Path.{_≡_};
 ghost use Rattle.estimate.specs.Estimates.{estimateOf, meanIn, errorIn};
 ghost use Rattle.estimates.specs.Columns.{Columns};
-ghost use Rattle.c_values.specs.Estimated.{numberOf, enoughOf};
-use c_values::tell_estimate;
+ghost use Rattle.c_answers.specs.Estimated.{numberOf, enoughOf};
+use c_answers::tell_estimate;
 
 // As `estimate::estimate`: `enough` tells whether there are two configurations or more. Then `mean` and `error` are written, for one only
 // `mean`; where the call is refused, all keep what they held.

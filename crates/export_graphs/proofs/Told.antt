@@ -10,10 +10,10 @@ use Rattle.graph.specs.Reached.{Distanced}
 use Rattle.graph_edges.specs.declared.Made.{Made}
 use Rattle.graph.specs.declared.graph.Reached.{Reached}
 use Rattle.strip_bonds.specs.Edges.{edges}
-use Rattle.c_values.specs.Numbers.{Tells}
-use Rattle.c_values.specs.Graphs as Graphs
-use Rattle.c_values.specs.Laws.Graphs as GraphsLaws
-use Rattle.c_values.specs.Distances as Distances
+use Rattle.c_answers.specs.Numbers.{Tells}
+use Rattle.c_answers.specs.Graphs as Graphs
+use Rattle.c_answers.specs.Laws.Graphs as GraphsLaws
+use Rattle.c_answers.specs.Distances as Distances
 use Rattle.export_graphs.specs.Graphs.{Listed}
 use Rattle.export_graphs.specs.Distances.{Told}
 

@@ -5,7 +5,7 @@ use mathlib.Core.List.{List}
 use Prim.Native.Nat.{ℕ}
 use Rattle.graph.specs.Reached.{Distanced}
 use Rattle.graph.specs.declared.graph.Reached.{Reached}
-use Rattle.c_values.specs.Distances.{Tells}
+use Rattle.c_answers.specs.Distances.{Tells}
 
 -- The number r of a call, and what it leaves in the references: the one right answer's number and values.
 pub record Told (refused : ℕ) (early late : List ℕ) (u v r : ℕ) (joined joined′ : Bool) (edges edges′ : ℕ) : Type 0 where

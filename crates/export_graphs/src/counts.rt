@@ -8,7 +8,7 @@ ghost use Rattle.refusals.specs.Refusal.{refusal, ofGraph};
 ghost use Rattle.refusals.specs.Answers.{left};
 ghost use Rattle.forest.specs.FreeEdges.{freeCount};
 ghost use Rattle.graph.specs.Graphs.{ComponentMarks};
-use c_values::tell_number;
+use c_answers::tell_number;
 
 // As `graph::window`, the window in `window`; where the call is refused, that keeps what it held.
 #[no_mangle]

@@ -4,7 +4,7 @@ ghost use Rattle.refusals.specs.Edges.{keptEarly, keptLate};
 ghost use Rattle.refusals.specs.Request.{distanceRequest};
 ghost use Rattle.refusals.specs.Refusal.{refusal, ofDistance};
 ghost use Rattle.export_graphs.specs.Distances.{Told};
-use c_values::tell_distance;
+use c_answers::tell_distance;
 
 // As `graph::distance`: `joined` tells whether a walk leads from u to v, and `edges` the least number of its edges. Where the call is
 // refused both keep what they held, and where no walk leads there `edges` does.

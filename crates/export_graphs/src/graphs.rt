@@ -10,8 +10,8 @@ ghost use Rattle.strip_dilution.specs.Diluted.{dilution};
 ghost use Rattle.strip_graph.specs.DilutedGraph.{dilutedEdges, graphRefusal};
 ghost use Rattle.c_values.specs.Kinds.{stripNumbered};
 ghost use Rattle.export_graphs.specs.Graphs.{Listed};
+use c_answers::tell_graph;
 use c_values::strip_numbered;
-use c_values::tell_graph;
 use graph_edges::Graph;
 
 // As `Graph::new`; where the call is refused, `window` and `edges` keep what they held.

@@ -4,7 +4,7 @@ ghost use mathlib.Core.Bool.{true, false};
 ghost use mathlib.Core.List.{[]};
 ghost use Rattle.error_bound.specs.Bound.{errorBoundOf};
 ghost use Rattle.error_bound.specs.Cases.{numberOf, knownIn, boundIn};
-use c_values::tell_bound;
+use c_answers::tell_bound;
 
 // As `error_bound::error_bound`: `known` tells whether a bound is known, and `bound` is then it. Where none is `bound` keeps what it held,
 // and where the call is refused both do.

@@ -8,8 +8,8 @@ ghost use Rattle.refusals.specs.Refusal.{refusal, ofRoom};
 ghost use Rattle.refusals.specs.Answers.{left};
 ghost use Rattle.plan_layout.specs.Arrangements.{arrangementOf};
 ghost use Rattle.c_values.specs.Options.{arrangementIn};
+use c_answers::tell_number;
 use c_values::arrangement_in;
-use c_values::tell_number;
 
 // As `job_checks::room`, the number of doubles in `room`; of the options it reads the arrangement alone; where the call is refused, that keeps what it held.
 #[no_mangle]

@@ -6,7 +6,7 @@ ghost use Rattle.refusals.specs.Answers.{left};
 ghost use Rattle.job_sheet.specs.Sheets.{sheetLength};
 ghost use Rattle.job_sheet_bytes.specs.Jobs.{given, sheetOf};
 ghost use Rattle.job_sheet_writer.specs.Writes.{sheetRefusal};
-use c_values::tell_number;
+use c_answers::tell_number;
 use job_sheet_writer::sheet_write;
 
 // As `job_sheet_writer::sheet_write`, the sheet's length in `bytes`; where the call is refused, that keeps what it held.

@@ -10,8 +10,8 @@ use Rattle.refusals.specs.declared.Answer.{Answer}
 use Rattle.strip.specs.declared.strip.Strip.{Strip}
 use Rattle.strip_bonds.specs.Edges.{edges, earlyEnds, lateEnds}
 use Rattle.strip_pairs.specs.PairSet.{Pair, firsts, seconds, labelBytes}
-use Rattle.c_values.specs.Numbers.{Tells}
-use Rattle.c_values.specs.Laws.Numbers.{told-number, told-held}
+use Rattle.c_answers.specs.Numbers.{Tells}
+use Rattle.c_answers.specs.Laws.Numbers.{told-number, told-held}
 use Rattle.export_strips.specs.Strips.{StripEdges}
 use Rattle.export_strips.specs.PairSets.{Paired}
 

@@ -3,8 +3,8 @@ ghost use mathlib.Core.Path.{_≡_};
 ghost use Rattle.strip_pairs.specs.PairSet.{pairSet, pairsRefusal};
 ghost use Rattle.c_values.specs.Kinds.{stripNumbered};
 ghost use Rattle.export_strips.specs.PairSets.{Paired};
+use c_answers::tell_number;
 use c_values::strip_numbered;
-use c_values::tell_number;
 
 // As `strip_pairs::pairs`, how many there are in `pairs`; where the call is refused, that keeps what it held.
 #[no_mangle]

@@ -8,10 +8,10 @@ ghost use Rattle.strip_window.specs.Window.{windowOf};
 ghost use Rattle.strip.specs.Requests.{stripRequest};
 ghost use Rattle.strip.specs.Vertices.{sited};
 ghost use Rattle.c_values.specs.Kinds.{stripNumbered};
-ghost use Rattle.c_values.specs.Vertices.{numberOf, insideOf, vertexOf};
+ghost use Rattle.c_answers.specs.Vertices.{numberOf, insideOf, vertexOf};
+use c_answers::tell_number;
+use c_answers::tell_vertex;
 use c_values::strip_numbered;
-use c_values::tell_number;
-use c_values::tell_vertex;
 
 // As `Strip::n`, the number of vertices in `n`; where the call is refused, that keeps what it held.
 #[no_mangle]

@@ -4,8 +4,8 @@ ghost use Rattle.refusals.specs.Answers.{answered};
 ghost use Rattle.entry_correlations.specs.Correlations.{HouseCorrelated};
 ghost use Rattle.totals_call.specs.Calls.{HouseEnumerated, HouseEnumeratedEach, HouseSampled};
 ghost use Rattle.c_values.specs.Options.{optionsNumbered};
+use c_answers::tell_number;
 use c_values::options_numbered;
-use c_values::tell_number;
 
 // As `entry_house_correlations::house_correlations`.
 #[no_mangle]

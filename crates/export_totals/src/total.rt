@@ -3,8 +3,8 @@ ghost use mathlib.Core.Path.{_≡_};
 ghost use Rattle.refusals.specs.Answers.{answered};
 ghost use Rattle.totals_call.specs.Calls.{Enumerated, EnumeratedEach, Sampled};
 ghost use Rattle.c_values.specs.Options.{optionsNumbered};
+use c_answers::tell_number;
 use c_values::options_numbered;
-use c_values::tell_number;
 
 // As `entry_exhaustive::exhaustive`, how many configurations there are in `count`; where the call is refused, that keeps what it held.
 #[no_mangle]

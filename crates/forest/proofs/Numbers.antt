@@ -9,7 +9,7 @@ use Rattle.edge_bits.specs.Having.{tree}
 use Rattle.forest.specs.Labels.{isTree}
 use Rattle.forest.specs.FreeEdges.{freeBefore, freeCount, bitOf, bitsOf}
 use Rattle.forest.specs.Laws.FreeEdges.{before-more}
-use Rattle.forest.proofs.Filled.{Filled, filled-all}
+use Rattle.union_find.specs.Laws.Filled.{Filled, filled-all}
 
 module _ (early late : List ℕ) where
   -- one edge more, whose test is r

@@ -1,13 +1,10 @@
 -- Labels of the vertices, merged edge by edge: two vertices have one label exactly where a path joins them.
-use mathlib.Core.Bool.{Bool, cond, not}
+use mathlib.Core.Bool.{Bool, not}
 use mathlib.Core.List.{List}
 use Prim.Native.Nat.{ℕ, zero, suc}
 use lib.Dec.{eqb}
+use Rattle.union_find.specs.Merging.{merge}
 use Rattle.forest.specs.Paths.{end}
-
--- the vertices with a's label take b's
-abbrev pub merge : (ℕ → ℕ) → ℕ → ℕ → ℕ → ℕ
-merge f a b v = cond (eqb (f v) (f a)) (f b) (f v)
 
 -- the label of v after the first i edges: each edge turns its early end's label into its late end's
 unfoldable pub labels : List ℕ → List ℕ → ℕ → ℕ → ℕ

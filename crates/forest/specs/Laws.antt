@@ -4,3 +4,4 @@ pub mod Components
 pub mod FreeEdges
 pub mod Lowest
 pub mod Marks
+pub mod Growth

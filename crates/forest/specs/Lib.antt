@@ -4,6 +4,5 @@ pub mod Labels
 pub mod Components
 pub mod FreeEdges
 pub mod Lowest
-pub mod Forest
 -- and the laws of these definitions, which no reader needs to believe.
 pub mod Laws

@@ -7,12 +7,8 @@ use lib.Dec.{eqb, ltb}
 use lib.ListN.{length, getD}
 use Rattle.list_laws.specs.Tabulate.{tabulate}
 use Rattle.limits.specs.Limits.{mostVertices}
+use Rattle.union_find.specs.Merging.{mergeLower}
 use Rattle.forest.specs.Paths.{end, Joined}
-use Rattle.forest.specs.Labels.{merge}
-
--- of the labels of a and b the lower stays: the vertices with the higher one take it
-abbrev pub mergeLower : (ℕ → ℕ) → ℕ → ℕ → ℕ → ℕ
-mergeLower f a b v = cond (ltb (f a) (f b)) (merge f b a v) (merge f a b v)
 
 -- the lowest vertex that the first i edges join with v
 unfoldable pub lowest : List ℕ → List ℕ → ℕ → ℕ → ℕ

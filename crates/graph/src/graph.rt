@@ -16,8 +16,8 @@ ghost use Rattle.kept_edges.specs.Keep.{KeptEdges};
 ghost use Rattle.graph.specs.Graphs.{componentNames, measureOf, ComponentMarks};
 ghost use Rattle.graph.specs.Reached.{Distanced};
 use distance::Reach;
+use graph_build::build;
 use graph_checks::is_outside;
-use kept_edges::build::build;
 use kept_edges::window_of;
 use limits::EDGES;
 use refusals::Answer;
@@ -87,7 +87,7 @@ pub fn n_components(n: usize, a: &[usize], b: &[usize], m: &[f64], marks: &mut [
         return Answer::Refused(refusal);
     }
     let edges = g.edges;
-    let marked = forest::mark_components(n, &early[..edges], &late[..edges]);
+    let marked = components::mark_components(n, &early[..edges], &late[..edges]);
     let words = marked.marks;
     *marks = words;
     Answer::Number(marked.count)
@@ -141,7 +141,7 @@ pub fn components(n: usize, a: &[usize], b: &[usize], m: &[f64], out: &mut [usiz
         return 12;
     }
     let edges = g.edges;
-    forest::name_components(n, &early[..edges], &late[..edges], out);
+    components::name_components(n, &early[..edges], &late[..edges], out);
     0
 }
 

@@ -8,7 +8,7 @@ ghost use Rattle.refusals.specs.Edges.{kept};
 ghost use Rattle.refusals.specs.Request.{graphRequest};
 ghost use Rattle.refusals.specs.Refusal.{refusal, ofGraphWithBuffers};
 ghost use Rattle.graph_edges.specs.Graphs.{tooShort, WrittenKept, Set, rotate, Turned};
-use kept_edges::build::build;
+use graph_build::build;
 use kept_edges::keep::keep;
 use kept_edges::keep::keep_places;
 use kept_edges::window_of;

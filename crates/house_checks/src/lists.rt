@@ -5,7 +5,7 @@ ghost use Rattle.limits.specs.Limits.{mostVertices, mostEdges, mostWindow};
 ghost use Rattle.transfer_matrix.specs.Room.{arranged};
 ghost use Rattle.refusals.specs.Request.{house};
 ghost use Rattle.refusals.specs.AcceptedJob.{listsRefusal};
-ghost use Rattle.plan_layout.specs.Places.{Pairs};
+ghost use Rattle.pair_places.specs.Places.{Pairs};
 use crate::couplings::bad_couplings;
 use buffer_checks::check_buffers;
 

@@ -7,7 +7,7 @@ ghost use Rattle.transfer_matrix.specs.Room.{arranged};
 ghost use Rattle.refusals.specs.Couplings.{allCouplings};
 ghost use Rattle.refusals.specs.Request.{house};
 ghost use Rattle.refusals.specs.AcceptedTotals.{misfits, enumerationLists, samplingLists};
-ghost use Rattle.plan_layout.specs.Places.{Pairs};
+ghost use Rattle.pair_places.specs.Places.{Pairs};
 use crate::couplings::bad_products;
 use buffer_checks::check_buffers;
 use buffer_checks::misfit;

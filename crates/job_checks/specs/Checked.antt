@@ -20,7 +20,7 @@ use Rattle.refusals.specs.Accepted.{AcceptedBetas}
 use Rattle.refusals.specs.AcceptedJob.{AcceptedJob}
 use Rattle.kept_edges.specs.Keep.{Written}
 use Rattle.plan_steps.specs.Edges.{Edges}
-use Rattle.plan_layout.specs.Places.{Pairs}
+use Rattle.pair_places.specs.Places.{Pairs}
 
 -- of the checks 6, 22, 7 and 8 the first that fits a caller's job, at window w
 abbrev pub keptRefusal : Caller → (n w : ℕ) → (early late us vs : List ℕ) → ℕ

@@ -10,8 +10,8 @@ use crate::planned::lay_factors;
 use crate::planned::run;
 use limits::PAIRS;
 use limits::PLAN;
+use pair_order::order_pairs;
 use plan_layout::make_plan;
-use plan_layout::order_pairs;
 
 // The answers of the pairs, with the room at +0.0 after: plans the job, orders its pairs, lays the factors into the room and runs. Returns
 // whether every pair's Z is finite and above zero; where one is not, all results are +0.0.

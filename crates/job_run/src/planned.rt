@@ -8,7 +8,7 @@ ghost use Rattle.list_laws.specs.Part.{put};
 ghost use Rattle.transfer_matrix.specs.Job.{Job};
 ghost use Rattle.transfer_matrix.specs.Rounded.{ieee};
 ghost use Rattle.transfer_matrix.specs.Sweep as S;
-ghost use Rattle.plan_layout.specs.Order.{InOrder};
+ghost use Rattle.pair_order.specs.Order.{InOrder};
 ghost use Rattle.vertex_step.specs.Ready.{Ready, PlanOf};
 ghost use Rattle.pair_correlations.specs.Served.{Served};
 ghost use Rattle.pair_correlations.specs.Sound.{unsound};

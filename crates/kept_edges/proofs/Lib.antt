@@ -1,3 +1,2 @@
 mod Keeping
 mod Placing
-mod Building

@@ -1,5 +1,4 @@
 // Which edges of a graph are kept, and its window.
-pub mod build;
 pub mod keep;
 mod reach;
 

@@ -1,5 +1,5 @@
 -- The limits of a job, as definitions and contracts name them.
-use Prim.Native.Nat.{ℕ, _+_, _*_}
+use Prim.Native.Nat.{ℕ, _+_, _*_, _^_}
 use Rattle.limits.specs.declared.Limits.{Limits}
 use Rattle.limits.specs.declared.TesterLimits.{TesterLimits}
 
@@ -43,6 +43,17 @@ testerFree = 16
 abbrev pub mostSamples : ℕ
 mostSamples = 4294967296
 
+-- The most samples of a chunk that a run record can name, in four bytes.
+abbrev pub mostNamed : ℕ
+mostNamed = 4294967295
+
+-- The most lists of stored correlations that are shared out at once, and the most entries of each.
+abbrev pub mostLists : ℕ
+mostLists = 256
+
+abbrev pub mostEntries : ℕ
+mostEntries = 2 ^ 24
+
 -- The code's constants.
 abbrev pub stated : Limits
 stated = record {
@@ -55,8 +66,11 @@ stated = record {
   stored = mostStored;
   testers = record { window = testerWindow; free = testerFree };
   samples = mostSamples;
+  named = mostNamed;
   plan = 12 * mostVertices;
   sums = mostBetas * mostPairs;
   couplings = mostBetas * mostEdges;
   copied = mostPairs + 1;
+  lists = mostLists;
+  entries = mostEntries;
 }

@@ -29,6 +29,9 @@ pub const TESTER_FREE: usize = 16;
 // The most samples of all chunks: 2^32.
 pub const SAMPLES: usize = 4294967296;
 
+// The most samples of a chunk that a run record can name, in four bytes: 2^32 - 1.
+pub const NAMED: usize = 4294967295;
+
 // The numbers of a plan: twelve for each vertex.
 pub const PLAN: usize = 12 * VERTICES;
 
@@ -40,6 +43,11 @@ pub const COUPLINGS: usize = BETAS * EDGES;
 
 // As many pairs as a call copies: one more than a job may have.
 pub const COPIED: usize = PAIRS + 1;
+
+// The most lists of stored correlations that are shared out at once, and the most entries of each: 2^24.
+pub const LISTS: usize = 256;
+
+pub const ENTRIES: usize = 16777216;
 
 // Those of the tester.
 pub struct TesterLimits {
@@ -58,10 +66,13 @@ pub struct Limits {
     pub stored: usize,
     pub testers: TesterLimits,
     pub samples: usize,
+    pub named: usize,
     pub plan: usize,
     pub sums: usize,
     pub couplings: usize,
     pub copied: usize,
+    pub lists: usize,
+    pub entries: usize,
 }
 
 // Returns the constants, which are the numbers of the definitions.
@@ -81,10 +92,13 @@ pub fn all() -> Limits
             free: TESTER_FREE,
         },
         samples: SAMPLES,
+        named: NAMED,
         plan: PLAN,
         sums: SUMS,
         couplings: COUPLINGS,
         copied: COPIED,
+        lists: LISTS,
+        entries: ENTRIES,
     }
 }
 

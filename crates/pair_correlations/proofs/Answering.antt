@@ -17,7 +17,7 @@ use Rattle.transfer_matrix.specs.Job.{Job}
 use Rattle.transfer_matrix.specs.Room.{earlier, later}
 use Rattle.transfer_matrix.specs.Rounded.{ieee}
 use Rattle.transfer_matrix.specs.Sweep as S
-use Rattle.plan_layout.specs.Order.{Ordered}
+use Rattle.pair_order.specs.Order.{Ordered}
 use Rattle.pair_sums.specs.declared.sums.Source.{Source}
 use Rattle.pair_sums.specs.declared.sums.Sums.{Sums}
 use Rattle.pair_sums.specs.Pair.{SumsOf}

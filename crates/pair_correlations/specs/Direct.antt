@@ -9,7 +9,7 @@ use lib.Ieee.{Float}
 use Rattle.transfer_matrix.specs.Job.{Job}
 use Rattle.transfer_matrix.specs.Room.{earlier, later}
 use Rattle.step_tables.specs.Place.{Place}
-use Rattle.plan_layout.specs.Order.{Ordered}
+use Rattle.pair_order.specs.Order.{Ordered}
 use Rattle.pair_correlations.specs.declared.direct.VertexPlaces.{VertexPlaces}
 use Rattle.pair_correlations.specs.Sound.{unsound}
 use Rattle.pair_correlations.specs.Aim.{VertexHalves}

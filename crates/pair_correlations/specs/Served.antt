@@ -6,7 +6,7 @@ use Prim.Native.Nat.{ℕ, _<_}
 use lib.ListN.{length, getD}
 use Rattle.transfer_matrix.specs.Room.{earlier, later, isPropagated}
 use Rattle.plan_steps.specs.Layout.{forwardPlace, backwardPlace}
-use Rattle.plan_layout.specs.Places.{Pairs}
+use Rattle.pair_places.specs.Places.{Pairs}
 
 -- Pairs of two vertices each, whose later vertex has a forward place and a backward one; the earlier one of a propagated pair has a forward
 -- place. With less room only the later vertices of propagated pairs have a backward place.

@@ -6,8 +6,8 @@ ghost use Rattle.transfer_matrix.specs.Room.{earlier};
 ghost use Rattle.pair_correlations.specs.Aim.{DirectSource};
 ghost use Rattle.pair_correlations.specs.Direct.{DirectAsked, AnsweredAt};
 use crate::write::write_two;
+use pair_places::earlier;
 use pair_sums::Source;
-use plan_layout::earlier;
 
 // A vertex, and the places of its forward and its backward vector.
 pub struct VertexPlaces {

@@ -1,8 +1,6 @@
 -- The definitions that the contracts cite.
 pub mod Arrangements
-pub mod Places
 pub mod Work
-pub mod Order
 pub mod Plannable
 -- and the laws of these definitions, which no reader needs to believe.
 pub mod Laws

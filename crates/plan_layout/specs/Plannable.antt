@@ -8,7 +8,7 @@ use Rattle.transfer_matrix.specs.Job.{tooManyNear}
 use Rattle.transfer_matrix.specs.Configuration.{numbered}
 use Rattle.transfer_matrix.specs.Room.{Arrangement, room}
 use Rattle.plan_steps.specs.Edges.{Edges}
-use Rattle.plan_layout.specs.Places.{Pairs}
+use Rattle.pair_places.specs.Places.{Pairs}
 
 -- n vertices, window w, the kept edges, the pairs, and work memory for the room
 pub record Plannable (arrangement : Arrangement) (n w : ℕ) (early late us vs : List ℕ) (work : ℕ) : Type 0 where

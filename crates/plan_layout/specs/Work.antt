@@ -5,7 +5,7 @@ use Prim.Native.Nat.{ℕ, _+_, _*_, _^_}
 use lib.ListN.{length}
 use Rattle.transfer_matrix.specs.Room.{Arrangement, room}
 use Rattle.plan_steps.specs.Edges.{Steps}
-use Rattle.plan_layout.specs.Places.{placesOf, Places}
+use Rattle.pair_places.specs.Places.{placesOf, Places}
 
 -- where the scales and the factors begin, and where all ends: n vertices, window w, m edges
 pub record Laid (n w m places scales factors end : ℕ) : Type 0 where

@@ -1,18 +1,8 @@
-// The places of the vectors that a call keeps for its pairs, the layout of the work memory, and the order of the pairs.
-mod kept;
+// The layout of the work memory, by how a call is arranged; a whole plan.
 mod less;
-mod order;
-mod pairs;
 mod work;
 
-pub use kept::count_places;
-pub use kept::plan_places;
 pub use less::takes_less;
-pub use order::order_pairs;
-pub use pairs::earlier;
-pub use pairs::is_propagated;
-pub use pairs::later;
-pub use pairs::waits;
 pub use work::Work;
 pub use work::make_plan;
 pub use work::room_needed;

@@ -9,10 +9,10 @@ ghost use Rattle.transfer_matrix.specs.Configuration.{numbered};
 ghost use Rattle.transfer_matrix.specs.Room.{arranged, room as roomOf};
 ghost use Rattle.plan_steps.specs.Layout.{Holds};
 ghost use Rattle.plan_steps.specs.Edges.{Edges};
-ghost use Rattle.plan_layout.specs.Places.{Pairs};
+ghost use Rattle.pair_places.specs.Places.{Pairs};
 ghost use Rattle.plan_layout.specs.Work.{Laid, Planned};
-use crate::kept::count_places;
-use crate::kept::plan_places;
+use pair_places::count_places;
+use pair_places::plan_places;
 use plan_steps::plan_edges;
 use step_tables::pow2;
 

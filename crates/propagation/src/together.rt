@@ -1,10 +1,10 @@
 // Which pairs are answered together. The order has the direct pairs first; a propagated pair is answered with a direct one beside it, and the
 // direct pairs that are left two by two.
 ghost use Prim.Native.Nat.{_+_, _≤_, _<_};
-ghost use Rattle.plan_layout.specs.Order.{InOrder};
-ghost use Rattle.plan_layout.specs.Places.{Pairs};
+ghost use Rattle.pair_order.specs.Order.{InOrder};
+ghost use Rattle.pair_places.specs.Places.{Pairs};
 ghost use Rattle.propagation.specs.Pairing.{NextPairing, Directs};
-use plan_layout::is_propagated;
+use pair_places::is_propagated;
 
 // Two numbers of the order that are answered in one pass, the second being the first again where that is alone; and how far the direct pairs
 // and the others are answered after them.

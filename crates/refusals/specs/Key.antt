@@ -4,10 +4,12 @@ use mathlib.Core.List.{List, [], _∷_}
 use Prim.Native.Nat.{ℕ}
 use lib.Dec.{eqb}
 
--- The checks of a sheet and of a job, in checking order, then those of a strip.
+-- The checks of a sheet, of run records and of a job, in checking order, then those of a strip.
 pub data Key : Type 0 where
   sheetRecords : Key
   sheetTail : Key
+  runRecords : Key
+  recordsApart : Key
   vertexCount : Key
   listLengths : Key
   edgePlace : Key
@@ -25,6 +27,7 @@ pub data Key : Type 0 where
   factors : Key
   couplings : Key
   samples : Key
+  recordRange : Key
   buffers : Key
   workMemory : Key
   partitionSums : Key
@@ -59,6 +62,9 @@ rank couplings = 21
 rank sheetRecords = 22
 rank sheetTail = 23
 rank edgePlace = 24
+rank runRecords = 25
+rank recordsApart = 26
+rank recordRange = 27
 
 -- Returns whether two keys are the same.
 abbrev pub same : Key → Key → Bool

@@ -5,6 +5,7 @@ use Prim.Native.Nat.{ℕ}
 use Rattle.limits.specs.Limits.{mostWindow, testerWindow, testerFree}
 use Rattle.refusals.specs.Key.{Key, same, among}
 use Rattle.refusals.specs.Request.{Request, Source, lent, house, badRecords, badTail, badVertices, badLists, noEdge, badEdges, badSizes, unorderedBetas, parallelEdges}
+use Rattle.refusals.specs.Request.{badRunRecord, separateRecords, badRange}
 use Rattle.refusals.specs.Request.{wideWindow, testersOnly, manyNear, badPairs, outsidePairs, manyFree, badFactors, badCouplings, manySamples, shortWork}
 
 -- A check of the requests of one kind: its name, the number that it answers, and its test.
@@ -20,6 +21,8 @@ abbrev pub checks : List (Check Request)
 checks =
     check Key.sheetRecords 19 badRecords
     ∷ check Key.sheetTail 20 badTail
+    ∷ check Key.runRecords 26 badRunRecord
+    ∷ check Key.recordsApart 27 separateRecords
     ∷ check Key.vertexCount 1 badVertices
     ∷ check Key.listLengths 2 badLists
     ∷ check Key.edgePlace 24 noEdge
@@ -37,6 +40,7 @@ checks =
     ∷ check Key.factors 10 badFactors
     ∷ check Key.couplings 23 badCouplings
     ∷ check Key.samples 11 manySamples
+    ∷ check Key.recordRange 26 badRange
     ∷ check Key.buffers 12 (λ r. r .misfit)
     ∷ check Key.workMemory 13 shortWork
     ∷ check Key.partitionSums 14 (λ r. r .unsound)
@@ -88,6 +92,14 @@ ofPreview = Key.edgePlace ∷ ofRoom
 abbrev pub ofSheet : List Key
 ofSheet = Key.sheetRecords ∷ Key.sheetTail ∷ Key.buffers ∷ []
 
+-- Those of two run records that are joined.
+abbrev pub ofJoin : List Key
+ofJoin = Key.runRecords ∷ Key.recordsApart ∷ Key.samples ∷ Key.buffers ∷ []
+
+-- Those of the totals of a run record.
+abbrev pub ofRecordTotals : List Key
+ofRecordTotals = Key.runRecords ∷ Key.buffers ∷ []
+
 -- The first of every call that sweeps, which may be the tester's.
 abbrev pub ofJob : List Key
 ofJob = ofRoom ++ (Key.testerWindow ∷ [])
@@ -104,6 +116,10 @@ ofEnumerationLists = Key.freeEdges ∷ Key.testerFree ∷ ofLists
 abbrev pub ofSamplingLists : List Key
 ofSamplingLists = Key.samples ∷ ofLists
 
+-- The same of a sampling that is written as a run record.
+abbrev pub ofRecordingLists : List Key
+ofRecordingLists = Key.samples ∷ Key.recordRange ∷ ofLists
+
 -- Behind all others: what the sweeps found.
 abbrev pub ofSweeps : List Key
 ofSweeps = Key.partitionSums ∷ []
@@ -119,6 +135,10 @@ ofEnumeration = ofJob ++ (ofEnumerationLists ++ ofSweeps)
 -- Those of `sample`.
 abbrev pub ofSampling : List Key
 ofSampling = ofJob ++ (ofSamplingLists ++ ofSweeps)
+
+-- Those of `sample_record`, which is never the tester's.
+abbrev pub ofRecording : List Key
+ofRecording = ofRoom ++ (ofRecordingLists ++ ofSweeps)
 
 -- The same of a house call: its couplings are asked of in the place of factors,
 abbrev pub housed : List Key → List Key

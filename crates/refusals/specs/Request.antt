@@ -9,7 +9,7 @@ use Rattle.coupling_grid.specs.Grid.{someOffGrid}
 use Rattle.limits.specs.declared.Caller.{Caller}
 use Rattle.limits.specs.declared.Caller.the-variants.{Desk}
 use Rattle.limits.specs.Callers.{isTester}
-use Rattle.limits.specs.Limits.{mostVertices, mostEdges, mostPairs, mostBetas, mostSamples}
+use Rattle.limits.specs.Limits.{mostVertices, mostEdges, mostPairs, mostBetas, mostSamples, mostNamed}
 pub use Rattle.limits.specs.Limits.{mostCounted, mostStored}
 use Rattle.list_laws.specs.Search.{some}
 use Rattle.transfer_matrix.specs.Job.{tooManyNear}
@@ -46,9 +46,18 @@ pub record Sheet : Type 0 where
 abbrev pub noSheet : Sheet
 noSheet = record { broken = false; tail = false }
 
+-- What is wrong with the run records that a call reads: one is not as the format describes; two that are to be joined do not join.
+pub record RunRecords : Type 0 where
+  pub broken : Bool
+  pub apart : Bool
+
+abbrev pub noRecords : RunRecords
+noRecords = record { broken = false; apart = false }
+
 -- A part that a call does not have is empty.
 pub record Request : Type 0 where
   pub sheet : Sheet
+  pub runs : RunRecords
   -- whose call it is; the desk's where no check asks
   pub caller : Caller
   pub vertices : ℕ
@@ -77,10 +86,11 @@ pub record Request : Type 0 where
   pub unsound : Bool
 
 -- Every request is this one with parts that are empty.
-abbrev pub wholeRequest : Sheet → (place : ℕ) → Caller → Room.Arrangement → (n floor : ℕ) → (a b : List ℕ) → List Float → (us vs : List ℕ) → List Float
+abbrev pub wholeRequest : Sheet → RunRecords → (place : ℕ) → Caller → Room.Arrangement → (n floor : ℕ) → (a b : List ℕ) → List Float → (us vs : List ℕ) → List Float
     → Configurations → List Float → (count : ℕ) → (misfit : Bool) → (work : ℕ) → Bool → Request
-wholeRequest sheet place caller arrangement n floor a b m us vs betas configurations factors count misfit work unsound = record {
+wholeRequest sheet runs place caller arrangement n floor a b m us vs betas configurations factors count misfit work unsound = record {
   sheet = sheet;
+  runs = runs;
   caller = caller;
   vertices = n;
   ones = a;
@@ -103,15 +113,19 @@ wholeRequest sheet place caller arrangement n floor a b m us vs betas configurat
 -- The request of a call that sweeps: whose it is and, besides a job, which configurations it sweeps, so many factors, result buffers, and work memory.
 abbrev pub sweepRequest : Caller → Room.Arrangement → (n floor : ℕ) → (a b : List ℕ) → List Float → (us vs : List ℕ) → List Float → Configurations
     → List Float → (count : ℕ) → (misfit : Bool) → (work : ℕ) → Bool → Request
-sweepRequest = wholeRequest noSheet 0
+sweepRequest = wholeRequest noSheet noRecords 0
 
 -- The request of a preview: a job, and a place in its raw list.
 abbrev pub previewRequest : (place n floor : ℕ) → (a b : List ℕ) → List Float → (us vs : List ℕ) → List Float → Request
-previewRequest place n floor a b m us vs betas = wholeRequest noSheet place Desk Room.keepAll n floor a b m us vs betas single [] 0 false 0 false
+previewRequest place n floor a b m us vs betas = wholeRequest noSheet noRecords place Desk Room.keepAll n floor a b m us vs betas single [] 0 false 0 false
 
 -- The request of a call that reads a job from a sheet into lists.
 abbrev pub sheetRequest : Sheet → (misfit : Bool) → Request
-sheetRequest sheet misfit = wholeRequest sheet 0 Desk Room.keepAll 0 0 [] [] [] [] [] [] single [] 0 misfit 0 false
+sheetRequest sheet misfit = wholeRequest sheet noRecords 0 Desk Room.keepAll 0 0 [] [] [] [] [] [] single [] 0 misfit 0 false
+
+-- The request of a call that reads run records: what they hold together are these chunks.
+abbrev pub recordRequest : RunRecords → (start end samples : ℕ) → (misfit : Bool) → Request
+recordRequest runs start end samples misfit = wholeRequest noSheet runs 0 Desk Room.keepAll 0 0 [] [] [] [] [] [] (sampled 0 start end samples) [] 0 misfit 0 false
 
 -- The request of a call that sweeps nothing: a job, and result buffers.
 abbrev pub plainRequest : (n floor : ℕ) → (a b : List ℕ) → List Float → (us vs : List ℕ) → List Float → (misfit : Bool) → Request
@@ -183,6 +197,14 @@ badRecords r = r .sheet .broken
 -- 20. Bytes stand behind the sheet's end.
 abbrev pub badTail : Request → Bool
 badTail r = r .sheet .tail
+
+-- 26. A run record is not exactly as its format describes.
+abbrev pub badRunRecord : Request → Bool
+badRunRecord r = r .runs .broken
+
+-- 27. Two run records do not join.
+abbrev pub separateRecords : Request → Bool
+separateRecords r = r .runs .apart
 
 -- 1. The vertex count is 0 or above 1,024.
 abbrev pub badVertices : Request → Bool
@@ -312,6 +334,13 @@ tooManyChunks start end samples = ltb start end && ltb mostSamples ((end - start
 
 abbrev pub manySamples : Request → Bool
 manySamples r = tooManyChunks (r .configurations .start) (r .configurations .end) (r .configurations .samples)
+
+-- 26 of a run that is written: its end is below its start, or it has more samples per chunk than a record can name.
+abbrev pub unwritable : (start end samples : ℕ) → Bool
+unwritable start end samples = ltb end start || ltb mostNamed samples
+
+abbrev pub badRange : Request → Bool
+badRange r = unwritable (r .configurations .start) (r .configurations .end) (r .configurations .samples)
 
 -- 13. Work memory is shorter than the room of the arrangement asked for.
 abbrev pub shortWork : Request → Bool

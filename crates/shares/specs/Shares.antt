@@ -5,6 +5,8 @@ use Prim.Native.Nat.{ℕ, zero, suc, _+_, _^_}
 use lib.Dec.{eqb, ltb}
 use lib.Ieee.{Float, nan, binary64, ofBits, neg, lt, le, eq}
 use lib.ListN.{length, getD}
+-- the most lists, and the most entries of one
+pub use Rattle.limits.specs.Limits.{mostLists, mostEntries}
 use Rattle.list_laws.specs.Count.{count}
 use Rattle.list_laws.specs.Search.{some}
 use Rattle.euclid.specs.Euclid.{reduced}
@@ -49,13 +51,6 @@ abbrev pub at : List Float → ℕ → Float
 at stored i = getD stored i nan
 
 -- ---- the lists
-
--- the most lists, and the most entries of one
-abbrev pub mostLists : ℕ
-mostLists = 256
-
-abbrev pub mostEntries : ℕ
-mostEntries = 2 ^ 24
 
 -- a list is empty or too long
 abbrev pub badLength : ℕ → Bool

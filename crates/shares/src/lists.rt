@@ -1,10 +1,8 @@
 // How many lists there may be, and how long.
 ghost use mathlib.Core.Path.{_≡_};
 ghost use Rattle.shares.specs.Shares.{badLength, badLists};
-
-const LISTS: usize = 256;
-
-const ENTRIES: usize = 0x0100_0000;
+use limits::ENTRIES;
+use limits::LISTS;
 
 fn bad_length(entries: usize) -> bool
     ensures { λ r. ⌜ r ≡ badLength entries ⌝ }

@@ -54,10 +54,12 @@ one-sized : oversized one ≡ false
 unfolding le neg ofBits
 one-sized = refl
 
--- Keys of checks that a job meets: none of a sheet's, nor that of a previewed place.
+-- Keys of checks that a job meets: none of a sheet's or of run records', nor that of a previewed place.
 pub record OfJob (more : List Key) : Type 0 where
   pub no-records : among more Key.sheetRecords ≡ false
   pub no-tail : among more Key.sheetTail ≡ false
+  pub no-runs : among more Key.runRecords ≡ false
+  pub no-joining : among more Key.recordsApart ≡ false
   pub no-place : among more Key.edgePlace ≡ false
 
 -- What a call asks of a whole strip: its vertices and edges, pairs and betas that 2, 4 and 21 pass.
@@ -180,11 +182,11 @@ module _ {s : Strip} {r : Request} (S : Sides (s .w) (s .l)) (o : oddCylinder s 
       swapped : (x y z : ℕ) → max x (max y z) ≡ max y (max x z)
       swapped x y z = omega arith
 
-  -- A call that asks the checks 1 to 6, and neither of a sheet nor of a place, is refused by 6, where the strip is too wide.
+  -- A call that asks the checks 1 to 6, and neither of a sheet nor of run records nor of a place, is refused by 6, where the strip is too wide.
   pub too-wide : (more : List Key) → OfJob more → mostWindow < windowOf s → 6 ≡ refusal (ofRoom ++ more) r
   too-wide more j h =
       let wide : wideWindow mostWindow r ≡ true = rw whole-window (lt-ltb mostWindow (max (r .floor) (windowOf s)) (le-trans h (le-max-right (r .floor) (windowOf s)))) in
-      rw (j .no-records, j .no-tail, j .no-place)
+      rw (j .no-records, j .no-tail, j .no-runs, j .no-joining, j .no-place)
       (past _ _ _ _ vertices-pass
       (past _ _ _ _ lists-pass (past _ _ _ _ edges-pass (past _ _ _ _ sizes-pass (past _ _ _ _ (W .rising-betas) (past _ _ _ _ apart-pass (here _ _ _ wide)))))))
 

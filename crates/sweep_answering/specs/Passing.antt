@@ -8,7 +8,7 @@ use lib.Ieee.{Float}
 use Rattle.transfer_matrix.specs.Job.{Job}
 use Rattle.transfer_matrix.specs.Room.{earlier, later}
 use Rattle.plan_steps.specs.Layout.{forwardPlace}
-use Rattle.plan_layout.specs.Order.{Ordered}
+use Rattle.pair_order.specs.Order.{Ordered}
 use Rattle.pair_correlations.specs.Sound.{unsound}
 use Rattle.pair_correlations.specs.Two.{Answered}
 

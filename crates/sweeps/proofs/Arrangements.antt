@@ -9,8 +9,8 @@ use lib.Ieee.{Float}
 use borrow.Author.Tests.{lt-ltb, le-ltb}
 use Rattle.transfer_matrix.specs.Job.{Job}
 use Rattle.transfer_matrix.specs.Room.{earlier, later, isPropagated}
-use Rattle.plan_layout.specs.Order.{InOrder}
-use Rattle.plan_layout.specs.Laws.Places.{later-inside}
+use Rattle.pair_order.specs.Order.{InOrder}
+use Rattle.pair_places.specs.Laws.Places.{later-inside}
 use Rattle.vertex_step.specs.Ready.{Ready, PlanOf, Forward, Backward, BothSwept, Still}
 use Rattle.vertex_step.specs.Laws.Ready.{still-swept, tail-factors}
 use Rattle.plan_steps.specs.Layout.{forwardPlace, backwardPlace}

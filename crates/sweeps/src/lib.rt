@@ -7,7 +7,7 @@ ghost use Prim.Native.Nat.{_+_, _≤_};
 ghost use lib.ListN.{length, drop};
 ghost use lib.Ieee.{Float};
 ghost use Rattle.transfer_matrix.specs.Job.{Job};
-ghost use Rattle.plan_layout.specs.Order.{InOrder};
+ghost use Rattle.pair_order.specs.Order.{InOrder};
 ghost use Rattle.vertex_step.specs.Ready.{Ready, PlanOf, Backward};
 ghost use Rattle.sweep_places.specs.Begun.{Stands};
 ghost use Rattle.sweep_places.specs.Kept.{SameFrom};

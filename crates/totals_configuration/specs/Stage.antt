@@ -4,7 +4,7 @@ use mathlib.Core.List.{List}
 use Prim.Native.Nat.{ℕ, _+_, _*_, _≤_}
 use lib.ListN.{length}
 use Rattle.limits.specs.Limits.{mostBetas, mostEdges}
-use Rattle.plan_layout.specs.Order.{InOrder}
+use Rattle.pair_order.specs.Order.{InOrder}
 use Rattle.vertex_step.specs.Ready.{Ready}
 use Rattle.pair_correlations.specs.Served.{Served}
 use Rattle.totals_configuration.specs.declared.JobShape.{JobShape}

@@ -13,7 +13,7 @@ abbrev pub inArrangement : Room.Arrangement → Request → Request
 inArrangement arrangement r = calledBy (r .caller) arrangement r
 
 checks-alike : (A B : Room.Arrangement) (r : Request) → AllAlike 13 (inArrangement A r) (inArrangement B r) checks
-checks-alike A B r = (inr refl, (inr refl, (inr refl, (inr refl, (inr refl, (inr refl, (inr refl, (inr refl, (inr refl, (inr refl, (inr refl, (inr refl, (inr refl, (inr refl, (inr refl, (inr refl, (inr refl, (inr refl, (inr refl, (inr refl, (inl refl, (inr refl, tt))))))))))))))))))))))
+checks-alike A B r = (inr refl, (inr refl, (inr refl, (inr refl, (inr refl, (inr refl, (inr refl, (inr refl, (inr refl, (inr refl, (inr refl, (inr refl, (inr refl, (inr refl, (inr refl, (inr refl, (inr refl, (inr refl, (inr refl, (inr refl, (inr refl, (inr refl, (inr refl, (inl refl, (inr refl, tt)))))))))))))))))))))))))
 
 pub arrangements-alike : (concerned : List Key) (A B : Room.Arrangement) (r : Request) → (refusal concerned (inArrangement A r) ≡ 13 → ⊥)
     → (refusal concerned (inArrangement B r) ≡ 13 → ⊥) → refusal concerned (inArrangement A r) ≡ refusal concerned (inArrangement B r)

@@ -11,8 +11,8 @@ use borrow.Author.Tests.{eqb-true, eqb-false}
 use Rattle.refusals.specs.Answers.{left}
 use Rattle.refusals.specs.Laws.Answers.{left-alone}
 use Rattle.refusals.specs.declared.Answer.{Answer}
-use Rattle.c_values.specs.Numbers.{Tells}
-use Rattle.c_values.specs.Laws.Numbers.{told}
+use Rattle.c_answers.specs.Numbers.{Tells}
+use Rattle.c_answers.specs.Laws.Numbers.{told}
 use Rattle.list_laws.specs.Front.{over}
 use Rattle.little_endian.specs.Words.{wordAt}
 use Rattle.job_sheet.specs.Sheets.{sheetLength}

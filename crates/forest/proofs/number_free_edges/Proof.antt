@@ -10,9 +10,9 @@ use Rattle.edge_bits.specs.Having.{tree}
 use Rattle.forest.specs.Lowest.{lowest}
 use Rattle.forest.specs.FreeEdges.{freeBefore, freeCount, bitOf, bitsOf}
 use Rattle.forest.specs.Laws.FreeEdges.{before-none, before-more, before-most}
-use Rattle.forest.specs.Forest.{Labelled}
-use Rattle.forest.proofs.Growth.{lowest-begun, union-takes, lower-tree, lower-labels}
-use Rattle.forest.proofs.Filled.{Filled, filled-none, filled-more, filled-all}
+use Rattle.union_find.specs.Forest.{Labelled}
+use Rattle.forest.specs.Laws.Growth.{lowest-begun, union-takes, lower-tree, lower-labels}
+use Rattle.union_find.specs.Laws.Filled.{Filled, filled-none, filled-more, filled-all}
 use Rattle.forest.proofs.Numbers.{next-bit, next-count, all-bits, all-counted}
 use Rattle.forest.proofs.number_free_edges.Statement.{statement}
 use Rattle.forest.proofs.number_free_edges.Tie as tie

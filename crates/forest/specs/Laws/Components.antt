@@ -13,8 +13,10 @@ use borrow.Author.Tests.{eq-eqb, ne-eqb, eqb-true}
 use Rattle.list_laws.specs.Count.{count}
 use Rattle.list_laws.specs.Laws.Count.{count-zero, count-hit, count-miss, count-ext}
 use Rattle.forest.specs.Paths.{end, Edges, Joined}
-use Rattle.forest.specs.Labels.{merge, labels, isTree}
-use Rattle.forest.specs.Laws.Labels.{merge-in, merge-out, merge-same, label-own, label-below}
+use Rattle.union_find.specs.Merging.{merge}
+use Rattle.forest.specs.Labels.{labels, isTree}
+use Rattle.union_find.specs.Laws.Merging.{merge-in, merge-out, merge-same}
+use Rattle.forest.specs.Laws.Labels.{label-own, label-below}
 use Rattle.forest.specs.Laws.Labels.{joined-labels, labels-joined}
 use Rattle.forest.specs.Components.{stands, componentCount}
 

@@ -14,11 +14,14 @@ use borrow.Author.Tests.{eq-eqb, ne-eqb, eqb-true, eqb-false, lt-ltb, le-ltb}
 use Rattle.list_laws.specs.Count.{count}
 use Rattle.list_laws.specs.Laws.Count.{count-zero, count-hit, count-miss}
 use Rattle.forest.specs.Paths.{end, Edges, Joined}
-use Rattle.forest.specs.Labels.{merge, labels, isTree}
-use Rattle.forest.specs.Laws.Labels.{merge-in, merge-out, merge-own, merge-below, joined-labels, labels-joined}
+use Rattle.union_find.specs.Merging.{merge}
+use Rattle.forest.specs.Labels.{labels, isTree}
+use Rattle.union_find.specs.Laws.Merging.{merge-in, merge-out, merge-own, merge-below}
+use Rattle.forest.specs.Laws.Labels.{joined-labels, labels-joined}
 use Rattle.forest.specs.Components.{componentCount}
 use Rattle.forest.specs.Laws.Components.{ownCount, one-less, own-and-trees, trees-and-components}
-use Rattle.forest.specs.Lowest.{mergeLower, lowest}
+use Rattle.union_find.specs.Merging.{mergeLower}
+use Rattle.forest.specs.Lowest.{lowest}
 
 -- ---- one merge, whichever of the two labels stays
 

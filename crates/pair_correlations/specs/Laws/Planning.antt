@@ -11,8 +11,8 @@ use Rattle.transfer_matrix.specs.Job.{block, perElement}
 use Rattle.transfer_matrix.specs.Configuration.{jobOf}
 use Rattle.transfer_matrix.specs.Room.{Arrangement, arranged}
 use Rattle.plan_steps.specs.Layout.{Holds, forwardPlace, backwardPlace}
-use Rattle.plan_layout.specs.Places.{moving, placesOf, backwardFrom}
-use Rattle.plan_layout.specs.Laws.Places.{forward-inside, backward-inside, forward-apart, backward-apart, kinds-apart}
+use Rattle.pair_places.specs.Places.{moving, placesOf, backwardFrom}
+use Rattle.pair_places.specs.Laws.Places.{forward-inside, backward-inside, forward-apart, backward-apart, kinds-apart}
 use Rattle.plan_layout.specs.Work.{Laid, Planned}
 use Rattle.plan_layout.specs.Laws.Work.{place-fits}
 use Rattle.plan_layout.specs.Plannable.{Plannable}

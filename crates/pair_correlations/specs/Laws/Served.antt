@@ -5,8 +5,8 @@ use mathlib.Core.List.{List}
 use Prim.Native.Nat.{ℕ, _<_}
 use lib.ListN.{length, getD}
 use Rattle.transfer_matrix.specs.Room.{arranged, waits, isPropagated}
-use Rattle.plan_layout.specs.Places.{Pairs, Places}
-use Rattle.plan_layout.specs.Laws.Places.{later-forward, later-backward, earlier-forward}
+use Rattle.pair_places.specs.Places.{Pairs, Places}
+use Rattle.pair_places.specs.Laws.Places.{later-forward, later-backward, earlier-forward}
 use Rattle.pair_correlations.specs.Served.{Served}
 
 -- a pair for which a backward vector is kept in either arrangement waits in both

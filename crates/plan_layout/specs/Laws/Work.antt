@@ -5,7 +5,7 @@ use Prim.Native.Nat.{ℕ, _+_, _*_, _^_, _≤_, _<_}
 use native.Mathlib.Nat.{mul-comm, suc-mul, mul-le-mul-right}
 use native.Mathlib.Omega.{arith}
 use Rattle.transfer_matrix.specs.Room.{Arrangement, room}
-use Rattle.plan_layout.specs.Places.{placesOf}
+use Rattle.pair_places.specs.Places.{placesOf}
 use Rattle.plan_layout.specs.Work.{Laid}
 
 -- each place lies before the scales

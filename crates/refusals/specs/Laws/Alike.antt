@@ -14,7 +14,7 @@ use Rattle.refusals.specs.Refusal.{Check, first}
 -- the same call of another caller, arranged in another way
 abbrev pub calledBy : Caller → Room.Arrangement → Request → Request
 calledBy caller arrangement r =
-    wholeRequest (r .sheet) (r .place) caller arrangement (r .vertices) (r .floor) (r .ones) (r .others) (r .magnitudes) (r .firsts) (r .seconds) (r .betas)
+    wholeRequest (r .sheet) (r .runs) (r .place) caller arrangement (r .vertices) (r .floor) (r .ones) (r .others) (r .magnitudes) (r .firsts) (r .seconds) (r .betas)
     (r .configurations) (r .factors) (r .factorCount) (r .misfit) (r .work) (r .unsound)
 
 module _ (k : ℕ) (r s : Request) where

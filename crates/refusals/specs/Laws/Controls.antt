@@ -15,11 +15,11 @@ use Rattle.transfer_matrix.specs.Job.{windowOf, tooManyNear}
 use Rattle.transfer_matrix.specs.Configuration.{edgesWith}
 use Rattle.transfer_matrix.specs.Room.{Arrangement, keepAll, lessRoom, room}
 use Rattle.refusals.specs.Edges.{keptOf, dropping}
-use Rattle.refusals.specs.Request.{Request, graphRequest, distanceRequest, roomRequest, previewRequest, sheetRequest, correlationRequest}
+use Rattle.refusals.specs.Request.{Request, graphRequest, distanceRequest, roomRequest, previewRequest, sheetRequest, recordRequest, correlationRequest}
 use Rattle.refusals.specs.Request.{couplingRequest, enumerationRequest, samplingRequest, mostCounted, mostStored}
 use Rattle.refusals.specs.Request.{houseEnumerationRequest, houseSamplingRequest}
 use Rattle.refusals.specs.Refusal.{refusal, ofGraph, ofGraphWithBuffers, ofDistance, ofRoom, ofCorrelations}
-use Rattle.refusals.specs.Refusal.{ofPreview, ofSheet, ofCouplings, ofEnumeration, ofSampling, housed}
+use Rattle.refusals.specs.Refusal.{ofPreview, ofSheet, ofJoin, ofRecordTotals, ofCouplings, ofEnumeration, ofSampling, ofRecording, housed}
 
 abbrev one : Float
 one = fin false 1 (pos 0)
@@ -52,6 +52,15 @@ sheet broken tail = sheetRequest (record { broken = broken; tail = tail }) true
 pub first-19 : (refusal (ofSheet ++ ofGraph) (sheet true true) ≡ 19) × (refusal (ofSheet ++ ofGraph) (sheet false true) ≡ 20)
     × (refusal (ofSheet ++ ofGraph) (sheet false false) ≡ 1) × (refusal ofSheet (sheet false false) ≡ 12)
 first-19 = (refl, refl, refl, refl)
+
+-- a run record that is none, then two that do not join, then too many samples, then a buffer; totals ask of the record and of buffers alone
+abbrev joined : (broken apart : Bool) → (start end samples : ℕ) → Request
+joined broken apart start end samples = recordRequest (record { broken = broken; apart = apart }) start end samples true
+
+pub first-26 : (refusal ofJoin (joined true true 0 3 4294967295) ≡ 26) × (refusal ofJoin (joined false true 0 3 4294967295) ≡ 27)
+    × (refusal ofJoin (joined false false 0 3 4294967295) ≡ 11) × (refusal ofJoin (joined false false 0 1 4294967295) ≡ 12)
+    × (refusal ofRecordTotals (joined true true 0 3 4294967295) ≡ 26) × (refusal ofRecordTotals (joined false true 0 3 4294967295) ≡ 12)
+first-26 = (refl, refl, refl, refl, refl, refl)
 
 -- equal ends, and a magnitude that is not finite
 pub first-3 : refusal ofGraph (graphRequest 2 (0 ∷ []) (0 ∷ []) (inf false ∷ []) true) ≡ 3
@@ -241,6 +250,17 @@ pub no-chunk : (drawn 8 8 4294967297 (one ∷ one ∷ []) false 13 ≡ 0) × (dr
     × (drawn 0 18446744073709551615 0 (one ∷ one ∷ []) false 13 ≡ 0)
 unfolding some keptOf eq le lt neg ofBits windowOf tooManyNear edgesWith room
 no-chunk = (refl, refl, refl)
+
+-- a run that no record can hold: behind too many samples and before a buffer that does not fit; an end at the start passes; `sample` does not ask
+abbrev recorded : (start end samples : ℕ) → (misfit : Bool) → ℕ
+recorded start end samples misfit =
+    refusal ofRecording
+    (samplingRequest Desk keepAll 2 0 (0 ∷ []) (1 ∷ []) (one ∷ []) (0 ∷ []) (1 ∷ []) (one ∷ []) (one ∷ one ∷ []) 0 start end samples misfit 13 false)
+
+pub run-26 : (recorded 7 8 4294967297 true ≡ 11) × (recorded 7 8 4294967296 true ≡ 26) × (recorded 7 7 4294967296 true ≡ 26) × (recorded 7 6 1 true ≡ 26)
+    × (recorded 7 8 4294967295 true ≡ 12) × (recorded 7 7 4294967295 false ≡ 0)
+unfolding some keptOf eq le lt neg ofBits windowOf tooManyNear edgesWith room
+run-26 = (refl, refl, refl, refl, refl, refl)
 
 -- ---- the tester
 

@@ -12,7 +12,7 @@ use Rattle.refusals.specs.Laws.Later.{orElse, refusal-in-parts}
 -- the same call with these factors, of which there should be so many
 abbrev pub withFactors : List Float → ℕ → Request → Request
 withFactors factors count r =
-    wholeRequest (r .sheet) (r .place) (r .caller) (r .arrangement) (r .vertices) (r .floor) (r .ones) (r .others) (r .magnitudes) (r .firsts) (r .seconds)
+    wholeRequest (r .sheet) (r .runs) (r .place) (r .caller) (r .arrangement) (r .vertices) (r .floor) (r .ones) (r .others) (r .magnitudes) (r .firsts) (r .seconds)
     (r .betas) (r .configurations) factors count (r .misfit) (r .work) (r .unsound)
 
 -- Where 10 passes these factors if 23 passes the couplings: what 23 does not refuse is refused by the same check as the call that lends them, or by none.

@@ -36,8 +36,8 @@ never concerned s (c ∷ cs) a h = go (among concerned (c .key)) (c .fits s) (a 
 
 -- where 22 never refuses.
 pub desk-not-22 : (concerned : List Key) (r : Request) → refusal concerned (atDesk r) ≡ 22 → ⊥
-desk-not-22 concerned r h = never concerned (atDesk r) checks (inl refl, (inl refl, (inl refl, (inl refl, (inl refl, (inl refl, (inl refl, (inl refl, (inl refl, (inl refl, (inr refl, (inl refl, (inl refl, (inl refl, (inl refl, (inr refl, (inl refl, (inl refl, (inl refl, (inl refl, (inl refl, (inl refl, tt)))))))))))))))))))))) h
+desk-not-22 concerned r h = never concerned (atDesk r) checks (inl refl, (inl refl, (inl refl, (inl refl, (inl refl, (inl refl, (inl refl, (inl refl, (inl refl, (inl refl, (inl refl, (inl refl, (inr refl, (inl refl, (inl refl, (inl refl, (inl refl, (inr refl, (inl refl, (inl refl, (inl refl, (inl refl, (inl refl, (inl refl, (inl refl, tt))))))))))))))))))))))))) h
 
 -- A call that 22 does not refuse is answered as at the desk,
 pub as-at-desk : (concerned : List Key) (r : Request) → (refusal concerned r ≡ 22 → ⊥) → refusal concerned r ≡ refusal concerned (atDesk r)
-as-at-desk concerned r h = first-alike 22 r (atDesk r) concerned checks (inr refl, (inr refl, (inr refl, (inr refl, (inr refl, (inr refl, (inr refl, (inr refl, (inr refl, (inr refl, (inl refl, (inr refl, (inr refl, (inr refl, (inr refl, (inl refl, (inr refl, (inr refl, (inr refl, (inr refl, (inr refl, (inr refl, tt)))))))))))))))))))))) h (desk-not-22 concerned r)
+as-at-desk concerned r h = first-alike 22 r (atDesk r) concerned checks (inr refl, (inr refl, (inr refl, (inr refl, (inr refl, (inr refl, (inr refl, (inr refl, (inr refl, (inr refl, (inr refl, (inr refl, (inl refl, (inr refl, (inr refl, (inr refl, (inr refl, (inl refl, (inr refl, (inr refl, (inr refl, (inr refl, (inr refl, (inr refl, (inr refl, tt))))))))))))))))))))))))) h (desk-not-22 concerned r)

@@ -15,7 +15,7 @@ use Rattle.forest.specs.FreeEdges.{freeCount, bitsOf}
 use Rattle.transfer_matrix.specs.Room.{Arrangement, arranged, room}
 use Rattle.transfer_matrix.specs.Job.{Job}
 use Rattle.plan_steps.specs.Layout.{Holds}
-use Rattle.plan_layout.specs.Order.{InOrder}
+use Rattle.pair_order.specs.Order.{InOrder}
 use Rattle.plan_layout.specs.Work.{Planned}
 use Rattle.pair_correlations.specs.Laws.Planning.{ready, serves, end-fits}
 use Rattle.totals_configuration.specs.Powers.{correlationAt, unsoundBetas}

@@ -1,5 +1,5 @@
 -- What the answer that was told says, for the strip that the numbers name.
-use Rattle.c_values.specs.Laws.Numbers.{told}
+use Rattle.c_answers.specs.Laws.Numbers.{told}
 use borrow.Author.Needs.{needs}
 use Rattle.export_strips.proofs.strips.copperhook_strip_window.Statement.{statement}
 use Rattle.export_strips.proofs.strips.copperhook_strip_window.Tie as tie

@@ -4,7 +4,7 @@ use borrow.Author.Needs.{needs}
 use Rattle.transfer_matrix.specs.Room.{arranged}
 use Rattle.plan_steps.specs.Laws.Edges.{steps-keep}
 use Rattle.plan_layout.specs.Laws.Work.{room-is}
-use Rattle.plan_layout.specs.Laws.Places.{places-most}
+use Rattle.pair_places.specs.Laws.Places.{places-most}
 use Rattle.plan_layout.proofs.work.make_plan.Statement.{statement}
 use Rattle.plan_layout.proofs.work.make_plan.Tie as tie
 

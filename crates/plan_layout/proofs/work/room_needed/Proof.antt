@@ -3,7 +3,7 @@ use native.Mathlib.Omega.{arith}
 use borrow.Author.Needs.{needs}
 use Rattle.transfer_matrix.specs.Room.{arranged}
 use Rattle.plan_layout.specs.Laws.Work.{room-is}
-use Rattle.plan_layout.specs.Laws.Places.{places-most}
+use Rattle.pair_places.specs.Laws.Places.{places-most}
 use Rattle.plan_layout.proofs.work.room_needed.Statement.{statement}
 use Rattle.plan_layout.proofs.work.room_needed.Tie as tie
 

@@ -1,0 +1,2 @@
+-- Laws that only the proofs cite.
+mod Building

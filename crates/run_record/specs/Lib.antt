@@ -1,0 +1,3 @@
+-- Definitions.
+pub mod Records
+pub mod Reading
