@@ -55,9 +55,9 @@ impl Head {
         if record.len() < HEAD_BYTES || record[0] != 17 {
             return Err(Refusal::Record);
         }
-        let word = |at: usize, width: usize| record[at..at + width].iter().rev().fold(0, |word, &byte| word << 8 | u64::from(byte));
-        let by = Sampling { seed: word(1, 8), from: word(9, 8), to: word(17, 8), samples: word(25, 4) as usize };
-        Ok(Head { by, betas: word(29, 1) as usize, pairs: word(30, 2) as usize })
+        let [seed, from, to] = [1, 9, 17].map(|at| word(record, at, 8));
+        let by = Sampling { seed, from, to, samples: word(record, 25, 4) as usize };
+        Ok(Head { by, betas: word(record, 29, 1) as usize, pairs: word(record, 30, 2) as usize })
     }
 
     /// Returns how many rows a chunk has.
@@ -72,6 +72,37 @@ impl Head {
             (ROW_BYTES as u128).checked_mul(chunks)?.checked_mul(self.rows_of_a_chunk() as u128)?.checked_add(HEAD_BYTES as u128)?;
         usize::try_from(bytes).ok().filter(|&bytes| bytes <= isize::MAX as usize)
     }
+}
+
+/// Reads a number of so many bytes at a place, the lowest first.
+fn word(bytes: &[u8], at: usize, width: usize) -> u64 {
+    bytes[at..at + width].iter().rev().fold(0, |word, &byte| word << 8 | u64::from(byte))
+}
+
+/// What a row says.
+#[derive(Clone, Copy, Debug, PartialEq)]
+pub struct Row {
+    /// 18, in a record.
+    pub kind: u8,
+    /// The chunk.
+    pub chunk: u64,
+    /// The place of its beta.
+    pub beta: usize,
+    /// The place of its pair.
+    pub pair: usize,
+    /// The chunk's sum of squared correlations.
+    pub squares: f64,
+    /// The chunk's sum of their fourth powers.
+    pub fourths: f64,
+}
+
+/// Returns the rows behind the head as they stand, as far as they are whole. Nothing is asked of them: [`check`] asks all.
+pub fn rows(record: &[u8]) -> impl Iterator<Item = Row> + '_ {
+    record.get(HEAD_BYTES..).unwrap_or_default().chunks_exact(ROW_BYTES).map(|row| {
+        let [squares, fourths] = [12, 20].map(|at| f64::from_bits(word(row, at, 8)));
+        let [beta, pair] = [(9, 1), (10, 2)].map(|(at, width)| word(row, at, width) as usize);
+        Row { kind: row[0], chunk: word(row, 1, 8), beta, pair, squares, fourths }
+    })
 }
 
 /// The totals of a record.
@@ -176,7 +207,7 @@ impl Job<'_> {
 
 #[cfg(test)]
 mod tests {
-    use super::{check, record_join, record_totals, Head, Totals};
+    use super::{check, record_join, record_totals, rows, Head, Totals};
     use crate::{Graph, Job, Manner, Refusal, Sampling};
 
     const BETAS: [f64; 2] = [0.25, 1.0];
@@ -215,6 +246,9 @@ mod tests {
             }
         }
         assert_eq!((at, Head::read(&record).unwrap().bytes()), (record.len(), Some(record.len())));
+        let last = rows(&record).last().unwrap();
+        assert_eq!((rows(&record).count(), last.kind, last.chunk, last.beta, last.pair), (12, 18, 6, 1, 2));
+        assert_eq!([last.squares, last.fourths].map(f64::to_le_bytes).concat(), record[record.len() - 16..]);
     }
 
     #[test]

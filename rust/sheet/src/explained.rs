@@ -3,7 +3,7 @@
 use crate::options::Options;
 use crate::trouble::Trouble;
 use crate::values::spelled;
-use copperhook::run_record::{Head, HEAD_BYTES, ROW_BYTES};
+use copperhook::run_record::{rows, Head, Row, HEAD_BYTES, ROW_BYTES};
 use copperhook::{house, limits, Graph, Job, Kind, Refusal, Strip};
 use std::path::Path;
 
@@ -232,7 +232,7 @@ pub fn stopped_record(bytes: &[u8]) -> String {
         );
     }
     match head.bytes() {
-        Some(wanted) if wanted == long => stopped_row(&bytes[HEAD_BYTES..], &head),
+        Some(wanted) if wanted == long => stopped_row(bytes, &head),
         Some(wanted) => {
             format!("it has {long} bytes; chunks {}..{} of {} betas and {} pairs have {wanted}", by.from, by.to, head.betas, head.pairs)
         }
@@ -244,25 +244,22 @@ pub fn stopped_record(bytes: &[u8]) -> String {
 }
 
 /// The first row that is not the one of its place, or has sums that no chunk can have.
-fn stopped_row(rows: &[u8], head: &Head) -> String {
-    let word = |row: &[u8], at: usize, width: usize| row[at..at + width].iter().rev().fold(0, |word, &byte| word << 8 | u64::from(byte));
-    for (i, row) in rows.chunks_exact(ROW_BYTES).enumerate() {
-        let (chunk, place) = (head.by.from + (i / head.rows_of_a_chunk()) as u64, i % head.rows_of_a_chunk());
-        let expected = [18, chunk, (place / head.pairs) as u64, (place % head.pairs) as u64];
-        let found = [word(row, 0, 1), word(row, 1, 8), word(row, 9, 1), word(row, 10, 2)];
+fn stopped_row(record: &[u8], head: &Head) -> String {
+    let told = |(kind, chunk, beta, pair): (u8, u64, usize, usize)| format!("kind {kind}, chunk {chunk}, beta {beta}, pair {pair}");
+    for (i, Row { kind, chunk, beta, pair, squares, fourths }) in rows(record).enumerate() {
+        let (of_chunk, place) = (head.by.from + (i / head.rows_of_a_chunk()) as u64, i % head.rows_of_a_chunk());
+        let (found, expected) = ((kind, chunk, beta, pair), (18, of_chunk, place / head.pairs, place % head.pairs));
         let at = HEAD_BYTES + i * ROW_BYTES;
         if found != expected {
-            let told = |[kind, chunk, beta, pair]: [u64; 4]| format!("kind {kind}, chunk {chunk}, beta {beta}, pair {pair}");
             return format!("byte {at}: a row of {}; expected {}", told(found), told(expected));
         }
-        let [squares, fourths] = [word(row, 12, 8), word(row, 20, 8)].map(f64::from_bits);
         let in_order = 0.0 <= fourths && fourths <= squares && squares <= head.by.samples as f64;
         if !in_order || squares.is_sign_negative() || fourths.is_sign_negative() {
             let rule = format!("0 <= fourth powers <= squares <= {} must hold, and no sum is -0", head.by.samples);
             return format!("byte {at}: squares {} and fourth powers {}; {rule}", spelled(squares), spelled(fourths));
         }
     }
-    "no row of it is wrong".to_string()
+    Refusal::Record.sentence().to_string()
 }
 
 /// What the library takes, and hardly anyone means.
