@@ -1,6 +1,6 @@
 -- The first c chunks are written.
 use mathlib.Core.Path.{_≡_, refl, sym, ap, _∙_}
-use Prim.Native.Nat.{ℕ, _-_, _*_}
+use Prim.Native.Nat.{ℕ, _+_, _-_, _*_}
 use native.Mathlib.Omega.{arith}
 use lib.ListN.{length}
 use borrow.Author.Tests.{not-true, not-false}
@@ -23,7 +23,8 @@ abbrev μ-loop : tie.MeasureT-loop
 returns : tie.Need-returns Inv-loop μ-loop
 returns c =
     let s = c .before .before .before .before .before .before .before .before .before .before in
-    none-written _ _ _ _ _ _ _ _ (s .args .head) _ _ _ _ (s .pre .1) (sym (s .pre .4) ∙ c .if1 .taken)
+    let a = s .args in
+    none-written (a .n) (a .w) (a .early .now) (a .late .now) (a .factors .now) (stepping (a .elementwise)) (a .us .now) (a .vs .now) (a .head) (arranged (a .less)) (length (a .early .now)) (a .bytes .now) (a .work .now) (s .pre .1) (sym (s .pre .4) ∙ c .if1 .taken)
 
 sub-chunks : tie.Need-sub-chunks Inv-loop μ-loop
 sub-chunks c = c .before .before .before .before .before .before .before .before .before .before .before .pre .2
@@ -41,9 +42,10 @@ total-job-requires : tie.Need-total-job-requires Inv-loop μ-loop
 total-job-requires c κs =
     let s = c .before .before .before .before .before .before .before .before .before .before .before .before .before .before .before .before .before in
     let a = s .args in
-    let i = c .before .before .before .before .before .loop .inv in
+    let l = c .before .before .before .before .before .loop in
+    let i = l .inv in
     let e : perChunk (a .head) ≡ a .head .betas * length (a .us .now) = ap (λ (k : ℕ). a .head .betas * k) (s .pre .1) in
-    (passed-with (s .pre .0) (i .memories), drawn-numbered (a .head .seed) _ _ (a .head .samples) _ _ _ refl, i .squareds ∙ s .pre .4 ∙ e, i .fourthds ∙ s .pre .5 ∙ e)
+    (passed-with (s .pre .0) (i .memories), drawn-numbered (a .head .seed) (a .head .start + l .c) (a .head .start + l .c + 1) (a .head .samples) (a .early .now) (a .late .now) (a .early .now) refl, i .squareds ∙ s .pre .4 ∙ e, i .fourthds ∙ s .pre .5 ∙ e)
 
 same-length : tie.Need-same-length Inv-loop μ-loop
 same-length c = c .before .before .before .before .before .before .before .total-job .kept .1 .1 .1 .1 .1 .1 .1 .1 .1 .1 .1 .1 .0 ∙ c .before .before .before .before .before .before .before .before .before .before .before .before .before .loop .inv .squareds
@@ -59,7 +61,8 @@ same-length-4 c = c .before .before .before .before .before .before .before .tot
 
 returns-2 : tie.Need-returns-2 Inv-loop μ-loop
 returns-2 c =
-    not-written _ _ _ _ _ _ _ _ (c .before .before .before .before .before .before .before .before .before .before .before .before .before .before .before .before .before .before .before .before .before .before .before .before .before .args .head) _ _ (c .before .before .before .before .before .before .before .before .before .before .before .before .before .loop .inv) (c .before .before .before .before .before .before .before .before .before .before .before .before .loop-test .taken) (c .before .before .before .before .before .before .before .total-job .ensures) (not-true _ (c .if2 .taken))
+    let a = c .before .before .before .before .before .before .before .before .before .before .before .before .before .before .before .before .before .before .before .before .before .before .before .before .before .args in
+    not-written (a .n) (a .w) (a .early .now) (a .late .now) (a .factors .now) (stepping (a .elementwise)) (a .us .now) (a .vs .now) (a .head) (arranged (a .less)) (length (a .early .now)) (c .before .before .before .before .before .before .before .before .before .before .before .before .before .loop .inv) (c .before .before .before .before .before .before .before .before .before .before .before .before .loop-test .taken) (c .before .before .before .before .before .before .before .total-job .ensures) (not-true _ (c .if2 .taken))
 
 put-chunk-requires : tie.Need-put-chunk-requires Inv-loop μ-loop
 put-chunk-requires c κs =
@@ -77,7 +80,8 @@ loop-less c = omega (arith, c .before .before .before .before .before .before .b
 loop-again : tie.Need-loop-again Inv-loop μ-loop
 loop-again c =
     let t = c .before .before .before .before .before .before .before .before .before .before .before .before .before .total-job in
-    writing-more _ _ _ _ _ _ _ _ (c .before .before .before .before .before .before .before .before .before .before .before .before .before .before .before .before .before .before .before .before .before .before .before .before .before .before .before .before .before .before .before .args .head) _ _ (c .before .before .before .before .before .before .before .before .before .before .before .before .before .before .before .before .before .before .before .loop .inv) (c .before .before .before .before .before .before .before .before .before .before .before .before .before .before .before .before .before .before .loop-test .taken) (t .ensures) (not-false _ (c .before .before .before .before .before .before .if2 .left))
+    let a = c .before .before .before .before .before .before .before .before .before .before .before .before .before .before .before .before .before .before .before .before .before .before .before .before .before .before .before .before .before .before .before .args in
+    writing-more (a .n) (a .w) (a .early .now) (a .late .now) (a .factors .now) (stepping (a .elementwise)) (a .us .now) (a .vs .now) (a .head) (arranged (a .less)) (length (a .early .now)) (c .before .before .before .before .before .before .before .before .before .before .before .before .before .before .before .before .before .before .before .loop .inv) (c .before .before .before .before .before .before .before .before .before .before .before .before .before .before .before .before .before .before .loop-test .taken) (t .ensures) (not-false _ (c .before .before .before .before .before .before .if2 .left))
     (t .kept .1 .1 .1 .1 .1 .1 .1 .1 .1 .1 .1 .1 .0) (t .kept .1 .1 .1 .1 .1 .1 .1 .1 .1 .1 .1 .1 .1 .0) (t .kept .1 .1 .1 .1 .1 .1 .1 .1 .1 .1 .1 .1 .1 .1 .0) (c .before .before .put-chunk .ensures)
 
 same-length-5 : tie.Need-same-length-5 Inv-loop μ-loop
@@ -95,7 +99,8 @@ same-length-8 c = c .before .loop .inv .memories
 returns-3 : tie.Need-returns-3 Inv-loop μ-loop
 returns-3 c =
     let l = c .before .loop in
-    all-written _ _ _ _ _ _ _ _ (c .before .before .before .before .before .before .before .before .before .before .before .before .before .args .head) _ _ (omega (arith, l .inv .below)) (l .inv)
+    let a = c .before .before .before .before .before .before .before .before .before .before .before .before .before .args in
+    all-written (a .n) (a .w) (a .early .now) (a .late .now) (a .factors .now) (stepping (a .elementwise)) (a .us .now) (a .vs .now) (a .head) (arranged (a .less)) (length (a .early .now)) (omega (arith, l .inv .below)) (l .inv)
 
 pub write-chunks-spec : {M : Type 1} → statement M
 write-chunks-spec =
