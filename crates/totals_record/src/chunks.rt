@@ -42,11 +42,12 @@ pub fn write_chunks(
     let mut c: u64 = 0;
     while c < chunks {
         let first = head.start + c;
+        let end = first + 1;
         let chunk = Chunks {
             drawn: true,
             seed: head.seed,
             first,
-            end: first + 1,
+            end,
             size: head.samples,
         };
         // Drawn configurations read no bit: any list with an entry for each edge stands for them.

@@ -35,8 +35,8 @@ loop-holds c = writing-none _ _ _ _ _ _ _ _ _ _ _ _ _ _ _
 add-first : tie.Need-add-first Inv-loop μ-loop
 add-first c = let s = c .before .before .before .before .before .before .before .before .before .before .before .before .before .before in omega (arith, s .pre .2, c .before .loop-test .taken, s .good)
 
-add-t22 : tie.Need-add-t22 Inv-loop μ-loop
-add-t22 c = let s = c .before .before .before .before .before .before .before .before .before .before .before .before .before .before in omega (arith, s .pre .2, c .before .loop-test .taken, s .good)
+add-end : tie.Need-add-end Inv-loop μ-loop
+add-end c = let s = c .before .before .before .before .before .before .before .before .before .before .before .before .before .before in omega (arith, s .pre .2, c .before .loop-test .taken, s .good)
 
 total-job-requires : tie.Need-total-job-requires Inv-loop μ-loop
 total-job-requires c κs =
@@ -112,7 +112,7 @@ write-chunks-spec =
     sub-chunks
     loop-holds
     add-first
-    add-t22
+    add-end
     total-job-requires
     same-length
     same-length-2
