@@ -18,7 +18,7 @@ use Rattle.demands_records.specs.Laws.Squares.{Even, even-square, even-f
 
 module _ (g : Given) (seed from to samples : ℕ) where
   -- the correlation of a chunk's sample, at beta times pairs + pair
-  abbrev drawn : (k i j : ℕ) → Float
+  abbrev pub drawn : (k i j : ℕ) → Float
   drawn k i j = correlationAt (jobSampled (g .n) (window g) (early g) (late g) (g .factors) (mannerOf (g .manner)) seed i j) (g .us) (g .vs) k
 
   module _ (power : Float → Float) (even : Even power) (k : ℕ) (l : k < sums g) where

@@ -2,8 +2,8 @@
 use mathlib.Core.Path.{ap}
 use borrow.Author.Needs.{needs}
 use Rattle.c_values.specs.declared.options.Options.{Options}
-use Rattle.export_recordings.proofs.recordings.copperhook_house_sample_record.Statement.{statement}
-use Rattle.export_recordings.proofs.recordings.copperhook_house_sample_record.Tie as tie
+use Rattle.export_recordings.proofs.house.copperhook_house_sample_record.Statement.{statement}
+use Rattle.export_recordings.proofs.house.copperhook_house_sample_record.Tie as tie
 
 returns : tie.Need-returns
 returns c =

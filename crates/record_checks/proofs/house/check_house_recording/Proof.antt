@@ -3,8 +3,8 @@ use Rattle.refusals.specs.Laws.First.{here, past, told}
 use Rattle.buffer_checks.proofs.Checking.{retold}
 use Rattle.record_checks.specs.Laws.Parts.{ordered-by}
 use borrow.Author.Needs.{needs}
-use Rattle.record_checks.proofs.lists.check_house_recording.Statement.{statement}
-use Rattle.record_checks.proofs.lists.check_house_recording.Tie as tie
+use Rattle.record_checks.proofs.house.check_house_recording.Statement.{statement}
+use Rattle.record_checks.proofs.house.check_house_recording.Tie as tie
 
 returns : tie.Need-returns
 returns c = here _ _ _ (told (c .before .bad-products .ensures) (c .if1 .taken))
