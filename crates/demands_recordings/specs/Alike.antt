@@ -20,7 +20,7 @@ use Rattle.record_call.specs.Calls.{lentGiven, Recorded, HouseRecorded, headFor
 use Rattle.demands.specs.Laws.Alike.{arrangements-alike}
 use Rattle.demands_house.specs.Factors.{tableFactors}
 use Rattle.demands_house.specs.Laws.Lent.{never}
-use Rattle.demands_records.specs.Written.{record-is}
+use Rattle.demands_recordings.specs.Written.{record-is}
 
 -- A call that writes a record is never the tester's: no such call is answered 22. A lent one is not answered 23, a house one not 10.
 pub record-not-22 : (r : Request) → (refusal ofRecording r ≡ 22 → ⊥) × (refusal (housed ofRecording) r ≡ 22 → ⊥)

@@ -10,7 +10,7 @@ use Rattle.rounding.specs.Laws.Sign.{notMinus, add-notMinus, square-notMinus}
 use Rattle.transfer_matrix.specs.Arithmetic.{sum}
 use Rattle.transfer_matrix.specs.Rounded.{ieee}
 use Rattle.transfer_matrix.specs.Totals.{square, fourth, chunked, sampled}
-use Rattle.demands_records.specs.Laws.Plus.{zero-plus}
+use Rattle.demands_recordings.specs.Laws.Plus.{zero-plus}
 
 -- a power that is never below +0.0
 pub record Even (power : Float → Float) : Type 0 where

@@ -34,10 +34,10 @@ use Rattle.run_record.specs.Reading.{isMinusZero}
 use Rattle.record_call.specs.Calls.{lentGiven, Recorded, HouseRecorded, sumsFor}
 use Rattle.demands.specs.Sampling.{sampling-bounded}
 use Rattle.demands_house.specs.Accepted.{house-sampling-bounded}
-use Rattle.demands_records.specs.Written.{part-accepted, roomy}
-use Rattle.demands_records.specs.Sums.{chunk-is, drawn}
-use Rattle.demands_records.specs.Laws.Plus.{plain-bits}
-use Rattle.demands_records.specs.Laws.Squares.{Even, even-square, even-fourth, sum-plain, sum-fits}
+use Rattle.demands_recordings.specs.Written.{part-accepted, roomy}
+use Rattle.demands_recordings.specs.Sums.{chunk-is, drawn}
+use Rattle.demands_recordings.specs.Laws.Plus.{plain-bits}
+use Rattle.demands_recordings.specs.Laws.Squares.{Even, even-square, even-fourth, sum-plain, sum-fits}
 
 -- both lists of the length that is wanted
 fitting : (wanted squares fourths : ℕ) → squares ≡ wanted → fourths ≡ wanted → misfits wanted squares fourths ≡ false

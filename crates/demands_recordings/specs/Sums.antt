@@ -14,7 +14,7 @@ use Rattle.totals_call.specs.Given.{Given, early, late, window, sums}
 use Rattle.totals_call.specs.Jobs.{jobSampled}
 use Rattle.totals_call.specs.Calls.{totalsOfDrawn}
 use Rattle.record_call.specs.Calls.{sumsFor}
-use Rattle.demands_records.specs.Laws.Squares.{Even, even-square, even-fourth, one-chunk}
+use Rattle.demands_recordings.specs.Laws.Squares.{Even, even-square, even-fourth, one-chunk}
 
 module _ (g : Given) (seed from to samples : ℕ) where
   -- the correlation of a chunk's sample, at beta times pairs + pair
