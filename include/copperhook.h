@@ -467,7 +467,8 @@ size_t copperhook_house_sample_record(size_t n, size_t floor, const size_t *a, s
 
 /*
  * Two records of equal seed, samples, betas and pairs, one of which ends at the chunk at which the other starts, as one record in `joined`;
- * either order of handing them in gives the same bytes, or the same refusal. An empty range joins at either end. `joined` has exactly one_len + two_len - 32 bytes.
+ * either order of handing them in gives the same bytes, or the same refusal. An empty range joins at either end. `joined` has exactly
+ * one_len + two_len - 32 bytes.
  * Refusals: 26 (either record), 27, 11 (of the joined record), 12.
  */
 size_t copperhook_record_join(const uint8_t *one, size_t one_len, const uint8_t *two, size_t two_len, uint8_t *joined,
