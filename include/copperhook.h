@@ -42,7 +42,7 @@ extern "C" {
 /*
  * Why a call is refused, in checking order; but 19 and 20 stand before 1, 24 right behind 2, 21 between 4 and 5, 22 right behind 6 for the
  * window and right behind 9 for free edges, 23 in the place of 10, and calls for strips check 15 to 17 before 12. 25 is that of copperhook_shares alone.
- * 26 and 27 stand before 11 where run records are read, 26 right behind 11 where one is written.
+ * 26 and 27 stand before 1 where run records are read, and 26 right behind 11 where one is written.
  */
 enum copperhook_refusal {
     COPPERHOOK_ACCEPTED = 0,
@@ -475,7 +475,7 @@ size_t copperhook_sheet_write(size_t n, size_t floor, const size_t *a, size_t a_
 /*
  * The samples of copperhook_sample as a run record: sums chunk by chunk, where that call adds the chunks up. `record` has exactly the bytes of
  * the format; 14 sets all of them to 0. `to` may be `from`: a head alone. COPPERHOOK_TESTER is not read: the tester has no records.
- * Refusals: 1 to 8 (4 and 21 of the betas too), 10, 11, 26 (`to` below `from`, or over 2^32 - 1 samples), 12, 13, 14.
+ * Refusals: 1 to 8 (4 and 21 of the betas too), 10, 11, 26 (`to` below `from`, or over 2^32 - 1 samples, in an empty run too), 12, 13, 14.
  */
 size_t copperhook_sample_record(size_t n, size_t floor, const size_t *a, size_t a_len, const size_t *b, size_t b_len, const double *m,
                                 size_t m_len, const size_t *us, size_t us_len, const size_t *vs, size_t vs_len, const double *betas,
@@ -494,7 +494,8 @@ size_t copperhook_house_sample_record(size_t n, size_t floor, const size_t *a, s
 
 /*
  * Two records of equal seed, samples, betas and pairs, one of which ends at the chunk at which the other starts, as one record in `joined`;
- * in either order of handing them in the same bytes. An empty range joins at either end. `joined` has exactly one_len + two_len - 32 bytes.
+ * either order of handing them in gives the same bytes, or the same refusal. An empty range joins at either end. `joined` has exactly
+ * one_len + two_len - 32 bytes.
  * Refusals: 26 (either record), 27, 11 (of the joined record), 12.
  */
 size_t copperhook_record_join(const uint8_t *one, size_t one_len, const uint8_t *two, size_t two_len, uint8_t *joined,

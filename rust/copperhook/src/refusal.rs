@@ -6,7 +6,7 @@ use std::fmt;
 numbered! {
     /// Why a call is refused. The numbers follow the order of the checks, but that 19 and 20 stand before 1, 24 right behind 2, 21 between
     /// 4 and 5, 22 right behind 6 for the window and right behind 9 for free edges, and 23 in the place of 10; strips check 15 to 17 before
-    /// 12, 25 is that of shares alone, and 26 and 27 stand before 11 where run records are read, 26 right behind 11 where one is written. Of several reasons that fit, the first is returned.
+    /// 12, 25 is that of shares alone, and 26 and 27 stand before 1 where run records are read, 26 right behind 11 where one is written. Of several reasons that fit, the first is returned.
     pub enum Refusal;
 
     /// Returns what is wrong, as a sentence without its full stop.

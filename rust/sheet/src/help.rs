@@ -11,11 +11,12 @@ usage: sheet [make] --kind K --width N --length N --beta B,.. [options]
        sheet join FILE.. --output FILE
        sheet totals FILE [the options of its job] [--format F] [--bits] [--output FILE]
        sheet show FILE
-       sheet verify FILE [--threads N]
+       sheet verify FILE [--threads N] [of a run record: the options of its job, --chunks A..B]
        sheet --help | --version
 
 make, which an option as the first word means, works a sheet out. verify works one in csv or json out again, from the
-record that it carries, compares it cell by cell (with --bits bit for bit, else digit by digit) and tells what differs.
+record that it carries, compares it cell by cell (with --bits bit for bit, else digit by digit) and tells what differs;
+of a run record it samples all chunks again, or those of --chunks, and tells the rows that differ.
 preview tells what dropping edges would do, each alone, before one is dropped; see below.
 record writes drawn configurations as a run record, join makes one of several, totals makes a sheet of one; see below.
 show lists a job sheet, record by record with the byte of each, and where it stops being one, the byte and the reason;
@@ -130,6 +131,7 @@ examples
     sheet record --job board.job --sample 100 --chunks 5..8 --output second.rec
     sheet join second.rec first.rec --output whole.rec
     sheet totals whole.rec --job board.job
+    sheet verify whole.rec --job board.job --chunks 4..6
     sheet verify board.csv
     sheet --kind square --width 8 --length 12 --beta 0.2,0.44,0.8 --signs plus --format svg --output plot.svg
 

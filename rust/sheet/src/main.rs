@@ -99,6 +99,11 @@ fn run(words: &[String]) -> Result<u8, Trouble> {
             output::to_stdout(&verdict.told)?;
             return Ok(u8::from(!verdict.agrees));
         }
+        Asked::VerifyRecord { file, options, chunks, threads } => {
+            let verdict = run_record::verify(&file, &options, chunks, threads)?;
+            output::to_stdout(&verdict.told)?;
+            return Ok(u8::from(!verdict.agrees));
+        }
         Asked::Show(file) => {
             let shown = job_sheet::show(&file)?;
             output::to_stdout(&shown.told)?;

@@ -101,6 +101,15 @@ pub enum Asked {
         file: PathBuf,
         threads: usize,
     },
+    /// A run record, sampled again.
+    VerifyRecord {
+        file: PathBuf,
+        /// The job that it is of.
+        options: Box<Options>,
+        /// These chunks of it alone.
+        chunks: Option<(u64, u64)>,
+        threads: usize,
+    },
     /// A job sheet, record by record, or a run record.
     Show(PathBuf),
     /// A sampling, written as a run record.
@@ -140,6 +149,7 @@ struct Written {
     record: bool,
     resume: bool,
     run_record: Option<PathBuf>,
+    verified: Option<PathBuf>,
     sample: Option<usize>,
     chunks: Option<(u64, u64)>,
     threads: Option<usize>,
@@ -169,8 +179,27 @@ pub fn parse(words: &[String]) -> Result<Asked, Trouble> {
     }
 }
 
-/// `verify FILE`, with `--threads N` for a sheet of drawn configurations.
+/// The options that say of which job a run record is, or how it is sampled again.
+const OF_RECORD: [&str; 12] = [
+    "--job",
+    "--kind",
+    "--width",
+    "--length",
+    "--cylinder",
+    "--dilute",
+    "--beta",
+    "--pairs",
+    "--manner",
+    "--house",
+    "--less-room",
+    "--chunks",
+];
+
+/// `verify FILE`, with `--threads N` for a sheet of drawn configurations; of a run record with the options of its job.
 fn verified(words: &[String]) -> Result<Asked, Trouble> {
+    if words.iter().any(|word| OF_RECORD.contains(&word.split('=').next().unwrap_or_default())) {
+        return verified_record(words);
+    }
     let (mut file, mut threads) = (None, None);
     let mut words = words.iter();
     while let Some(word) = words.next() {
@@ -193,6 +222,14 @@ fn verified(words: &[String]) -> Result<Asked, Trouble> {
     }
     let file = file.ok_or_else(|| Trouble::asked("verify needs a file: a sheet in csv or json"))?;
     Ok(Asked::Verify { file, threads: threads.unwrap_or(1) })
+}
+
+/// `verify FILE`, with the job that the record in it is of.
+fn verified_record(words: &[String]) -> Result<Asked, Trouble> {
+    match words.split_first() {
+        Some((file, rest)) if !file.starts_with('-') => made(rest, Written { verified: Some(PathBuf::from(file)), ..Written::default() }),
+        _ => Err(Trouble::asked("verify needs a file before the options of its job: a run record")),
+    }
 }
 
 /// `show FILE`.
@@ -258,6 +295,11 @@ fn made(words: &[String], mut written: Written) -> Result<Asked, Trouble> {
         }
     }
     let (record, resume) = (written.record, written.resume);
+    if let Some(file) = written.verified.take() {
+        written.only_verified()?;
+        let (chunks, threads) = (written.chunks.take(), written.threads.take().unwrap_or(1));
+        return Ok(Asked::VerifyRecord { file, options: Box::new(written.put_together()?), chunks, threads });
+    }
     let options = Box::new(written.put_together()?);
     Ok(if record { Asked::Record { options, resume } } else { Asked::Sheet(options) })
 }
@@ -457,6 +499,27 @@ impl Written {
         ];
         match given.iter().find(|g| g.1) {
             Some((name, _)) => Err(Trouble::asked(format!("totals and {name} cannot be combined: the record has its own configurations"))),
+            None => Ok(()),
+        }
+    }
+
+    /// A run record that is sampled again has its own configurations, but for which chunks of it are taken.
+    fn only_verified(&self) -> Result<(), Trouble> {
+        let given = [
+            ("--signs", self.signs.is_some()),
+            ("--sample", self.sample.is_some()),
+            ("--enumerate", self.enumerate),
+            ("--seed", self.seed.is_some()),
+            ("--edges", self.edges),
+            ("--shares", self.shares),
+            ("--tester", self.tester),
+            ("--write-job", self.write_job.is_some()),
+            ("--format", self.format.is_some()),
+            ("--bits", self.bits),
+            ("--output", self.output.is_some()),
+        ];
+        match given.iter().find(|g| g.1) {
+            Some((name, _)) => Err(Trouble::asked(format!("verify and {name} cannot be combined: the record has its own configurations"))),
             None => Ok(()),
         }
     }
@@ -708,9 +771,20 @@ mod tests {
             ("totals a --house", "--house is of the job; give its strip, or --job, too"),
             ("totals a --format svg", "totals without their job are told as text or csv"),
             ("totals a --beta 1", "--kind is required (square, tri, honey or eight)"),
+            ("verify --job a", "verify needs a file before the options of its job: a run record"),
+            ("verify a --job b --seed 3", "verify and --seed cannot be combined: the record has its own configurations"),
+            ("verify a --chunks 0..3", "--kind is required (square, tri, honey or eight)"),
         ] {
             assert_eq!(parsed(line).unwrap_err().to_string(), told);
         }
+        let Ok(Asked::VerifyRecord { file, options, chunks, threads }) = parsed("verify a --job b --chunks 2..3 --threads 2 --house")
+        else {
+            panic!()
+        };
+        assert_eq!(
+            (file, options.job, options.house, chunks, threads),
+            (PathBuf::from("a"), Some(PathBuf::from("b")), true, Some((2, 3)), 2)
+        );
         let files = ["b", "a"].map(PathBuf::from).to_vec();
         assert_eq!(parsed("join b a --output=c"), Ok(Asked::Join { files, output: PathBuf::from("c") }));
         assert_eq!(

@@ -1,4 +1,4 @@
-//! Run records: a sampling as a file, files of neighbouring chunks as one, and the sheet of the totals.
+//! Run records: a sampling as a file, files of neighbouring chunks as one, the same sampled again, and the sheet of the totals.
 
 use crate::accuracy::value;
 use crate::board::{counted, Board};
@@ -15,7 +15,9 @@ use crate::source::{Source, Values};
 use crate::text::aligned;
 use crate::totals::Sampled;
 use crate::trouble::Trouble;
-use copperhook::run_record::{check, Head};
+use crate::values::spelled;
+use crate::verify::Verdict;
+use copperhook::run_record::{check, rows, Head, Row};
 use copperhook::{record_join, record_totals, Refusal};
 use std::fs;
 use std::path::{Path, PathBuf};
@@ -136,14 +138,66 @@ pub fn write(options: &Options, resume: bool) -> Result<(), Trouble> {
     for warning in explained::warnings(options) {
         tell(&format!("sheet: warning: {warning}\n"));
     }
-    source.bounds(&board)?;
-    let mut work = work_memory(&mut board, source.threads())?;
-    let cost = Cost::of(&board, &source);
+    target.take_bytes(&sampled(&mut board, &source)?)
+}
+
+/// The record of these samples, with a line on standard error that tells how long it takes.
+fn sampled(board: &mut Board, source: &Sampled) -> Result<Vec<u8>, Trouble> {
+    // what the factors are refused by is told before the first chunk
+    source.bounds(board)?;
+    let mut work = work_memory(board, source.threads())?;
+    let cost = Cost::of(board, source);
     cost.say();
     if cost.is_long() {
-        source.tried(&board, &mut work)?;
+        source.tried(board, &mut work)?;
     }
-    target.take_bytes(&progress::shown(&cost, |done| source.recorded(&board, &mut work, done))?)
+    progress::shown(&cost, |done| source.recorded(board, &mut work, done))
+}
+
+/// That a job has as many betas and pairs as the record in a file.
+fn of_this_job(file: &Path, head: &Head, board: &Board) -> Result<(), Trouble> {
+    let [ours, theirs] = [(board.betas.len(), board.pairs.len()), (head.betas, head.pairs)];
+    if ours == theirs {
+        return Ok(());
+    }
+    let counts = |(betas, pairs)| format!("{} and {}", counted(betas, "beta", "betas"), counted(pairs, "pair", "pairs"));
+    let [ours, theirs] = [ours, theirs].map(counts);
+    let what = "give the job that it was sampled from";
+    Err(Trouble::asked(format!("{}: the record has {theirs}, and this job {ours}; {what}", file.display())))
+}
+
+/// Samples the chunks of a record again, or some of them, and tells which rows are others.
+pub fn verify(file: &Path, options: &Options, asked: Option<(u64, u64)>, threads: usize) -> Result<Verdict, Trouble> {
+    let (bytes, head) = read(file)?;
+    let (from, to) = asked.unwrap_or((head.by.from, head.by.to));
+    if from < head.by.from || to > head.by.to {
+        return Err(Trouble::asked(format!("--chunks {from}..{to}: {} has chunks {}", file.display(), chunks(&head))));
+    }
+    let by = Drawing { from, to, threads, ..drawing(&head) };
+    let mut board = Board::new(&Options { wanted: Wanted::Sampled(by), ..options.clone() })?;
+    of_this_job(file, &head, &board)?;
+    let again = sampled(&mut board, &Sampled::new(&by)?)?;
+    let before = (from - head.by.from) as usize * head.rows_of_a_chunk();
+    let bits = |row: &Row| [row.squares, row.fourths].map(f64::to_bits);
+    let pairs = rows(&bytes).skip(before).zip(rows(&again)).filter(|(found, expected)| bits(found) != bits(expected));
+    let different: Vec<(Row, Row)> = pairs.collect();
+    let line = |(found, expected): &(Row, Row)| {
+        let sums = |row: &Row| format!("{} and {}", spelled(row.squares), spelled(row.fourths));
+        let Row { chunk, beta, pair, .. } = found;
+        format!("chunk {chunk}, beta {beta}, pair {pair}: the record has {}, sampled {}\n", sums(found), sums(expected))
+    };
+    let mut told: String = different.iter().take(TOLD).map(line).collect();
+    if different.len() > TOLD {
+        told += &format!("and {} more\n", different.len() - TOLD);
+    }
+    let (name, all) = (file.display(), (to - from) as usize * head.rows_of_a_chunk());
+    told += &match different.len() {
+        0 => format!("{name}: all {all} rows of chunks {from}..{to} agree, bit for bit\n"),
+        many => format!(
+            "{name}: {many} of {all} rows of chunks {from}..{to} differ: another job, factors, manner, or a record that was altered\n"
+        ),
+    };
+    Ok(Verdict { told, agrees: different.is_empty() })
 }
 
 /// A record that is to be joined, and its file.
@@ -160,7 +214,7 @@ impl Piece {
     }
 }
 
-/// How many missing ranges, or chunks that are there twice, are told one by one.
+/// How many missing ranges, chunks that are there twice, or rows that differ, are told one by one.
 const TOLD: usize = 10;
 
 /// What keeps these records, in the order of their chunks, from being one: what they differ in, chunks that two of them have, or those that are
@@ -272,16 +326,7 @@ pub fn sheet(options: &Options, file: &Path) -> Result<Sheet, Trouble> {
     let Totalled { source, values, sha256, head } = totalled(file)?;
     let options = Options { wanted: Wanted::Sampled(drawing(&head)), ..options.clone() };
     let board = Board::new(&options)?;
-    let [ours, theirs] = [(board.betas.len(), board.pairs.len()), (head.betas, head.pairs)];
-    if ours != theirs {
-        let counts = |(betas, pairs)| format!("{} and {}", counted(betas, "beta", "betas"), counted(pairs, "pair", "pairs"));
-        return Err(Trouble::asked(format!(
-            "{}: the record has {}, and this job {}; give the job that it was sampled from",
-            file.display(),
-            counts(theirs),
-            counts(ours)
-        )));
-    }
+    of_this_job(file, &head, &board)?;
     let bounds = source.bounds(&board)?;
     let mut sheet = Sheet::new(&options, &board, &source, bounds, values);
     sheet.record.0.push(("run_record_sha256", Field::text(sha256)));

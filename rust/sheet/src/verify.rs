@@ -28,7 +28,11 @@ pub struct Verdict {
 /// The sheet is worked out by `make`, in the format in which it is found.
 pub fn verify(path: &Path, threads: usize, make: impl Fn(&Options) -> Result<String, Trouble>) -> Result<Verdict, Trouble> {
     let named = |why: String| Trouble::asked(format!("{}: {why}", path.display()));
-    let text = fs::read_to_string(path).map_err(|e| named(e.to_string()))?;
+    let bytes = fs::read(path).map_err(|e| named(e.to_string()))?;
+    if bytes.first() == Some(&17) {
+        return Err(named("a run record holds no job; give its options too, as sheet verify FILE --job board.job".to_string()));
+    }
+    let text = String::from_utf8(bytes).map_err(|_| named("it is no text".to_string()))?;
     let format = if text.trim_start().starts_with('{') { Format::Json } else { Format::Csv };
     let mut found = cells(&text, format).map_err(named)?;
     let options = job(&found, format, threads).map_err(named)?;

@@ -138,6 +138,32 @@ fn what_is_no_record_is_told_with_its_byte() {
 }
 
 #[test]
+fn a_record_is_sampled_again() {
+    let folder = folder("run_record_verified");
+    let (file, good) = recorded(&folder, "a", "3..7", "");
+    let rows = (good.len() - 32) / 28;
+    let verified = |more: &str| {
+        let output = sheet(&format!("verify {file} {more}"));
+        (String::from_utf8(output.stdout).unwrap(), output.status.code())
+    };
+    assert_eq!(verified(JOB), (format!("{file}: all {rows} rows of chunks 3..7 agree, bit for bit\n"), Some(0)));
+    let some = format!("{file}: all {} rows of chunks 4..6 agree, bit for bit\n", rows / 2);
+    assert_eq!(verified(&format!("{JOB} --chunks 4..6 --threads 2 --less-room")), (some, Some(0)));
+    // another job, and a row that was altered: chunk 5, the first beta, the second pair
+    let (told_other, status) = verified(&JOB.replace("0.44", "0.45"));
+    assert!(told_other.contains(&format!("{} of {rows} rows of chunks 3..7 differ", rows / 2)) && status == Some(1), "{told_other}");
+    let mut altered = good.clone();
+    altered[32 + 28 * (rows / 2 + 1) + 20] ^= 1;
+    fs::write(&file, altered).unwrap();
+    let (told_altered, status) = verified(JOB);
+    assert!(told_altered.starts_with("chunk 5, beta 0, pair 1: the record has ") && status == Some(1), "{told_altered}");
+    assert!(told_altered.contains(&format!("{file}: 1 of {rows} rows of chunks 3..7 differ")), "{told_altered}");
+    assert_eq!(verified(&format!("{JOB} --chunks 3..5")).1, Some(0));
+    assert_eq!(told(&format!("verify {file} {JOB} --chunks 2..5")), (format!("sheet: --chunks 2..5: {file} has chunks 3..7\n"), Some(2)));
+    assert!(told(&format!("verify {file}")).0.contains("a run record holds no job; give its options too"));
+}
+
+#[test]
 fn a_record_that_is_there_stays() {
     let folder = folder("run_record_resumed");
     let (file, good) = recorded(&folder, "a", "0..2", "");
