@@ -8,6 +8,6 @@ use Rattle.limits.specs.Limits.{mostBetas, mostPairs, mostNamed}
 pub record Lying (bytes : List ℕ) (start samples betas pairs chunks : ℕ) : Type 0 where
   pub long : 32 + 28 * (chunks * (betas * pairs)) ≤ length bytes
   pub range : start + chunks < 2 ^ 64
-  pub samples : samples ≤ mostNamed
-  pub betas : betas ≤ mostBetas
-  pub pairs : pairs ≤ mostPairs
+  pub few-samples : samples ≤ mostNamed
+  pub few-betas : betas ≤ mostBetas
+  pub few-pairs : pairs ≤ mostPairs
