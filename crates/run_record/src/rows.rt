@@ -8,14 +8,7 @@ ghost use Rattle.run_record.specs.Lying.{Lying};
 use crate::sums::bad_sums;
 use little_endian::word_at;
 
-fn bad_row(
-    bytes: &[u8],
-    place: usize,
-    chunk: u64,
-    beta: usize,
-    pair: usize,
-    samples: usize,
-) -> bool
+fn bad_row(bytes: &[u8], place: usize, chunk: u64, beta: usize, pair: usize, samples: usize) -> bool
     requires { ⌜ (place + 28 ≤ length (now bytes)) × (samples ≤ mostNamed) ⌝ }
     ensures { λ r. ⌜ r ≡ badRowAt (now (bytes .entry)) place chunk beta pair samples ⌝ }
 {
@@ -31,7 +24,11 @@ fn bad_row(
     if word_at(bytes, place + 10, 2) != pair as u64 {
         return true;
     }
-    bad_sums(samples, word_at(bytes, place + 12, 8), word_at(bytes, place + 20, 8))
+    bad_sums(
+        samples,
+        word_at(bytes, place + 12, 8),
+        word_at(bytes, place + 20, 8),
+    )
 }
 
 // Of one chunk and beta.

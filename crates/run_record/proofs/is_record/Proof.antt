@@ -1,80 +1,91 @@
+-- By the tests in turn.
 use borrow.Author.Needs.{needs}
+use native.Mathlib.Omega.{arith}
+use mathlib.Core.Path.{_≡_, sym, ap, _∙_}
+use mathlib.Core.Bool.{not}
+use Prim.Native.Nat.{_*_}
+use borrow.Author.Tests.{eqb-true, not-false}
+use lib.Dec.{eqb}
+use lib.ListN.{length}
+use Rattle.little_endian.specs.Words.{Bytes}
+use Rattle.run_record.specs.declared.Head.{Head}
+use Rattle.run_record.specs.Records.{chunksOf, perChunk, recordLength}
+use Rattle.run_record.specs.Reading.{badHead, badRows, badRecord}
+use Rattle.run_record.specs.Laws.Places.{no-rows}
+use Rattle.run_record.specs.Laws.Cases.{Good, good-head, few-rows, few-named, end-fits, too-short, no-head, head-bad, length-bad, by-rows}
 use Rattle.run_record.proofs.is_record.Statement.{statement}
 use Rattle.run_record.proofs.is_record.Tie as tie
-use Rattle.run_record.proofs.is_record.Reads as reads
-use Rattle.run_record.proofs.is_record.Lts as lts
-use Rattle.little_endian.proofs.word_at.Reads as word-at-reads
-use Rattle.run_record.proofs.bad_head.Reads as bad-head-reads
-use Rattle.run_record.proofs.bad_length.Reads as bad-length-reads
-use Rattle.run_record.proofs.head_of.Reads as head-of-reads
-use Rattle.run_record.proofs.rows.bad_chunks.Reads as bad-chunks-reads
 
--- src/lib.rt:79:9
+good : (c : tie.Else3) → Good (c .before .before .head-of .result)
+good c = good-head _ (sym (c .before .bad-head .ensures) ∙ c .if3 .left)
+
 returns : tie.Need-returns
-returns c = search needs
+returns c = too-short _ (c .if1 .taken)
 
--- src/lib.rt:81:8
-word-at-requires : tie.Need-word-at-requires
-word-at-requires c κs = search needs
-
--- src/lib.rt:82:9
 returns-2 : tie.Need-returns-2
-returns-2 c = search needs
+returns-2 c = no-head _ (c .before .before .if1 .left) _ (c .before .word-at .ensures) (c .if2 .taken)
 
--- src/lib.rt:84:9
-head-of-requires : tie.Need-head-of-requires
-head-of-requires c κs = search needs
-
--- src/lib.rt:85:8
-bad-head-requires : tie.Need-bad-head-requires
-bad-head-requires c κs = search needs
-
--- src/lib.rt:86:9
 returns-3 : tie.Need-returns-3
-returns-3 c = search needs
+returns-3 c =
+    head-bad _ (c .before .before .before .before .before .if1 .left) _ (c .before .before .before .before .word-at .ensures) (c .before .before .before .if2 .left)
+    (ap badHead (sym (c .before .before .head-of .ensures)) ∙ sym (c .before .bad-head .ensures) ∙ c .if3 .taken)
 
--- src/lib.rt:90:19
 sub-chunks : tie.Need-sub-chunks
-sub-chunks c = search needs
+sub-chunks c = good (c .before) .range
 
--- src/lib.rt:91:40
 mul-bad-length : tie.Need-mul-bad-length
-mul-bad-length c = search needs
+mul-bad-length c = record { fits = omega (arith, few-rows _ (good (c .before))) }
 
--- src/lib.rt:91:8
 bad-length-requires : tie.Need-bad-length-requires
-bad-length-requires c κs = search needs
+bad-length-requires c κs = (c .before .before .before .before .before .before .if1 .left, few-rows _ (good (c .before)))
 
--- src/lib.rt:92:9
 returns-4 : tie.Need-returns-4
-returns-4 c = search needs
+returns-4 c =
+    let e = c .before .before .before .before .before .head-of .ensures in
+    length-bad _ (c .before .before .before .before .before .before .before .before .if1 .left) _ (c .before .before .before .before .before .before .before .word-at .ensures) (c .before .before .before .before .before .before .if2 .left)
+    (ap badHead (sym e) ∙ sym (c .before .before .before .before .bad-head .ensures) ∙ c .before .before .before .if3 .left)
+    (ap (λ (h : Head). not (eqb (length (c .before .before .before .before .before .before .before .before .before .before .args .bytes .now)) (recordLength h))) (sym e) ∙ sym (c .before .bad-length .ensures) ∙ c .if4 .taken)
 
--- src/lib.rt:95:9
+-- what is left to tell is told by the rows
+left : (c : tie.Else4) → let bytes = c .before .before .before .before .before .before .before .before .before .before .args .bytes .now in not (badRows bytes (c .before .before .before .before .before .head-of .result)) ≡ not (badRecord bytes)
+left c =
+    let e = c .before .before .before .before .before .head-of .ensures in
+    ap (λ (h : Head). not (badRows (c .before .before .before .before .before .before .before .before .before .before .args .bytes .now) h)) e
+    ∙ by-rows _ (c .before .before .before .before .before .before .before .before .if1 .left) _ (c .before .before .before .before .before .before .before .word-at .ensures) (c .before .before .before .before .before .before .if2 .left)
+    (ap badHead (sym e) ∙ sym (c .before .before .before .before .bad-head .ensures) ∙ c .before .before .before .if3 .left)
+    (ap (λ (h : Head). not (eqb (length (c .before .before .before .before .before .before .before .before .before .before .args .bytes .now)) (recordLength h))) (sym e) ∙ sym (c .before .bad-length .ensures) ∙ c .if4 .left)
+
+-- and all of them lie in the bytes
+exact : (c : tie.Else4) → length (c .before .before .before .before .before .before .before .before .before .before .args .bytes .now) ≡ recordLength (c .before .before .before .before .before .head-of .result)
+exact c = eqb-true _ _ (not-false _ (sym (c .before .bad-length .ensures) ∙ c .if4 .left))
+
 returns-5 : tie.Need-returns-5
-returns-5 c = search needs
+returns-5 c =
+    let h = c .before .before .before .before .before .before .head-of .result in
+    let z : chunksOf h * perChunk h ≡ 0 = omega (arith, exact (c .before), c .if5 .taken) in
+    sym (ap not (no-rows (c .before .before .before .before .before .before .before .before .before .before .before .args .bytes .now) h z)) ∙ left (c .before)
 
--- src/lib.rt:97:6
 bad-chunks-requires : tie.Need-bad-chunks-requires
-bad-chunks-requires c κs = search needs
+bad-chunks-requires c κs =
+    let bytes = c .before .before .before .before .before .before .before .before .before .before .before .args .bytes .now in
+    let h = c .before .before .before .before .before .before .head-of .result in
+    let e = c .before .before .before .before .before .before .head-of .ensures in
+    let g = good (c .before .before .before .before) in
+    let b : Bytes bytes = λ i. c .before .before .before .before .before .before .before .before .before .before .shared-slice-known .given i .fits in
+    record {
+      long = omega (arith, exact (c .before));
+      range = omega (arith, g .range, end-fits bytes h e b (c .before .before .before .before .before .before .before .before .before .if1 .left));
+      few-samples = few-named bytes h e b (c .before .before .before .before .before .before .before .before .before .if1 .left);
+      few-betas = g .betas;
+      few-pairs = g .pairs;
+    }
 
--- src/lib.rt:75:1
 returns-6 : tie.Need-returns-6
-returns-6 c = search needs
+returns-6 c = ap not (c .bad-chunks .ensures) ∙ left (c .before .before)
 
 pub is-record-spec : {M : Type 1} → statement M
 is-record-spec =
     tie.close
     (tie.spec
-    returns
-    word-at-requires
-    returns-2
-    head-of-requires
-    bad-head-requires
-    returns-3
-    sub-chunks
-    mul-bad-length
-    bad-length-requires
-    returns-4
-    returns-5
-    bad-chunks-requires
-    returns-6)
+    returns (λ c κs. search needs) returns-2 (λ c κs. search needs) (λ c κs. search needs) returns-3 sub-chunks mul-bad-length bad-length-requires
+    returns-4 returns-5 bad-chunks-requires returns-6)

@@ -2,8 +2,8 @@
 use mathlib.Core.Path.{_≡_, refl, sym, ap, _∙_}
 use mathlib.Core.Bool.{Bool, true, false, not, _||_}
 use mathlib.Core.List.{List}
-use Prim.Native.Nat.{ℕ, _+_, _*_, _-_, _/_, _≤_, _<_}
-use native.Mathlib.Nat.{zero-mul, div-lt-iff-lt-mul}
+use Prim.Native.Nat.{ℕ, _+_, _*_, _-_, _/_, _^_, _≤_, _<_}
+use native.Mathlib.Nat.{zero-mul, div-lt-iff-lt-mul, mul-le-mul}
 use native.Mathlib.Decide.{decLt}
 use native.Mathlib.Omega.{arith}
 use borrow.Author.Tests.{lt-ltb, le-ltb, eq-eqb, ne-eqb, eqb-true, eqb-false, ltb-false, not-false}
@@ -11,7 +11,8 @@ use lib.Dec.{eqb, ltb}
 use lib.ListN.{length}
 use Rattle.limits.specs.Limits.{mostBetas, mostPairs, mostSamples, mostNamed}
 use Rattle.list_laws.specs.Laws.Search.{or-false}
-use Rattle.little_endian.specs.Words.{wordAt}
+use Rattle.little_endian.specs.Words.{Bytes, wordAt}
+use Rattle.little_endian.specs.Laws.Words.{word-at-below}
 use Rattle.refusals.specs.Request.{tooManyChunks}
 use Rattle.run_record.specs.declared.Head.{Head}
 use Rattle.run_record.specs.Records.{perChunk, chunksOf, recordLength}
@@ -101,8 +102,25 @@ good-head h e =
 pub head-good : (h : Head) → Good h → badHead h ≡ false
 unfolding badHead
 head-good h g =
-    rw (le-ltb mostBetas (h .betas) (g .betas), le-ltb mostPairs (h .pairs) (g .pairs), le-ltb (h .end) (h .start) (g .range),
-    le-ltb mostSamples (chunksOf h * h .samples) (g .samples))
+    rw (
+      le-ltb mostBetas (h .betas) (g .betas),
+      le-ltb mostPairs (h .pairs) (g .pairs),
+      le-ltb (h .end) (h .start) (g .range),
+      le-ltb mostSamples (chunksOf h * h .samples) (g .samples),
+    )
+
+pub few-rows : (h : Head) → Good h → perChunk h ≤ 16384
+few-rows h g = mul-le-mul (g .betas) (g .pairs)
+
+-- samples have four bytes
+pub few-named : (bytes : List ℕ) (h : Head) → h ≡ headOf bytes → Bytes bytes → 32 ≤ length bytes → h .samples ≤ mostNamed
+unfolding headOf
+few-named bytes h e b l = let q = word-at-below bytes 25 4 b (omega arith) in let z : h .samples ≡ wordAt bytes 25 4 = ap (λ (x : Head). x .samples) e in omega arith
+
+-- so have chunk numbers eight
+pub end-fits : (bytes : List ℕ) (h : Head) → h ≡ headOf bytes → Bytes bytes → 32 ≤ length bytes → h .end < 2 ^ 64
+unfolding headOf
+end-fits bytes h e b l = let q = word-at-below bytes 17 8 b (omega arith) in let z : h .end ≡ wordAt bytes 17 8 = ap (λ (x : Head). x .end) e in omega arith
 
 -- ---- a length
 

@@ -60,9 +60,11 @@ returns c =
 
 loop-again : tie.Need-loop-again Inv-loop μ-loop
 loop-again c =
-    let a = c .before .before .before .before .before .args in
-    (omega arith, miss (badPair (a .bytes .now) (a .start) (a .samples) (a .betas) (a .pairs) (a .chunk) (a .beta)) (c .before .before .before .loop .p) (c .before .before .before .loop .inv .1) _
-    (c .before .bad-row .ensures) (c .if1 .left))
+    let a = c .before .before .before .before .before .args in (
+      omega arith,
+      miss (badPair (a .bytes .now) (a .start) (a .samples) (a .betas) (a .pairs) (a .chunk) (a .beta)) (c .before .before .before .loop .p) (c .before .before .before .loop .inv .1) _
+          (c .before .bad-row .ensures) (c .if1 .left),
+    )
 
 returns-2 : tie.Need-returns-2 Inv-loop μ-loop
 returns-2 c =

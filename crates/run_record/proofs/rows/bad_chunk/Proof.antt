@@ -30,9 +30,11 @@ returns c =
 
 loop-again : tie.Need-loop-again Inv-loop μ-loop
 loop-again c =
-    let a = c .before .before .before .before .before .args in
-    (omega arith, miss (badBeta (a .bytes .now) (a .start) (a .samples) (a .betas) (a .pairs) (a .chunk)) (c .before .before .before .loop .b) (c .before .before .before .loop .inv .1) _
-    (c .before .bad-beta .ensures) (c .if1 .left))
+    let a = c .before .before .before .before .before .args in (
+      omega arith,
+      miss (badBeta (a .bytes .now) (a .start) (a .samples) (a .betas) (a .pairs) (a .chunk)) (c .before .before .before .loop .b) (c .before .before .before .loop .inv .1) _
+          (c .before .bad-beta .ensures) (c .if1 .left),
+    )
 
 returns-2 : tie.Need-returns-2 Inv-loop μ-loop
 returns-2 c =

@@ -34,9 +34,11 @@ returns c =
 
 loop-again : tie.Need-loop-again Inv-loop μ-loop
 loop-again c =
-    let a = c .before .before .before .before .before .args in
-    (omega arith, miss (badChunk (a .bytes .now) (a .start) (a .samples) (a .betas) (a .pairs)) (c .before .before .before .loop .c) (c .before .before .before .loop .inv .1) _
-    (c .before .bad-chunk .ensures) (c .if1 .left))
+    let a = c .before .before .before .before .before .args in (
+      omega arith,
+      miss (badChunk (a .bytes .now) (a .start) (a .samples) (a .betas) (a .pairs)) (c .before .before .before .loop .c) (c .before .before .before .loop .inv .1) _
+          (c .before .bad-chunk .ensures) (c .if1 .left),
+    )
 
 returns-2 : tie.Need-returns-2 Inv-loop μ-loop
 returns-2 c =
