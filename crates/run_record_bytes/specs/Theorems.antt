@@ -17,7 +17,7 @@ use Rattle.little_endian.specs.Laws.Rows.{stand-all, stand-whole}
 use Rattle.run_record.specs.declared.Head.{Head}
 use Rattle.run_record.specs.Records.{headBytes, rowBytes, recordOf, recordLength, chunksOf, perChunk}
 use Rattle.run_record.specs.Reading.{headOf, rowPlace, doubleAt, squaresIn, fourthsIn, badSums, badHead, badRowAt, badPair, badBeta, badChunk, badRows, badRecord}
-use Rattle.run_record.specs.Laws.Cases.{Good, good-head, head-good, by-sums}
+use Rattle.run_record.specs.Laws.Cases.{head-good, by-sums, Passed, passed}
 use Rattle.run_record.specs.Laws.Places.{row-inside}
 use Rattle.run_record_bytes.specs.Described.{Sums, Described}
 use Rattle.run_record_bytes.specs.Laws.Fields.{HeadRead, RowRead, kind-byte, head-stands, row-stands-at, head-read, row-read}
@@ -25,29 +25,6 @@ use Rattle.run_record_bytes.specs.Laws.Rows.{split, record-length, all-s
 use Rattle.run_record_bytes.specs.Laws.Sums.{sums-good, sums-of, squares-bits, fourths-bits, bits-fit, same-double}
 
 -- ---- what passed
-
--- what each test says where the record passes
-record Passed (bytes : List ℕ) : Type 0 where
-  long : 32 ≤ length bytes
-  kind : wordAt bytes 0 1 ≡ 17
-  good : Good (headOf bytes)
-  exact : length bytes ≡ recordLength (headOf bytes)
-  rows : badRows bytes (headOf bytes) ≡ false
-
-passed : (bytes : List ℕ) → badRecord bytes ≡ false → Passed bytes
-unfolding badRecord
-passed bytes e =
-    let x₄ = or-false _ (badRows bytes (headOf bytes)) e in
-    let x₃ = or-false _ (not (eqb (length bytes) (recordLength (headOf bytes)))) (x₄ .0) in
-    let x₂ = or-false _ (badHead (headOf bytes)) (x₃ .0) in
-    let x₁ = or-false (ltb (length bytes) 32) (not (eqb (wordAt bytes 0 1) 17)) (x₂ .0) in
-    record {
-      long = ltb-false _ _ (x₁ .0);
-      kind = eqb-true _ _ (not-false _ (x₁ .1));
-      good = good-head _ (x₂ .1);
-      exact = eqb-true _ _ (not-false _ (x₃ .1));
-      rows = x₄ .1;
-    }
 
 record RowPassed (bytes : List ℕ) (place chunk beta pair samples : ℕ) : Type 0 where
   kind : wordAt bytes place 1 ≡ 18

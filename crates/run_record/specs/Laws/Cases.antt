@@ -164,3 +164,26 @@ module _ (bytes : List ℕ) where
         pub by-rows : not (eqb (length bytes) (recordLength (headOf bytes))) ≡ false → not (badRows bytes (headOf bytes)) ≡ not (badRecord bytes)
         unfolding badRecord
         by-rows m = rw (le-ltb (length bytes) 32 l, ← e, eq-eqb kind 17 s, b, m)
+
+-- what each test says where the record passes
+pub record Passed (bytes : List ℕ) : Type 0 where
+  pub long : 32 ≤ length bytes
+  pub kind : wordAt bytes 0 1 ≡ 17
+  pub good : Good (headOf bytes)
+  pub exact : length bytes ≡ recordLength (headOf bytes)
+  pub rows : badRows bytes (headOf bytes) ≡ false
+
+pub passed : (bytes : List ℕ) → badRecord bytes ≡ false → Passed bytes
+unfolding badRecord
+passed bytes e =
+    let x₄ = or-false _ (badRows bytes (headOf bytes)) e in
+    let x₃ = or-false _ (not (eqb (length bytes) (recordLength (headOf bytes)))) (x₄ .0) in
+    let x₂ = or-false _ (badHead (headOf bytes)) (x₃ .0) in
+    let x₁ = or-false (ltb (length bytes) 32) (not (eqb (wordAt bytes 0 1) 17)) (x₂ .0) in
+    record {
+      long = ltb-false _ _ (x₁ .0);
+      kind = eqb-true _ _ (not-false _ (x₁ .1));
+      good = good-head _ (x₂ .1);
+      exact = eqb-true _ _ (not-false _ (x₃ .1));
+      rows = x₄ .1;
+    }

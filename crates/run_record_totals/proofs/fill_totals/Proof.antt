@@ -1,64 +1,47 @@
+-- The first k totals are written.
 use borrow.Author.Needs.{needs}
+use native.Mathlib.Omega.{arith}
+use mathlib.Core.Path.{_≡_, refl}
+use Prim.Native.Nat.{_*_, _-_, _≤_}
+use lib.ListN.{length}
+use Rattle.list_laws.specs.Front.{over}
+use Rattle.list_laws.specs.Tabulate.{tabulate}
+use Rattle.little_endian.specs.Laws.Loaded.{loaded-none, loaded-more, loaded-length, loaded-all}
+use Rattle.run_record_totals.specs.Totals.{columnSum}
 use Rattle.run_record_totals.proofs.fill_totals.Statement.{statement}
 use Rattle.run_record_totals.proofs.fill_totals.Tie as tie
-use Rattle.run_record_totals.proofs.fill_totals.Reads as reads
-use Rattle.run_record_totals.proofs.fill_totals.Lts as lts
-use Rattle.run_record_totals.proofs.column_sum.Reads as column-sum-reads
 
 abbrev Inv-loop : tie.InvT-loop
-Inv-loop bytes chunks offset totals₀ per k₀ totals k = ?
+Inv-loop bytes chunks offset totals₀ per k₀ totals k =
+    (totals ≡ over (tabulate (columnSum bytes (length totals₀) chunks offset) k) totals₀) × (k ≤ length totals₀) × (length totals ≡ length totals₀)
 
 abbrev μ-loop : tie.MeasureT-loop
-μ-loop bytes chunks offset totals₀ per k₀ totals k = ?
+μ-loop bytes chunks offset totals₀ per k₀ totals k = length totals₀ - k
 
--- src/lib.rt:33:5
 loop-holds : tie.Need-loop-holds Inv-loop μ-loop
-loop-holds c = search needs
+loop-holds c = (loaded-none _ _, omega arith, refl)
 
--- src/lib.rt:34:21
 column-sum-requires : tie.Need-column-sum-requires Inv-loop μ-loop
 column-sum-requires c κs = search needs
 
--- src/lib.rt:34:9
-mul-totals : tie.Need-mul-totals Inv-loop μ-loop
-mul-totals c = search needs
-
--- src/lib.rt:34:9
-slice-write-totals : tie.Need-slice-write-totals Inv-loop μ-loop
-slice-write-totals c = search needs
-
--- src/lib.rt:35:9
-add-k : tie.Need-add-k Inv-loop μ-loop
-add-k c = search needs
-
--- src/lib.rt:33:5
-loop-less : tie.Need-loop-less Inv-loop μ-loop
-loop-less c = search needs
-
--- src/lib.rt:33:5
 loop-again : tie.Need-loop-again Inv-loop μ-loop
-loop-again c = search needs
+loop-again c =
+    let l = c .before .before .loop in
+    let a = c .before .before .before .before .before .args in
+    let next = loaded-more (columnSum (a .bytes .now) (length (a .totals .now)) (a .chunks) (a .offset)) (a .totals .now) _ _ _ (omega arith) (l .inv .0) (c .column-sum .ensures) in
+    (next, omega arith, loaded-length _ _ _ _ (omega arith) next)
 
--- src/lib.rt:27:1
 same-length : tie.Need-same-length Inv-loop μ-loop
-same-length c = search needs
+same-length c = c .before .loop .inv .2
 
--- src/lib.rt:27:1
 returns : tie.Need-returns Inv-loop μ-loop
-returns c = search needs
+returns c =
+    let a = c .before .before .before .before .args in
+    loaded-all (columnSum (a .bytes .now) (length (a .totals .now)) (a .chunks) (a .offset)) (a .totals .now) _ _ (omega arith) (c .before .loop .inv .0)
 
 pub fill-totals-spec : {M : Type 1} → statement M
 fill-totals-spec =
     tie.close
     (tie.spec
-    Inv-loop
-    μ-loop
-    loop-holds
-    column-sum-requires
-    mul-totals
-    slice-write-totals
-    add-k
-    loop-less
-    loop-again
-    same-length
-    returns)
+    Inv-loop μ-loop loop-holds column-sum-requires (λ c. search needs) (λ c. search needs) (λ c. search needs) (λ c. search needs) loop-again
+    same-length returns)
