@@ -1,32 +1,25 @@
-use borrow.Author.Needs.{needs}
+-- By the tests in turn.
+use Rattle.run_record_join.specs.Laws.Cases.{other-seed, other-samples, other-betas, other-pairs, first-ends, by-second}
 use Rattle.run_record_join.proofs.are_apart.Statement.{statement}
 use Rattle.run_record_join.proofs.are_apart.Tie as tie
-use Rattle.run_record_join.proofs.are_apart.Reads as reads
-use Rattle.run_record_join.proofs.are_apart.Lts as lts
 
--- src/lib.rt:17:9
 returns : tie.Need-returns
-returns c = search needs
+returns c = let a = c .before .before .before .args in other-seed (a .g) (a .h) (c .if1 .taken)
 
--- src/lib.rt:20:9
 returns-2 : tie.Need-returns-2
-returns-2 c = search needs
+returns-2 c = let a = c .before .before .before .before .before .before .args in other-samples (a .g) (a .h) (c .before .before .before .if1 .left) (c .if2 .taken)
 
--- src/lib.rt:23:9
 returns-3 : tie.Need-returns-3
-returns-3 c = search needs
+returns-3 c = let a = c .before .before .before .before .before .before .before .before .before .args in other-betas (a .g) (a .h) (c .before .before .before .before .before .before .if1 .left) (c .before .before .before .if2 .left) (c .if3 .taken)
 
--- src/lib.rt:26:9
 returns-4 : tie.Need-returns-4
-returns-4 c = search needs
+returns-4 c = let a = c .before .before .before .before .before .before .before .before .before .before .before .before .args in other-pairs (a .g) (a .h) (c .before .before .before .before .before .before .before .before .before .if1 .left) (c .before .before .before .before .before .before .if2 .left) (c .before .before .before .if3 .left) (c .if4 .taken)
 
--- src/lib.rt:29:9
 returns-5 : tie.Need-returns-5
-returns-5 c = search needs
+returns-5 c = let a = c .before .before .before .before .before .before .before .before .before .before .before .before .before .before .before .args in first-ends (a .g) (a .h) (c .before .before .before .before .before .before .before .before .before .before .before .before .if1 .left) (c .before .before .before .before .before .before .before .before .before .if2 .left) (c .before .before .before .before .before .before .if3 .left) (c .before .before .before .if4 .left) (c .if5 .taken)
 
--- src/lib.rt:13:1
 returns-6 : tie.Need-returns-6
-returns-6 c = search needs
+returns-6 c = let a = c .before .before .before .before .before .before .before .before .before .before .before .before .before .before .before .before .before .args in by-second (a .g) (a .h) (c .before .before .before .before .before .before .before .before .before .before .before .before .before .before .if1 .left) (c .before .before .before .before .before .before .before .before .before .before .before .if2 .left) (c .before .before .before .before .before .before .before .before .if3 .left) (c .before .before .before .before .before .if4 .left) (c .before .before .if5 .left)
 
 pub are-apart-spec : {M : Type 1} → statement M
 are-apart-spec = tie.close (tie.spec returns returns-2 returns-3 returns-4 returns-5 returns-6)

@@ -1,73 +1,52 @@
+-- The first i bytes are copied.
 use borrow.Author.Needs.{needs}
+use native.Mathlib.Omega.{arith}
+use mathlib.Core.Path.{_≡_, refl, ap, _∙_}
+use mathlib.Core.List.{List}
+use Prim.Native.Nat.{ℕ, _+_, _-_, _≤_}
+use lib.ListN.{length, getD, set}
+use Rattle.list_laws.specs.Part.{put}
+use Rattle.list_laws.specs.Tabulate.{tabulate}
+use Rattle.list_laws.specs.Laws.Part.{fill-none, fill-one, fill-length}
+use Rattle.run_record_join.specs.Laws.Copying.{copied}
 use Rattle.run_record_join.proofs.turns.copy_behind.Statement.{statement}
 use Rattle.run_record_join.proofs.turns.copy_behind.Tie as tie
-use Rattle.run_record_join.proofs.turns.copy_behind.Reads as reads
-use Rattle.run_record_join.proofs.turns.copy_behind.Lts as lts
 
 abbrev Inv-loop : tie.InvT-loop
-Inv-loop source from target₀ at count i₀ target i = ?
+Inv-loop source from target₀ at count i₀ target i =
+    (i ≤ length source - from) × (target ≡ put target₀ at (tabulate (λ j. getD source (from + j) 0) i)) × (length target ≡ length target₀)
 
 abbrev μ-loop : tie.MeasureT-loop
-μ-loop source from target₀ at count i₀ target i = ?
+μ-loop source from target₀ at count i₀ target i = length source - from - i
 
--- src/turns.rt:18:17
-sub-count : tie.Need-sub-count Inv-loop μ-loop
-sub-count c = search needs
-
--- src/turns.rt:20:5
 loop-holds : tie.Need-loop-holds Inv-loop μ-loop
-loop-holds c = search needs
+loop-holds c = (omega arith, fill-none _ _ _, refl)
 
--- src/turns.rt:21:33
-add-target : tie.Need-add-target Inv-loop μ-loop
-add-target c = search needs
-
--- src/turns.rt:21:26
-shared-slice-read-target : tie.Need-shared-slice-read-target Inv-loop μ-loop
-shared-slice-read-target c = search needs
-
--- src/turns.rt:21:16
-add-target-2 : tie.Need-add-target-2 Inv-loop μ-loop
-add-target-2 c = search needs
-
--- src/turns.rt:21:9
 slice-write-target : tie.Need-slice-write-target Inv-loop μ-loop
-slice-write-target c = search needs
+slice-write-target c = omega arith
 
--- src/turns.rt:22:9
-add-i : tie.Need-add-i Inv-loop μ-loop
-add-i c = search needs
-
--- src/turns.rt:20:5
-loop-less : tie.Need-loop-less Inv-loop μ-loop
-loop-less c = search needs
-
--- src/turns.rt:20:5
 loop-again : tie.Need-loop-again Inv-loop μ-loop
-loop-again c = search needs
+loop-again c =
+    let a = c .before .before .before .args in
+    let l = c .before .before .loop in
+    let f : ℕ → ℕ = λ j. getD (a .source .now) (a .from + j) 0 in
+    let e = ap (λ (t : List ℕ). set t (a .at + l .i) (f (l .i))) (l .inv .1) ∙ fill-one (a .target .now) (a .at) f (l .i) (f (l .i)) (omega arith) refl in
+    (omega arith, e, ap length e ∙ fill-length (a .target .now) (a .at) f (l .i + 1) (omega arith))
 
--- src/turns.rt:14:1
 same-length : tie.Need-same-length Inv-loop μ-loop
-same-length c = search needs
+same-length c = c .before .loop .inv .2
 
--- src/turns.rt:14:1
 returns : tie.Need-returns Inv-loop μ-loop
-returns c = search needs
+returns c =
+    let a = c .before .before .args in
+    let l = c .before .loop in
+    let f : ℕ → ℕ = λ j. getD (a .source .now) (a .from + j) 0 in
+    let k : l .i ≡ length (a .source .now) - a .from = omega arith in
+    l .inv .1 ∙ ap (λ (n : ℕ). put (a .target .now) (a .at) (tabulate f n)) k ∙ ap (put (a .target .now) (a .at)) (copied (a .source .now) (a .from))
 
 pub copy-behind-spec : {M : Type 1} → statement M
 copy-behind-spec =
     tie.close
     (tie.spec
-    Inv-loop
-    μ-loop
-    sub-count
-    loop-holds
-    add-target
-    shared-slice-read-target
-    add-target-2
-    slice-write-target
-    add-i
-    loop-less
-    loop-again
-    same-length
-    returns)
+    Inv-loop μ-loop (λ c. search needs) loop-holds (λ c. search needs) (λ c. search needs) (λ c. search needs) slice-write-target
+    (λ c. search needs) (λ c. search needs) loop-again same-length returns)
