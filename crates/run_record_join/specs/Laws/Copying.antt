@@ -95,3 +95,9 @@ module _ (a b : List ℕ) (t : Turns a b) where
         let three : put (headWith E′ ++ D ++ X) (length a) (drop 32 b) ≡ headWith E′ ++ D ++ drop 32 b =
         put-last (headWith E′ ++ D) X (drop 32 b) (length a) (longest E′ (bytesOf-length 8 (headOf b .end))) (simp length-drop (omega arith)) in
         ap (λ (l : List ℕ). put (put l 17 E′) (length a) (drop 32 b)) one ∙ ap (λ (l : List ℕ). put l (length a) (drop 32 b)) two ∙ three
+
+-- three puts, one after another
+pub written-by : (a b : List ℕ) (end : ℕ) (j j₁ j₂ j₃ : List ℕ) → j₁ ≡ put j 0 (drop 0 a) → j₂ ≡ put j₁ 17 (bytesOf 8 end) → j₃ ≡ put j₂ (length a) (drop 32 b)
+    → j₃ ≡ written a b end j
+unfolding written
+written-by a b end j j₁ j₂ j₃ e₁ e₂ e₃ = rw (e₃, e₂, e₁)
