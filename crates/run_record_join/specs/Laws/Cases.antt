@@ -1,11 +1,11 @@
 -- A join by its cases, in the order of the checks.
-use mathlib.Core.Path.{_≡_, refl, sym, ap, _∙_}
-use mathlib.Core.Bool.{Bool, true, false, not, _||_}
+use mathlib.Core.Path.{_≡_, refl, sym, ap, subst, _∙_}
+use mathlib.Core.Bool.{Bool, true, false, not, _&&_, _||_}
 use mathlib.Core.List.{List}
 use Prim.Native.Nat.{ℕ, _+_, _-_, _≤_, _<_}
 use native.Mathlib.Omega.{arith}
 use borrow.Author.Tests.{eq-eqb, ne-eqb, eqb-true, not-false, not-true}
-use lib.Dec.{eqb}
+use lib.Dec.{T, eqb}
 use lib.ListN.{length}
 use Rattle.refusals.specs.Request.{tooManyChunks}
 use Rattle.refusals.specs.Answers.{left}
@@ -42,16 +42,71 @@ module _ (g h : Head) where
           pub first-ends : g .end ≡ h .start → false ≡ apart g h
           unfolding apart
           first-ends e =
-              rw (eq-eqb (g .seed) (h .seed) s, eq-eqb (g .samples) (h .samples) m, eq-eqb (g .betas) (h .betas) b, eq-eqb (g .pairs) (h .pairs) p,
-              eq-eqb (g .end) (h .start) e)
+              rw (
+                eq-eqb (g .seed) (h .seed) s,
+                eq-eqb (g .samples) (h .samples) m,
+                eq-eqb (g .betas) (h .betas) b,
+                eq-eqb (g .pairs) (h .pairs) p,
+                eq-eqb (g .end) (h .start) e,
+              )
 
           pub by-second : (g .end ≡ h .start → ⊥) → not (eqb (h .end) (g .start)) ≡ apart g h
           unfolding apart
           by-second e =
-              rw (eq-eqb (g .seed) (h .seed) s, eq-eqb (g .samples) (h .samples) m, eq-eqb (g .betas) (h .betas) b, eq-eqb (g .pairs) (h .pairs) p,
-              ne-eqb (g .end) (h .start) e)
+              rw (
+                eq-eqb (g .seed) (h .seed) s,
+                eq-eqb (g .samples) (h .samples) m,
+                eq-eqb (g .betas) (h .betas) b,
+                eq-eqb (g .pairs) (h .pairs) p,
+                ne-eqb (g .end) (h .start) e,
+              )
+
+and-true : (a b : Bool) → (a && b) ≡ true → (a ≡ true) × (b ≡ true)
+and-true true b h = (refl, h)
+and-true false b h = absurd (subst T (sym h) tt)
+
+-- what two heads have that are not apart
+pub record Together (g h : Head) : Type 0 where
+  pub seed : g .seed ≡ h .seed
+  pub samples : g .samples ≡ h .samples
+  pub betas : g .betas ≡ h .betas
+  pub pairs : g .pairs ≡ h .pairs
+  pub meet : (follows g h || follows h g) ≡ true
+
+pub together : (g h : Head) → apart g h ≡ false → Together g h
+unfolding apart
+together g h e =
+    let x₄ = and-true _ (follows g h || follows h g) (not-false _ e) in
+    let x₃ = and-true _ (eqb (g .pairs) (h .pairs)) (x₄ .0) in
+    let x₂ = and-true _ (eqb (g .betas) (h .betas)) (x₃ .0) in
+    let x₁ = and-true (eqb (g .seed) (h .seed)) (eqb (g .samples) (h .samples)) (x₂ .0) in
+    record {
+      seed = eqb-true _ _ (x₁ .0);
+      samples = eqb-true _ _ (x₁ .1);
+      betas = eqb-true _ _ (x₂ .1);
+      pairs = eqb-true _ _ (x₃ .1);
+      meet = x₄ .1;
+    }
+
+-- where the first does not come first, the second does
+pub otherwise : (g h : Head) → Together g h → follows g h ≡ false → h .end ≡ g .start
+otherwise g h t n = eqb-true _ _ (rw n at (t .meet))
+
+-- in either order
+module _ (one two : List ℕ) (p : badRecord one ≡ false) (q : badRecord two ≡ false) (n : apart (headOf one) (headOf two) ≡ false) where
+  pub in-turn : headOf one .end ≡ headOf two .start → Turns one two
+  in-turn e = let t = together (headOf one) (headOf two) n in record { first = p; second = q; betas = t .betas; pairs = t .pairs; meet = e }
+
+  pub turned : (headOf one .end ≡ headOf two .start → ⊥) → Turns two one
+  turned e =
+      let t = together (headOf one) (headOf two) n in
+      record { first = q; second = p; betas = sym (t .betas); pairs = sym (t .pairs); meet = otherwise (headOf one) (headOf two) t (ne-eqb _ _ e) }
 
 -- ---- 11 and 12
+
+pub many-of : (a b : List ℕ) (g h : Head) → g ≡ headOf a → h ≡ headOf b
+    → tooManyChunks (headOf a .start) (headOf b .end) (headOf a .samples) ≡ tooManyChunks (g .start) (h .end) (g .samples)
+many-of a b g h e f = rw (e, f)
 
 module _ (a b : List ℕ) (joined : ℕ) where
   pub over-11 : tooManyChunks (headOf a .start) (headOf b .end) (headOf a .samples) ≡ true → 11 ≡ limitsOf a b joined
