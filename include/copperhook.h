@@ -70,8 +70,11 @@ enum copperhook_refusal {
     COPPERHOOK_TESTER_LIMIT = 22,   /* in the tester's calls: the window is above 12, or all signs of over 16 free edges are gone through */
     COPPERHOOK_COUPLINGS = 23,      /* of house factors: the couplings have another length, or one is no multiple of 1/128 from -4 to 4 */
     COPPERHOOK_EDGE_PLACE = 24,     /* of a preview: no edge is at that place; asked right behind 2 */
-    COPPERHOOK_SHARES = 25          /* of shares: no list or over 256, one empty or longer than 2^24, lengths that do not add up to what is
+    COPPERHOOK_SHARES = 25,         /* of shares: no list or over 256, one empty or longer than 2^24, lengths that do not add up to what is
                                        lent, or an entry that is not from -1 to 1 */
+    COPPERHOOK_RECORD = 26,         /* bytes that are not exactly a run record; of a run that is written, its end is below its start or it has
+                                       over 2^32 - 1 samples per chunk: asked right behind 11 */
+    COPPERHOOK_JOIN = 27            /* two run records do not join; asked right behind 26 of either */
 };
 
 /* The most of each that a job may have, and how much a standard pair set and a job sheet take at most. */
@@ -429,6 +432,29 @@ size_t copperhook_sheet_job(const uint8_t *sheet, size_t sheet_len, size_t *n, s
 size_t copperhook_sheet_write(size_t n, size_t floor, const size_t *a, size_t a_len, const size_t *b, size_t b_len, const double *m,
                               size_t m_len, const size_t *us, size_t us_len, const size_t *vs, size_t vs_len, const double *betas,
                               size_t betas_len, uint8_t *sheet, size_t sheet_len, size_t *bytes);
+
+/*
+ * ---- Run records: a sampled run as bytes, little-endian. A head of 32 bytes: kind 17, seed u64, start u64, end u64, samples per chunk u32,
+ * betas u8, pairs u16. Then for each chunk from start up to, and without, end, each beta and each pair, in that nesting, a row of 28 bytes:
+ * kind 18, chunk u64, beta u8, pair u16, the chunk's sum of squares f64 and of fourth powers f64. 32 + 28 chunks betas pairs bytes. A record
+ * has at most 64 betas and 256 pairs, its end is not below its start, samples times chunks are at most 2^32, and of every row
+ * 0 <= fourth powers <= squares <= samples, with no -0.0 (COPPERHOOK_RECORD else).
+ */
+
+/*
+ * One record of two with equal seed, samples, betas and pairs, where one range ends as the other starts; an empty range joins at either end.
+ * `joined` has exactly the joined record's length. Either order of handing them in gives the same bytes and the same refusal.
+ * Refusals: 26 (of either), 27, 11 (of the joined record), 12.
+ */
+size_t copperhook_record_join(const uint8_t *one, size_t one_len, const uint8_t *two, size_t two_len, uint8_t *joined, size_t joined_len);
+
+/*
+ * The totals of a record: at beta * pairs + pair the sums of its chunks, added in their order from zero, and in *count chunks times samples.
+ * `squares` and `fourths` have betas times pairs numbers each.
+ * Refusals: 26, 12.
+ */
+size_t copperhook_record_totals(const uint8_t *record, size_t record_len, double *squares, size_t squares_len, double *fourths,
+                                size_t fourths_len, size_t *count);
 
 /* ---- Strips: w vertices across and l along, free or periodic across. Vertex (x, y), x along and y across, is x * w + y. */
 
