@@ -1,0 +1,3 @@
+-- What the theorems rest on.
+pub mod Rows
+pub mod Joint
