@@ -1,3 +1,4 @@
 -- What the theorems rest on.
 pub mod Rows
 pub mod Joint
+pub mod Accepted
