@@ -2,3 +2,4 @@
 pub mod Rows
 pub mod Joint
 pub mod Accepted
+pub mod Chained
