@@ -78,8 +78,13 @@ or-turned false false = refl
 pub apart-turned : (g h : Head) → apart g h ≡ apart h g
 unfolding apart
 apart-turned g h =
-    rw (eqb-turned (g .seed) (h .seed), eqb-turned (g .samples) (h .samples), eqb-turned (g .betas) (h .betas), eqb-turned (g .pairs) (h .pairs),
-    or-turned (eqb (g .end) (h .start)) (eqb (h .end) (g .start)))
+    rw (
+      eqb-turned (g .seed) (h .seed),
+      eqb-turned (g .samples) (h .samples),
+      eqb-turned (g .betas) (h .betas),
+      eqb-turned (g .pairs) (h .pairs),
+      or-turned (eqb (g .end) (h .start)) (eqb (h .end) (g .start)),
+    )
 
 same-head : (g h : Head) → g .seed ≡ h .seed → g .start ≡ h .start → g .end ≡ h .end → g .samples ≡ h .samples → g .betas ≡ h .betas → g .pairs ≡ h .pairs → g ≡ h
 same-head g h a b c d e f =
