@@ -4,7 +4,7 @@ use mathlib.Core.Bool.{Bool, true, false, not, cond, _||_}
 use mathlib.Core.List.{List, [], _++_, append-assoc, append-nil}
 use Prim.Native.Nat.{ℕ, _+_, _*_, _≤_, _<_}
 use native.Mathlib.Omega.{arith}
-use borrow.Author.Tests.{eqb-true, eqb-false}
+use borrow.Author.Tests.{eqb-false, eq-eqb, le-ltb}
 use lib.Dec.{eqb}
 use lib.Ieee.{Float}
 use lib.ListN.{length, drop}
@@ -16,15 +16,17 @@ use Rattle.little_endian.specs.Words.{Bytes}
 use Rattle.transfer_matrix.specs.Arithmetic.{sum}
 use Rattle.transfer_matrix.specs.Rounded.{ieee}
 use Rattle.run_record.specs.declared.Head.{Head}
-use Rattle.run_record.specs.Records.{headBytes, recordOf, chunksOf, perChunk}
+use Rattle.run_record.specs.Records.{headBytes, recordLength, chunksOf, perChunk}
 use Rattle.run_record.specs.Reading.{headOf, squaresIn, fourthsIn, badRecord}
+use Rattle.run_record.specs.Laws.Cases.{passed}
 use Rattle.run_record_bytes.specs.Laws.Fields.{head-length}
 use Rattle.run_record_bytes.specs.Theorems.{head-as-written, squares-as-written, fourths-as-written, described-is-accepted}
 use Rattle.run_record_join.specs.Joining.{follows, apart, headOver, inTurn, earlier, later, joinOf, refusedJoin}
 use Rattle.run_record_join.specs.Turns.{Turns}
-use Rattle.run_record_join.specs.Laws.Cases.{together, otherwise}
+use Rattle.run_record_join.specs.Laws.Copying.{head-and-rows}
+use Rattle.run_record_join.specs.Laws.Cases.{together, otherwise, first-ends}
 use Rattle.demands_records.specs.Laws.Joint.{chain, joint, jointSquares, jointFourths, joint-is, joint-described, both-chunks}
-use Rattle.demands_records.specs.Laws.Accepted.{Joins, passes, joins, apart-turned, or-turned, both-empty}
+use Rattle.demands_records.specs.Laws.Accepted.{Joins, passes, joins, apart-turned, or-turned, both-empty, same-head, no-rows-behind}
 
 -- ---- Joining does not depend on the order of handing in:
 
@@ -119,3 +121,47 @@ associative a b c p q r j k =
     ∙ regrouped (headBytes H) (drop 32 a) (drop 32 b) (drop 32 c)
     ∙ ap (λ (l : List ℕ). headBytes H ++ drop 32 a ++ l) (sym (in-turn-rows b c q r k))
     ∙ ap (λ (l : List ℕ). l ++ drop 32 a ++ drop 32 (inTurn b c)) (sym y)
+
+-- ---- Empty ranges
+
+module _ (a b : List ℕ) (p : Bytes a) (q : Bytes b) (j : Joins a b) where
+  -- An empty range before another leaves that as it is,
+  pub empty-first : chunksOf (headOf a) ≡ 0 → inTurn a b ≡ b
+  unfolding inTurn
+  empty-first z =
+      let t = j .turns in
+      let r = passed a (t .first) .good .range in
+      let s : headOf a .start ≡ headOf b .start = omega (arith, t .meet) in
+      let e = same-head (headOver (headOf a) (headOf b)) (headOf b) (j .seed) s refl (j .samples) (t .betas) (t .pairs) in
+      ap (λ (h : Head). headBytes h ++ drop 32 a ++ drop 32 b) e
+      ∙ ap (λ (l : List ℕ). headBytes (headOf b) ++ l ++ drop 32 b) (no-rows-behind a (t .first) z)
+      ∙ ap (λ (l : List ℕ). l ++ drop 32 b) (append-nil (headBytes (headOf b)))
+      ∙ sym (head-and-rows b q (t .second))
+
+  -- and so does one behind it.
+  pub empty-last : chunksOf (headOf b) ≡ 0 → inTurn a b ≡ a
+  unfolding inTurn
+  empty-last z =
+      let t = j .turns in
+      let r = passed b (t .second) .good .range in
+      let s : headOf b .end ≡ headOf a .end = omega (arith, t .meet) in
+      let e = same-head (headOver (headOf a) (headOf b)) (headOf a) refl refl s refl refl refl in
+      ap (λ (h : Head). headBytes h ++ drop 32 a ++ drop 32 b) e
+      ∙ ap (λ (l : List ℕ). headBytes (headOf a) ++ drop 32 a ++ l) (no-rows-behind b (t .second) z)
+      ∙ append-nil (headBytes (headOf a) ++ drop 32 a)
+      ∙ sym (head-and-rows a p (t .first))
+
+-- Two equal empty ones join to themselves, whatever list fits one of them.
+module _ (a : List ℕ) (p : Bytes a) (good : badRecord a ≡ false) (z : chunksOf (headOf a) ≡ 0) where
+  meets : headOf a .end ≡ headOf a .start
+  meets = let r = passed a good .good .range in omega arith
+
+  pub empty-twice : refusedJoin a a (length a) ≡ 0
+  empty-twice =
+      rw (good, sym (first-ends (headOf a) (headOf a) refl refl refl refl meets), eq-eqb (headOf a .end) (headOf a .start) meets,
+      le-ltb (headOf a .start) (headOf a .end) (omega (arith, meets)), eq-eqb (length a) (recordLength (headOf a)) (passed a good .exact))
+
+  pub empty-with-itself : joinOf a a ≡ a
+  empty-with-itself =
+      let j = joins a a (length a) empty-twice in
+      rw (eq-eqb (headOf a .end) (headOf a .start) meets) (empty-last a a p p (rw (eq-eqb (headOf a .end) (headOf a .start) meets) at j) z)

@@ -86,17 +86,19 @@ apart-turned g h =
       or-turned (eqb (g .end) (h .start)) (eqb (h .end) (g .start)),
     )
 
-same-head : (g h : Head) → g .seed ≡ h .seed → g .start ≡ h .start → g .end ≡ h .end → g .samples ≡ h .samples → g .betas ≡ h .betas → g .pairs ≡ h .pairs → g ≡ h
+pub same-head : (g h : Head) → g .seed ≡ h .seed → g .start ≡ h .start → g .end ≡ h .end → g .samples ≡ h .samples → g .betas ≡ h .betas → g .pairs ≡ h .pairs → g ≡ h
 same-head g h a b c d e f =
     let x : _≡_ {A = Head} (record { seed = g .seed; start = g .start; end = g .end; samples = g .samples; betas = g .betas; pairs = g .pairs })
     (record { seed = h .seed; start = h .start; end = h .end; samples = h .samples; betas = h .betas; pairs = h .pairs }) = rw (a, b, c, d, e, f) in
     x
 
--- a record without rows is its head
+-- a record of no chunk has no rows
+pub no-rows-behind : (a : List ℕ) → badRecord a ≡ false → chunksOf (headOf a) ≡ 0 → drop 32 a ≡ []
+no-rows-behind a g z = let l : length a ≡ 32 = passed a g .exact ∙ rw z (omega arith) in drop-of-length-le a {i = 32} (omega arith)
+
+-- so it is its head
 pub head-alone : (a : List ℕ) → Bytes a → badRecord a ≡ false → chunksOf (headOf a) ≡ 0 → a ≡ headBytes (headOf a) ++ []
-head-alone a b g z =
-    let l : length a ≡ 32 = passed a g .exact ∙ rw z (omega arith) in
-    head-and-rows a b g ∙ ap (λ (r : List ℕ). headBytes (headOf a) ++ r) (drop-of-length-le a {i = 32} (omega arith))
+head-alone a b g z = head-and-rows a b g ∙ ap (λ (r : List ℕ). headBytes (headOf a) ++ r) (no-rows-behind a g z)
 
 module _ (one two : List ℕ) (b₁ : Bytes one) (b₂ : Bytes two) where
   -- ranges that meet at both ends are one empty range
