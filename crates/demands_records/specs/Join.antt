@@ -1,20 +1,15 @@
 -- What joining two run records gives.
-use mathlib.Core.Path.{_≡_, refl, sym, ap, subst, _∙_}
-use mathlib.Core.Bool.{Bool, true, false, not, cond, _||_}
-use mathlib.Core.List.{List, [], _++_, append-assoc, append-nil}
-use Prim.Native.Nat.{ℕ, _+_, _*_, _≤_, _<_}
+use mathlib.Core.Path.{_≡_, refl, sym, ap, _∙_}
+use mathlib.Core.Bool.{Bool, true, false, cond}
+use mathlib.Core.List.{List, _++_, append-assoc, append-nil}
+use Prim.Native.Nat.{ℕ, _+_, _<_}
 use native.Mathlib.Omega.{arith}
 use borrow.Author.Tests.{eqb-false, eq-eqb, le-ltb}
 use lib.Dec.{eqb}
-use lib.Ieee.{Float}
 use lib.ListN.{length, drop}
 use lib.Seq.{drop-at}
-use Rattle.list_laws.specs.Tabulate.{tabulate}
-use Rattle.list_laws.specs.Laws.Tabulate.{tabulate-ext}
 use Rattle.list_laws.specs.Laws.Search.{or-false}
 use Rattle.little_endian.specs.Words.{Bytes}
-use Rattle.transfer_matrix.specs.Arithmetic.{sum}
-use Rattle.transfer_matrix.specs.Rounded.{ieee}
 use Rattle.run_record.specs.declared.Head.{Head}
 use Rattle.run_record.specs.Records.{headBytes, recordLength, chunksOf, perChunk}
 use Rattle.run_record.specs.Reading.{headOf, squaresIn, fourthsIn, badRecord}
@@ -22,7 +17,6 @@ use Rattle.run_record.specs.Laws.Cases.{passed}
 use Rattle.run_record_bytes.specs.Laws.Fields.{head-length}
 use Rattle.run_record_bytes.specs.Theorems.{head-as-written, squares-as-written, fourths-as-written, described-is-accepted}
 use Rattle.run_record_join.specs.Joining.{follows, apart, headOver, inTurn, earlier, later, joinOf, refusedJoin}
-use Rattle.run_record_join.specs.Turns.{Turns}
 use Rattle.run_record_join.specs.Laws.Copying.{head-and-rows}
 use Rattle.run_record_join.specs.Laws.Cases.{together, otherwise, first-ends}
 use Rattle.demands_records.specs.Laws.Joint.{chain, joint, jointSquares, jointFourths, joint-is, joint-described, both-chunks}
@@ -101,9 +95,21 @@ module _ (a b : List ℕ) (p : Bytes a) (q : Bytes b) (j : Joins a b) where
 
 -- ---- An accepted call joins the earlier record to the later one.
 
-module _ (one two : List ℕ) (n : ℕ) (accepted : refusedJoin one two n ≡ 0) where
+module _ (one two : List ℕ) (b₁ : Bytes one) (b₂ : Bytes two) (n : ℕ) (accepted : refusedJoin one two n ≡ 0) where
   pub accepted-joins : Joins (earlier one two) (later one two)
   accepted-joins = joins one two n accepted
+
+  either-bytes : (u : Bool) → Bytes (cond u one two) × Bytes (cond u two one)
+  either-bytes true = (b₁, b₂)
+  either-bytes false = (b₂, b₁)
+
+  -- What it leaves passes 26,
+  pub joined-passes : badRecord (joinOf one two) ≡ false
+  joined-passes = let b = either-bytes (follows (headOf one) (headOf two)) in in-turn-passes (earlier one two) (later one two) (b .0) (b .1) accepted-joins
+
+  -- and has the head of both ranges.
+  pub joined-head : headOf (joinOf one two) ≡ headOver (headOf (earlier one two)) (headOf (later one two))
+  joined-head = let b = either-bytes (follows (headOf one) (headOf two)) in in-turn-head (earlier one two) (later one two) (b .0) (b .1) accepted-joins
 
 -- ---- Joining three in turn gives the same bytes in either way:
 
@@ -158,8 +164,13 @@ module _ (a : List ℕ) (p : Bytes a) (good : badRecord a ≡ false) (z : chunks
 
   pub empty-twice : refusedJoin a a (length a) ≡ 0
   empty-twice =
-      rw (good, sym (first-ends (headOf a) (headOf a) refl refl refl refl meets), eq-eqb (headOf a .end) (headOf a .start) meets,
-      le-ltb (headOf a .start) (headOf a .end) (omega (arith, meets)), eq-eqb (length a) (recordLength (headOf a)) (passed a good .exact))
+      rw (
+        good,
+        sym (first-ends (headOf a) (headOf a) refl refl refl refl meets),
+        eq-eqb (headOf a .end) (headOf a .start) meets,
+        le-ltb (headOf a .start) (headOf a .end) (omega (arith, meets)),
+        eq-eqb (length a) (recordLength (headOf a)) (passed a good .exact),
+      )
 
   pub empty-with-itself : joinOf a a ≡ a
   empty-with-itself =

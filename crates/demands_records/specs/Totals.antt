@@ -1,19 +1,16 @@
 -- What the totals of an accepted run record are: exact, counted, and bounded.
-use mathlib.Core.Path.{_≡_, refl, sym, ap, subst, _∙_}
-use mathlib.Core.Bool.{Bool, true, false, not, cond, _||_}
-use mathlib.Core.List.{List, _++_}
-use Prim.Native.Nat.{ℕ, _+_, _*_, _-_, _^_, _≤_, _<_}
-use native.Mathlib.Nat.{le-trans, le-of-eq}
+use mathlib.Core.Path.{_≡_, refl, ap, _∙_}
+use mathlib.Core.Bool.{Bool, true, false, cond}
+use mathlib.Core.List.{List}
+use Prim.Native.Nat.{ℕ, _+_, _*_, _-_, _<_}
 use native.Mathlib.Omega.{arith}
 use lib.Ieee.{Float, nan, binary64}
 use lib.ListN.{length, getD}
-use Rattle.limits.specs.Limits.{mostSamples}
-use Rattle.list_laws.specs.Tabulate.{tabulate}
 use Rattle.list_laws.specs.Laws.Tabulate.{tabulate-at, tabulate-ext}
 use Rattle.little_endian.specs.Words.{Bytes}
 use Rattle.rounding.specs.Powers.{Ordered}
-use Rattle.rounding.specs.Laws.Sums.{total, tally, tally-const}
-use Rattle.rounding.specs.Laws.Powers.{Chained, ordered, chained-total}
+use Rattle.rounding.specs.Laws.Sums.{tally-const}
+use Rattle.rounding.specs.Laws.Powers.{ordered, chained-total}
 use Rattle.transfer_matrix.specs.Arithmetic.{sum}
 use Rattle.transfer_matrix.specs.Rounded.{ieee}
 use Rattle.bounds.specs.Laws.Pairs.{sum-is}
@@ -26,8 +23,8 @@ use Rattle.run_record.specs.Records.{chunksOf, perChunk}
 use Rattle.run_record.specs.Reading.{headOf, squaresIn, fourthsIn, badRecord}
 use Rattle.run_record_bytes.specs.Described.{Described}
 use Rattle.run_record_bytes.specs.Theorems.{accepted-is-described}
-use Rattle.run_record_totals.specs.Totals.{totalsOf, totalSquares, totalFourths, recordCount, refusedTotals, Totalled}
-use Rattle.run_record_join.specs.Joining.{headOver, inTurn}
+use Rattle.run_record_totals.specs.Totals.{totalsOf, totalSquares, totalFourths, refusedTotals, Totalled}
+use Rattle.run_record_join.specs.Joining.{inTurn}
 use Rattle.demands_records.specs.Join.{in-turn-head, in-turn-squares, in-turn-fourths}
 use Rattle.demands_records.specs.Laws.Joint.{chain, both-chunks}
 use Rattle.demands_records.specs.Laws.Accepted.{Joins}

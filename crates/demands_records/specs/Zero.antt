@@ -1,23 +1,20 @@
 -- A record of no samples has no sums.
 use mathlib.Core.Path.{_≡_, refl, sym, ap, subst, _∙_}
-use mathlib.Core.Bool.{Bool, true, false}
+use mathlib.Core.Bool.{true, false}
 use mathlib.Core.List.{List}
 use Prim.Native.Nat.{ℕ, zero, suc, _+_, _*_, _-_, _/_, _^_, _≤_, _<_}
 use native.Mathlib.Nat.{zero-mul, zero-div, mul-pos}
 use native.Mathlib.Omega.{arith}
 use lib.Dec.{T}
-use lib.IntN.{ℤ, pos}
+use lib.IntN.{ℤ}
 use lib.Ieee.{Float, nan, inf, fin, binary64, prec, low, up, down, hid, size, fits, ofBits, toBits}
 use lib.Ieee.Bits.{ofBits-toBits}
 use lib.Ieee.Fits.{up-pos}
-use lib.Ieee.Scale.{finite}
 use Rattle.little_endian.specs.Words.{Bytes}
 use Rattle.rounding.specs.Under.{nought}
-use Rattle.rounding.specs.Whole.{whole}
 use Rattle.rounding.specs.Laws.Sign.{notMinus}
 use Rattle.rounding.specs.Laws.Under.{Under, under-trans}
 use Rattle.rounding.specs.Laws.Whole.{whole-nought}
-use Rattle.rounding.specs.Laws.Powers.{Chained}
 use Rattle.estimate.specs.Estimates.{+0·0}
 use Rattle.run_record.specs.Records.{chunksOf, perChunk}
 use Rattle.run_record.specs.Reading.{headOf, squaresIn, fourthsIn, badRecord}

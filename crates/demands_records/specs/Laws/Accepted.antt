@@ -1,11 +1,11 @@
 -- What an accepted join has passed.
-use mathlib.Core.Path.{_≡_, refl, sym, ap, subst, _∙_}
-use mathlib.Core.Bool.{Bool, true, false, not, cond, _||_, _&&_}
+use mathlib.Core.Path.{_≡_, refl, sym, ap, _∙_}
+use mathlib.Core.Bool.{Bool, true, false, not, cond, _||_}
 use mathlib.Core.List.{List, [], _++_}
-use Prim.Native.Nat.{ℕ, _+_, _*_, _-_, _≤_, _<_}
+use Prim.Native.Nat.{ℕ, _+_, _*_, _-_, _≤_}
 use native.Mathlib.Omega.{arith}
-use borrow.Author.Tests.{eqb-true, eqb-false, eq-eqb, ne-eqb, not-false}
-use lib.Dec.{T, eqb}
+use borrow.Author.Tests.{eqb-true, eqb-false, eq-eqb, ne-eqb}
+use lib.Dec.{eqb}
 use lib.ListN.{length, drop, drop-of-length-le}
 use Rattle.limits.specs.Limits.{mostSamples}
 use Rattle.list_laws.specs.Laws.Search.{or-false}
@@ -13,10 +13,10 @@ use Rattle.little_endian.specs.Words.{Bytes}
 use Rattle.refusals.specs.Request.{tooManyChunks}
 use Rattle.refusals.specs.Laws.AcceptedTotals.{few-samples}
 use Rattle.run_record.specs.declared.Head.{Head}
-use Rattle.run_record.specs.Records.{headBytes, recordLength, chunksOf, perChunk}
+use Rattle.run_record.specs.Records.{headBytes, recordLength, chunksOf}
 use Rattle.run_record.specs.Reading.{headOf, badRecord}
 use Rattle.run_record.specs.Laws.Cases.{passed}
-use Rattle.run_record_join.specs.Joining.{follows, apart, headOver, inTurn, earlier, later, joinOf, refusedJoin}
+use Rattle.run_record_join.specs.Joining.{follows, apart, headOver, earlier, later, refusedJoin}
 use Rattle.run_record_join.specs.Turns.{Turns}
 use Rattle.run_record_join.specs.Laws.Copying.{head-and-rows}
 use Rattle.run_record_join.specs.Laws.Cases.{Together, together, in-turn, turned}

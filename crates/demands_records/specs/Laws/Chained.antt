@@ -1,20 +1,19 @@
 -- Sums that 26 lets pass, as the laws of rounding speak of them.
 use mathlib.Core.Path.{_≡_, refl, sym, ap, subst, _∙_}
-use mathlib.Core.Bool.{Bool, true, false, not, _||_, _&&_}
+use mathlib.Core.Bool.{Bool, true, false, _||_, _&&_}
 use mathlib.Core.Logic.{_⊎_, inl, inr}
-use Prim.Native.Nat.{ℕ, zero, suc, _+_, _*_, _-_, _/_, _^_, _≤_, _<_}
+use Prim.Native.Nat.{ℕ, zero, suc, _+_, _*_, _-_, _/_, _^_, _≤_}
 use native.Mathlib.Nat.{zero-mul, zero-div, mul-pos}
 use native.Mathlib.Omega.{arith}
 use borrow.Author.Tests.{ltb-true, eqb-true}
 use lib.Dec.{T, eqb, ltb}
-use lib.IntN.{ℤ, pos}
+use lib.IntN.{ℤ}
 use lib.Ieee.{Float, nan, inf, fin, binary64, prec, low, up, down, hid, top, size, le, lt, eq, ofBits, ofInt, toBits}
 use lib.Ieee.Fits.{up-pos, down-pos}
-use lib.Ieee.Scale.{finite}
 use Rattle.rounding.specs.Under.{nought}
 use Rattle.rounding.specs.Whole.{whole}
 use Rattle.rounding.specs.Laws.Sign.{notMinus, round-notMinus}
-use Rattle.rounding.specs.Laws.Under.{Within, Under}
+use Rattle.rounding.specs.Laws.Under.{Under}
 use Rattle.rounding.specs.Laws.Powers.{Chained}
 use Rattle.estimate.specs.Estimates.{number, +0·0}
 use Rattle.run_record.specs.Reading.{isMinusZero}
