@@ -1,17 +1,14 @@
 -- Records without rows, and heads whose products would wrap in a word.
-use mathlib.Core.Path.{_≡_, refl, sym, ap, _∙_}
+use mathlib.Core.Path.{_≡_, refl}
 use mathlib.Core.Bool.{true, false}
-use mathlib.Core.List.{List, _++_}
-use Prim.Native.Nat.{ℕ, _+_, _*_, _-_, _^_}
+use mathlib.Core.List.{List}
+use Prim.Native.Nat.{ℕ, _*_, _-_, _^_}
 use native.Mathlib.Omega.{arith}
 use borrow.Author.Tests.{le-ltb, eq-eqb}
-use lib.Dec.{eqb}
-use lib.Ieee.{Float, binary64, ofBits, toBits}
 use lib.ListN.{length}
 use Rattle.list_laws.specs.Part.{part}
 use Rattle.list_laws.specs.Tabulate.{tabulate}
 use Rattle.little_endian.specs.Words.{wordAt, bytesOf}
-use Rattle.run_record.specs.declared.Head.{Head}
 use Rattle.run_record.specs.Records.{headBytes, recordLength, chunksOf, perChunk}
 use Rattle.run_record.specs.Reading.{headOf, badHead, badRecord}
 use Rattle.run_record.specs.Laws.Places.{no-rows}

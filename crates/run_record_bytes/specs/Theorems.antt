@@ -1,22 +1,21 @@
 -- 26 accepts exactly what the format describes.
 use mathlib.Core.Path.{_≡_, refl, sym, ap, subst, _∙_}
-use mathlib.Core.Bool.{Bool, true, false, not, _||_}
+use mathlib.Core.Bool.{false, not}
 use mathlib.Core.List.{List}
-use Prim.Native.Nat.{ℕ, _+_, _*_, _-_, _/_, _%_, _^_, _≤_, _<_}
+use Prim.Native.Nat.{ℕ, _+_, _*_, _-_, _/_, _%_, _≤_, _<_}
 use native.Mathlib.Omega.{arith}
-use borrow.Author.Tests.{eqb-true, eq-eqb, le-ltb, ltb-false, not-false}
-use lib.Dec.{eqb, ltb}
+use borrow.Author.Tests.{eqb-true, eq-eqb, le-ltb, not-false}
+use lib.Dec.{eqb}
 use lib.Ieee.{Float, binary64, toBits, ofBits}
 use lib.ListN.{length}
-use Rattle.limits.specs.Limits.{mostBetas, mostPairs}
 use Rattle.list_laws.specs.Laws.Search.{or-false, none-at, none-of}
-use Rattle.little_endian.specs.Words.{Bytes, wordAt, bytesOf}
+use Rattle.little_endian.specs.Words.{Bytes, wordAt}
 use Rattle.little_endian.specs.Rows.{Stand}
 use Rattle.little_endian.specs.Laws.Words.{word-at-below}
 use Rattle.little_endian.specs.Laws.Rows.{stand-all, stand-whole}
 use Rattle.run_record.specs.declared.Head.{Head}
-use Rattle.run_record.specs.Records.{headBytes, rowBytes, recordOf, recordLength, chunksOf, perChunk}
-use Rattle.run_record.specs.Reading.{headOf, rowPlace, doubleAt, squaresIn, fourthsIn, badSums, badHead, badRowAt, badPair, badBeta, badChunk, badRows, badRecord}
+use Rattle.run_record.specs.Records.{rowBytes, recordOf, recordLength, chunksOf, perChunk}
+use Rattle.run_record.specs.Reading.{headOf, rowPlace, doubleAt, squaresIn, fourthsIn, badSums, badRowAt, badPair, badBeta, badChunk, badRecord}
 use Rattle.run_record.specs.Laws.Cases.{head-good, by-sums, Passed, passed}
 use Rattle.run_record.specs.Laws.Places.{row-inside}
 use Rattle.run_record_bytes.specs.Described.{Sums, Described}

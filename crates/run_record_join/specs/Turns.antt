@@ -1,6 +1,6 @@
 -- What a join of records in their order is given, and what it answers.
 use mathlib.Core.Path.{_≡_}
-use mathlib.Core.Bool.{Bool, false, not, cond}
+use mathlib.Core.Bool.{false, not, cond}
 use mathlib.Core.List.{List}
 use Prim.Native.Nat.{ℕ}
 use lib.Dec.{eqb}
@@ -8,7 +8,6 @@ use lib.ListN.{length, drop}
 use Rattle.list_laws.specs.Part.{put}
 use Rattle.little_endian.specs.Words.{bytesOf}
 use Rattle.refusals.specs.Request.{tooManyChunks}
-use Rattle.run_record.specs.declared.Head.{Head}
 use Rattle.run_record.specs.Records.{recordLength}
 use Rattle.run_record.specs.Reading.{headOf, badRecord}
 use Rattle.run_record_join.specs.Joining.{headOver}

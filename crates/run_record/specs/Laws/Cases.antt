@@ -1,6 +1,6 @@
 -- The tests of a row, a head, a length and a record, in their order.
 use mathlib.Core.Path.{_≡_, refl, sym, ap, _∙_}
-use mathlib.Core.Bool.{Bool, true, false, not, _||_}
+use mathlib.Core.Bool.{Bool, true, false, not}
 use mathlib.Core.List.{List}
 use Prim.Native.Nat.{ℕ, _+_, _*_, _-_, _/_, _^_, _≤_, _<_}
 use native.Mathlib.Nat.{zero-mul, div-lt-iff-lt-mul, mul-le-mul}
@@ -17,7 +17,6 @@ use Rattle.refusals.specs.Request.{tooManyChunks}
 use Rattle.run_record.specs.declared.Head.{Head}
 use Rattle.run_record.specs.Records.{perChunk, chunksOf, recordLength}
 use Rattle.run_record.specs.Reading.{headOf, doubleAt, badSums, badHead, badRowAt, badRows, badRecord}
-use Rattle.run_record.specs.Laws.Places.{quotient-bounds}
 
 pub eqb-iff : (a b c d : ℕ) → (a ≡ b → c ≡ d) → (c ≡ d → a ≡ b) → eqb a b ≡ eqb c d
 eqb-iff a b c d f g = go (eqb a b) refl

@@ -1,15 +1,15 @@
 -- The rows of a record: how long they are, and where each stands.
-use mathlib.Core.Path.{_≡_, refl, sym, ap, subst, _∙_}
-use mathlib.Core.List.{List, [], _++_}
-use Prim.Native.Nat.{ℕ, zero, suc, _+_, _*_, _/_, _%_, _≤_, _<_}
+use mathlib.Core.Path.{_≡_, sym, subst, _∙_}
+use mathlib.Core.List.{List, []}
+use Prim.Native.Nat.{ℕ, zero, suc, _+_, _*_, _/_, _%_, _<_}
 use native.Mathlib.Nat.{div-lt-iff-lt-mul, mod-lt, div-add-mod', zero-add}
 use native.Mathlib.Omega.{arith}
 use lib.Ieee.{Float}
 use lib.ListN.{length, length-append}
-use Rattle.little_endian.specs.Rows.{rows, Stand}
+use Rattle.little_endian.specs.Rows.{Stand}
 use Rattle.little_endian.specs.Laws.Rows.{stand-both, stand-left, stand-right, rows-length, rows-stand, row-stands}
 use Rattle.run_record.specs.declared.Head.{Head}
-use Rattle.run_record.specs.Records.{headBytes, rowBytes, betaRows, chunkRows, recordRows, recordOf, recordLength, chunksOf, perChunk}
+use Rattle.run_record.specs.Records.{headBytes, rowBytes, betaRows, chunkRows, recordRows, recordOf, recordLength, chunksOf}
 use Rattle.run_record.specs.Reading.{rowPlace}
 use Rattle.run_record_bytes.specs.Laws.Fields.{head-length, row-length}
 

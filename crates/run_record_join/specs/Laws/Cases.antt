@@ -1,10 +1,9 @@
 -- A join by its cases, in the order of the checks.
-use mathlib.Core.Path.{_≡_, refl, sym, ap, subst, _∙_}
+use mathlib.Core.Path.{_≡_, refl, sym, subst}
 use mathlib.Core.Bool.{Bool, true, false, not, _&&_, _||_}
 use mathlib.Core.List.{List}
-use Prim.Native.Nat.{ℕ, _+_, _-_, _≤_, _<_}
-use native.Mathlib.Omega.{arith}
-use borrow.Author.Tests.{eq-eqb, ne-eqb, eqb-true, not-false, not-true}
+use Prim.Native.Nat.{ℕ, _-_}
+use borrow.Author.Tests.{eq-eqb, ne-eqb, eqb-true, not-false}
 use lib.Dec.{T, eqb}
 use lib.ListN.{length}
 use Rattle.refusals.specs.Request.{tooManyChunks}
@@ -12,9 +11,8 @@ use Rattle.refusals.specs.Answers.{left}
 use Rattle.run_record.specs.declared.Head.{Head}
 use Rattle.run_record.specs.Records.{recordLength}
 use Rattle.run_record.specs.Reading.{headOf, badRecord}
-use Rattle.run_record_join.specs.Joining.{follows, apart, headOver, inTurn, earlier, later, refusedJoin, Joined}
+use Rattle.run_record_join.specs.Joining.{follows, apart, headOver, inTurn, Joined}
 use Rattle.run_record_join.specs.Turns.{Turns, limitsOf}
-use Rattle.run_record_join.specs.Laws.Copying.{joined-length}
 
 -- ---- two heads
 

@@ -1,8 +1,8 @@
 -- Bytes copied one record behind the other.
-use mathlib.Core.Path.{_≡_, refl, sym, ap, _∙_}
+use mathlib.Core.Path.{_≡_, sym, ap, _∙_}
 use mathlib.Core.Bool.{false}
-use mathlib.Core.List.{List, [], _∷_, _++_, append-assoc, append-nil}
-use Prim.Native.Nat.{ℕ, _+_, _*_, _-_, _≤_, _<_}
+use mathlib.Core.List.{List, [], _++_, append-assoc, append-nil}
+use Prim.Native.Nat.{ℕ, _+_, _*_, _-_}
 use native.Mathlib.Nat.{zero-add, add-mul}
 use native.Mathlib.Omega.{arith}
 use lib.ListN.{length, getD, take, drop, length-append, length-drop, take-append-drop, drop-of-length-le}
@@ -11,12 +11,10 @@ use Rattle.list_laws.specs.Part.{part, put}
 use Rattle.list_laws.specs.Tabulate.{tabulate}
 use Rattle.list_laws.specs.Laws.Tabulate.{tabulated}
 use Rattle.little_endian.specs.Words.{Bytes, bytesOf}
-use Rattle.little_endian.specs.Rows.{Stand}
 use Rattle.little_endian.specs.Laws.Words.{bytesOf-length}
-use Rattle.run_record.specs.declared.Head.{Head}
-use Rattle.run_record.specs.Records.{headBytes, recordLength, chunksOf, perChunk}
+use Rattle.run_record.specs.Records.{headBytes, recordLength}
 use Rattle.run_record.specs.Reading.{headOf, badRecord}
-use Rattle.run_record.specs.Laws.Cases.{Passed, passed}
+use Rattle.run_record.specs.Laws.Cases.{passed}
 use Rattle.run_record_bytes.specs.Laws.Fields.{h₂, l₂, head-length, head-stands}
 use Rattle.run_record_join.specs.Joining.{headOver, inTurn}
 use Rattle.run_record_join.specs.Turns.{Turns, written}

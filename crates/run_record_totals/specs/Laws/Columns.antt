@@ -1,17 +1,13 @@
 -- A column's sum, chunk by chunk.
-use mathlib.Core.Path.{_≡_, refl, sym, ap, _∙_}
-use mathlib.Core.Bool.{true, false}
+use mathlib.Core.Path.{_≡_, refl, _∙_}
 use mathlib.Core.List.{List}
 use Prim.Native.Nat.{ℕ, _+_, _*_, _≤_, _<_}
 use native.Mathlib.Nat.{mul-le-mul-right}
 use native.Mathlib.Numerals.{add-one}
 use native.Mathlib.Omega.{arith}
 use lib.Ieee.{Float, binary64, add, ofBits}
-use lib.ListN.{length}
 use Rattle.list_laws.specs.Tabulate.{tabulate}
-use Rattle.list_laws.specs.Laws.Tabulate.{tabulate-ext}
 use Rattle.transfer_matrix.specs.Arithmetic.{sum}
-use Rattle.transfer_matrix.specs.Rounded.{ieee}
 use Rattle.run_record.specs.declared.Head.{Head}
 use Rattle.run_record.specs.Records.{recordLength, chunksOf, perChunk}
 use Rattle.run_record.specs.Reading.{headOf, doubleAt, squaresIn, fourthsIn}

@@ -3,7 +3,7 @@ use borrow.Author.Needs.{needs}
 use native.Mathlib.Omega.{arith}
 use mathlib.Core.Path.{_≡_}
 use mathlib.Core.Bool.{false}
-use Prim.Native.Nat.{_+_, _*_, _-_, _≤_}
+use Prim.Native.Nat.{_-_, _≤_}
 use Rattle.list_laws.specs.Search.{some}
 use Rattle.list_laws.specs.Laws.Search.{start, hit, miss, none}
 use Rattle.run_record.specs.Reading.{badBeta}

@@ -1,6 +1,5 @@
 -- By the tests in turn.
 use borrow.Author.Needs.{needs}
-use mathlib.Core.Path.{sym, ap, _∙_}
 use Rattle.run_record.specs.Laws.Cases.{other-kind, other-chunk, other-beta, other-pair, by-sums}
 use Rattle.run_record.proofs.rows.bad_row.Statement.{statement}
 use Rattle.run_record.proofs.rows.bad_row.Tie as tie

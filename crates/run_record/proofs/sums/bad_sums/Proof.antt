@@ -1,10 +1,7 @@
 -- -0.0 by its pattern, then the order.
 use borrow.Author.Needs.{needs}
 use native.Mathlib.Omega.{arith}
-use mathlib.Core.Path.{_≡_, ap, _∙_}
-use mathlib.Core.Bool.{Bool, not}
 use Rattle.rounding.specs.Laws.Scaled.{castable}
-use Rattle.estimate.specs.Estimates.{number, inOrder}
 use Rattle.run_record.specs.Laws.Sums.{minus-squares, minus-fourths, ordered-or-bad}
 use Rattle.run_record.proofs.sums.bad_sums.Statement.{statement}
 use Rattle.run_record.proofs.sums.bad_sums.Tie as tie
