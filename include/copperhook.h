@@ -41,8 +41,8 @@ extern "C" {
 
 /*
  * Why a call is refused, in checking order; but 19 and 20 stand before 1, 24 right behind 2, 21 between 4 and 5, 22 right behind 6 for the
- * window and right behind 9 for free edges, 23 in the place of 10, and calls for strips check 15 to 17 before 12. 25 is that of copperhook_shares alone;
- * 26 and 27 stand before 1 where run records are read, and 26 right behind 11 where one is written.
+ * window and right behind 9 for free edges, 23 in the place of 10, and calls for strips check 15 to 17 before 12. 25 is that of copperhook_shares
+ * alone; 26 and 27 stand before 1 where run records are read, and 26 right behind 11 where one is written.
  */
 enum copperhook_refusal {
     COPPERHOOK_ACCEPTED = 0,

@@ -19,8 +19,9 @@ use Rattle.run_record_bytes.specs.Theorems.{head-as-written, squares-as-written
 use Rattle.run_record_join.specs.Joining.{follows, apart, headOver, inTurn, earlier, later, joinOf, refusedJoin}
 use Rattle.run_record_join.specs.Laws.Copying.{head-and-rows}
 use Rattle.run_record_join.specs.Laws.Cases.{together, otherwise, first-ends}
-use Rattle.demands_records.specs.Laws.Joint.{chain, joint, jointSquares, jointFourths, joint-is, joint-described, both-chunks}
-use Rattle.demands_records.specs.Laws.Accepted.{Joins, passes, joins, apart-turned, or-turned, both-empty, same-head, no-rows-behind}
+use Rattle.demands_records.specs.Runs.{Joins, chain}
+use Rattle.demands_records.specs.Laws.Joint.{joint, jointSquares, jointFourths, joint-is, joint-described, both-chunks}
+use Rattle.demands_records.specs.Laws.Accepted.{passes, joins, apart-turned, or-turned, both-empty, same-head, no-rows-behind}
 
 -- ---- Joining does not depend on the order of handing in:
 

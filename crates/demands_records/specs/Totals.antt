@@ -26,11 +26,11 @@ use Rattle.run_record_bytes.specs.Theorems.{accepted-is-described}
 use Rattle.run_record_totals.specs.Totals.{totalsOf, totalSquares, totalFourths, refusedTotals, Totalled}
 use Rattle.run_record_join.specs.Joining.{inTurn}
 use Rattle.demands_records.specs.Join.{in-turn-head, in-turn-squares, in-turn-fourths}
-use Rattle.demands_records.specs.Laws.Joint.{chain, both-chunks}
-use Rattle.demands_records.specs.Laws.Accepted.{Joins}
+use Rattle.demands_records.specs.Runs.{Joins, chain}
+use Rattle.demands_records.specs.Laws.Joint.{both-chunks}
 use Rattle.demands_records.specs.Laws.Chained.{chained-of}
 
-totals-at : (chunks per : ℕ) (sums : (chunk place : ℕ) → Float) (k : ℕ) → k < per → getD (totalsOf chunks per sums) k nan ≡ sum ieee chunks (λ c. sums c k)
+pub totals-at : (chunks per : ℕ) (sums : (chunk place : ℕ) → Float) (k : ℕ) → k < per → getD (totalsOf chunks per sums) k nan ≡ sum ieee chunks (λ c. sums c k)
 unfolding totalsOf
 totals-at chunks per sums k l = tabulate-at _ per k nan l
 

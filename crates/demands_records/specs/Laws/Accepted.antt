@@ -19,6 +19,7 @@ use Rattle.run_record.specs.Laws.Cases.{passed}
 use Rattle.run_record_join.specs.Joining.{follows, apart, headOver, earlier, later, refusedJoin}
 use Rattle.run_record_join.specs.Turns.{Turns}
 use Rattle.run_record_join.specs.Laws.Copying.{head-and-rows}
+use Rattle.demands_records.specs.Runs.{Joins}
 use Rattle.run_record_join.specs.Laws.Cases.{Together, together, in-turn, turned}
 
 none-of-four : (x y z w : Bool) → _≡_ {A = ℕ} (cond x 26 (cond y 27 (cond z 11 (cond w 12 0)))) 0 → (x ≡ false) × (y ≡ false) × (z ≡ false) × (w ≡ false)
@@ -27,13 +28,6 @@ none-of-four false true z w h = absurd (omega arith)
 none-of-four false false true w h = absurd (omega arith)
 none-of-four false false false true h = absurd (omega arith)
 none-of-four false false false false h = (refl, refl, refl, refl)
-
--- two records that join in the order of their ranges, whose samples are alike and few
-pub record Joins (a b : List ℕ) : Type 0 where
-  pub turns : Turns a b
-  pub seed : headOf a .seed ≡ headOf b .seed
-  pub samples : headOf a .samples ≡ headOf b .samples
-  pub few : chunksOf (headOver (headOf a) (headOf b)) * headOf a .samples ≤ mostSamples
 
 module _ (one two : List ℕ) where
   abbrev over : Head

@@ -20,17 +20,14 @@ use Rattle.run_record_bytes.specs.Theorems.{accepted-is-described, accepted-is-
 use Rattle.run_record_bytes.specs.Laws.Fields.{head-length}
 use Rattle.run_record_join.specs.Joining.{headOver, inTurn}
 use Rattle.run_record_join.specs.Turns.{Turns}
+use Rattle.demands_records.specs.Runs.{chain}
 use Rattle.demands_records.specs.Laws.Rows.{rows-same, rows-both}
 
--- some sums of so many chunks, then others
-unfoldable pub chain : (chunks : ℕ) → (first second : (chunk place : ℕ) → Float) → (chunk place : ℕ) → Float
-chain m x y c k = cond (ltb c m) (x c k) (y (c - m) k)
-
-chain-first : (m : ℕ) (x y : (chunk place : ℕ) → Float) (c k : ℕ) → c < m → chain m x y c k ≡ x c k
+pub chain-first : (m : ℕ) (x y : (chunk place : ℕ) → Float) (c k : ℕ) → c < m → chain m x y c k ≡ x c k
 unfolding chain
 chain-first m x y c k l = rw (lt-ltb c m l)
 
-chain-second : (m : ℕ) (x y : (chunk place : ℕ) → Float) (i k : ℕ) → chain m x y (m + i) k ≡ y i k
+pub chain-second : (m : ℕ) (x y : (chunk place : ℕ) → Float) (i k : ℕ) → chain m x y (m + i) k ≡ y i k
 unfolding chain
 chain-second m x y i k = let e : m + i - m ≡ i = omega arith in rw (le-ltb (m + i) m (omega arith), e)
 
