@@ -18,7 +18,7 @@ use Rattle.run_record.specs.Records.{chunksOf, perChunk}
 use Rattle.run_record.specs.Reading.{headOf, squaresIn, fourthsIn}
 use Rattle.run_record.specs.Laws.Cases.{passed}
 use Rattle.run_record_totals.specs.Totals.{totalSquares, totalFourths}
-use Rattle.run_record_join.specs.Joining.{headOver, inTurn}
+use Rattle.run_record_join.specs.Joining.{inTurn}
 use Rattle.demands_records.specs.Runs.{Joins, chain, Holds}
 use Rattle.demands_records.specs.Join.{in-turn-head, in-turn-squares, in-turn-fourths}
 use Rattle.demands_records.specs.Totals.{totals-at}
@@ -70,3 +70,17 @@ module _ (correlation : (chunk sample place : ℕ) → Float) where
           squares = rw e (λ c k i l. in-turn-squares a b p q j c k (omega arith) l ∙ both-sums (square ieee) (squaresIn a) (squaresIn b) (x .squares) (y .squares) c k (omega arith) l);
           fourths = rw e (λ c k i l. in-turn-fourths a b p q j c k (omega arith) l ∙ both-sums (fourth ieee) (fourthsIn a) (fourthsIn b) (x .fourths) (y .fourths) c k (omega arith) l);
         }
+
+    -- So its totals are those of sampling from the earlier start to the later end.
+    module _ (k : ℕ) (l : k < perChunk (headOf a)) where
+      pub joined-run-squares : getD (totalSquares (inTurn a b)) k nan ≡ sampled ieee (square ieee) (headOf a .start) (headOf b .end) (headOf a .samples) (λ i t. correlation i t k)
+      joined-run-squares =
+          let e = in-turn-head a b p q j in
+          run-squares (inTurn a b) joined-holds k (rw e l)
+          ∙ ap (λ (h : Head). sampled ieee (square ieee) (h .start) (h .end) (h .samples) (λ i t. correlation i t k)) e
+
+      pub joined-run-fourths : getD (totalFourths (inTurn a b)) k nan ≡ sampled ieee (fourth ieee) (headOf a .start) (headOf b .end) (headOf a .samples) (λ i t. correlation i t k)
+      joined-run-fourths =
+          let e = in-turn-head a b p q j in
+          run-fourths (inTurn a b) joined-holds k (rw e l)
+          ∙ ap (λ (h : Head). sampled ieee (fourth ieee) (h .start) (h .end) (h .samples) (λ i t. correlation i t k)) e

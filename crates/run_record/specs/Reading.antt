@@ -71,9 +71,11 @@ module _ (bytes : List ℕ) (start samples betas pairs : ℕ) where
   abbrev pub badChunks : (chunks : ℕ) → Bool
   badChunks chunks = some badChunk chunks
 
+-- Some row of all chunks of a head.
 abbrev pub badRows : List ℕ → Head → Bool
 badRows bytes h = badChunks bytes (h .start) (h .samples) (h .betas) (h .pairs) (chunksOf h)
 
+-- 26: the bytes are not exactly a run record.
 unfoldable pub badRecord : List ℕ → Bool
 badRecord bytes =
     ltb (length bytes) 32 || not (eqb (wordAt bytes 0 1) 17) || badHead (headOf bytes) || not (eqb (length bytes) (recordLength (headOf bytes)))

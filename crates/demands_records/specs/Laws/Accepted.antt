@@ -17,7 +17,6 @@ use Rattle.run_record.specs.Records.{headBytes, recordLength, chunksOf}
 use Rattle.run_record.specs.Reading.{headOf, badRecord}
 use Rattle.run_record.specs.Laws.Cases.{passed}
 use Rattle.run_record_join.specs.Joining.{follows, apart, headOver, earlier, later, refusedJoin}
-use Rattle.run_record_join.specs.Turns.{Turns}
 use Rattle.run_record_join.specs.Laws.Copying.{head-and-rows}
 use Rattle.demands_records.specs.Runs.{Joins}
 use Rattle.run_record_join.specs.Laws.Cases.{Together, together, in-turn, turned}
