@@ -1,3 +1,6 @@
--- Definitions.
+-- Definitions,
 pub mod Records
 pub mod Reading
+pub mod Lying
+-- and the laws of these definitions, which no reader needs to believe.
+pub mod Laws
