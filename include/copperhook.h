@@ -311,31 +311,6 @@ size_t copperhook_house_sample(size_t n, size_t floor, const size_t *a, size_t a
 
 /* ---- Run records: a sampled run as bytes. */
 
-/*
- * The run of copperhook_sample over the same chunks as a record: numbers of 1, 2, 4 or 8 bytes, lowest first. A head of 32 bytes: 17, seed (8),
- * from (8), to (8), samples (4), betas (1), pairs (2). Then for each chunk, beta and pair, in that nesting, a row of 28 bytes: 18, the chunk's
- * number (8), beta (1), pair (2), and the bits of the sums of squares (8) and of fourth powers (8) that copperhook_sample leaves there over this
- * chunk alone. Added from +0.0 in chunk order they are the sums over all chunks, bit for bit. `record` has exactly
- * 32 + 28 * (to - from) * betas_len * us_len bytes. COPPERHOOK_TESTER is not read.
- * Refused by 14, all bytes of the record are 0; by any other, nothing changes.
- * Refusals: 1 to 8 (4 and 21 of the betas too), 10, 11, 26 (to below from, or samples above 2^32 - 1, in an empty run too), 12, 13, 14.
- */
-size_t copperhook_sample_record(size_t n, size_t floor, const size_t *a, size_t a_len, const size_t *b, size_t b_len, const double *m,
-                                size_t m_len, const size_t *us, size_t us_len, const size_t *vs, size_t vs_len, const double *betas,
-                                size_t betas_len, const double *factors, size_t factors_len, size_t options, uint64_t seed,
-                                uint64_t from, uint64_t to, size_t samples, uint8_t *record, size_t record_len, double *work,
-                                size_t work_len);
-
-/*
- * The same with house factors.
- * Refusals: 1 to 8 (4 and 21 of the betas too), 23, 11, 26, 12, 13, 14.
- */
-size_t copperhook_house_sample_record(size_t n, size_t floor, const size_t *a, size_t a_len, const size_t *b, size_t b_len,
-                                      const double *m, size_t m_len, const size_t *us, size_t us_len, const size_t *vs,
-                                      size_t vs_len, const double *betas, size_t betas_len, size_t options, uint64_t seed,
-                                      uint64_t from, uint64_t to, size_t samples, uint8_t *record, size_t record_len, double *work,
-                                      size_t work_len);
-
 /* ---- How far answers can be from the exact ones. */
 
 /*

@@ -3,7 +3,7 @@ ghost use mathlib.Core.Path.{_≡_};
 ghost use Rattle.refusals.specs.Answers.{answered};
 ghost use Rattle.run_record_join.specs.Joining.{Joined};
 ghost use Rattle.run_record_totals.specs.Totals.{Totalled};
-use c_values::tell_number;
+use c_answers::tell_number;
 use run_record_join::record_join;
 use run_record_totals::record_totals;
 

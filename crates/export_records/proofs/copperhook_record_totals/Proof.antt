@@ -8,8 +8,8 @@ use lib.ListN.{length}
 use Rattle.refusals.specs.Answers.{answered}
 use Rattle.refusals.specs.declared.Answer.{Answer}
 use Rattle.run_record_totals.specs.Totals.{refusedTotals, recordCount, Totalled}
-use Rattle.c_values.specs.Numbers.{Tells}
-use Rattle.c_values.specs.Laws.Numbers.{told-again, told-refused}
+use Rattle.c_answers.specs.Numbers.{Tells}
+use Rattle.c_answers.specs.Laws.Numbers.{told-again, told-refused}
 use Rattle.export_records.proofs.copperhook_record_totals.Statement.{statement}
 use Rattle.export_records.proofs.copperhook_record_totals.Tie as tie
 
