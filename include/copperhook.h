@@ -309,8 +309,6 @@ size_t copperhook_house_sample(size_t n, size_t floor, const size_t *a, size_t a
                                double *squares, size_t squares_len, double *fourths, size_t fourths_len, double *work,
                                size_t work_len, size_t *count);
 
-/* ---- Run records: a sampled run as bytes. */
-
 /* ---- How far answers can be from the exact ones. */
 
 /*
