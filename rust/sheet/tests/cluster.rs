@@ -144,7 +144,8 @@ fn what_is_wrong_is_told() {
     let bad = format!("--chunks 0..2 --folder {0}/bad --output {0}/bad.rec --workers 1 --tries 1", folder.display());
     let output = cluster(&program(), &bad, &JOB.replace("0.25", "0.3"));
     assert!(
-        said(&output).contains("task 0..1 has failed: sheet: beta 0.3 times magnitude 1 is 0.3, which is no multiple of 1/128"),
+        said(&output)
+            .contains("task 0..1 has failed; its log ends: sheet: beta 0.3 times magnitude 1 is 0.3, which is no multiple of 1/128"),
         "{}",
         said(&output)
     );
