@@ -49,7 +49,7 @@ total-house-job-requires c κs =
     let l = c .before .before .before .before .before .loop in
     let i = l .inv in
     let e : perChunk (a .head) ≡ length (a .betas .now) * length (a .us .now) = rw (s .pre .1, s .pre .2) in
-    (passed-with (s .pre .0) (i .memories), drawn-numbered (a .head .seed) (a .head .start + l .c) (a .head .start + l .c + 1) (a .head .samples) (a .early .now) (a .late .now) (a .early .now) refl, i .squareds ∙ s .pre .5 ∙ e, i .fourthds ∙ s .pre .6 ∙ e)
+    (passed-with (s .pre .0) (i .memories), drawn-numbered (a .head .seed) _ _ (a .head .samples) (a .early .now) (a .late .now) (a .early .now) refl, i .squareds ∙ s .pre .5 ∙ e, i .fourthds ∙ s .pre .6 ∙ e)
 
 same-length : tie.Need-same-length Inv-loop μ-loop
 same-length c = c .before .before .before .before .before .before .before .total-house-job .kept .1 .1 .1 .1 .1 .1 .1 .1 .1 .1 .1 .1 .0 ∙ c .before .before .before .before .before .before .before .before .before .before .before .before .before .loop .inv .squareds

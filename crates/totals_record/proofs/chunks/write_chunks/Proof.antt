@@ -45,7 +45,7 @@ total-job-requires c κs =
     let l = c .before .before .before .before .before .loop in
     let i = l .inv in
     let e : perChunk (a .head) ≡ a .head .betas * length (a .us .now) = ap (λ (k : ℕ). a .head .betas * k) (s .pre .1) in
-    (passed-with (s .pre .0) (i .memories), drawn-numbered (a .head .seed) (a .head .start + l .c) (a .head .start + l .c + 1) (a .head .samples) (a .early .now) (a .late .now) (a .early .now) refl, i .squareds ∙ s .pre .4 ∙ e, i .fourthds ∙ s .pre .5 ∙ e)
+    (passed-with (s .pre .0) (i .memories), drawn-numbered (a .head .seed) _ _ (a .head .samples) (a .early .now) (a .late .now) (a .early .now) refl, i .squareds ∙ s .pre .4 ∙ e, i .fourthds ∙ s .pre .5 ∙ e)
 
 same-length : tie.Need-same-length Inv-loop μ-loop
 same-length c = c .before .before .before .before .before .before .before .total-job .kept .1 .1 .1 .1 .1 .1 .1 .1 .1 .1 .1 .1 .0 ∙ c .before .before .before .before .before .before .before .before .before .before .before .before .before .loop .inv .squareds
