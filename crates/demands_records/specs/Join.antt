@@ -2,7 +2,7 @@
 use mathlib.Core.Path.{_≡_, refl, sym, ap, _∙_}
 use mathlib.Core.Bool.{Bool, true, false, cond}
 use mathlib.Core.List.{List, _++_, append-assoc, append-nil}
-use Prim.Native.Nat.{ℕ, _+_, _<_}
+use Prim.Native.Nat.{ℕ, zero, suc, _+_, _<_}
 use native.Mathlib.Omega.{arith}
 use borrow.Author.Tests.{eqb-false, eq-eqb, le-ltb}
 use lib.Dec.{eqb}
@@ -10,13 +10,14 @@ use lib.ListN.{length, drop}
 use lib.Seq.{drop-at}
 use Rattle.list_laws.specs.Laws.Search.{or-false}
 use Rattle.little_endian.specs.Words.{Bytes}
+use Rattle.refusals.specs.Answers.{left}
 use Rattle.run_record.specs.declared.Head.{Head}
 use Rattle.run_record.specs.Records.{headBytes, recordLength, chunksOf, perChunk}
 use Rattle.run_record.specs.Reading.{headOf, squaresIn, fourthsIn, badRecord}
 use Rattle.run_record.specs.Laws.Cases.{passed}
 use Rattle.run_record_bytes.specs.Laws.Fields.{head-length}
 use Rattle.run_record_bytes.specs.Theorems.{head-as-written, squares-as-written, fourths-as-written, described-is-accepted}
-use Rattle.run_record_join.specs.Joining.{follows, apart, headOver, inTurn, earlier, later, joinOf, refusedJoin}
+use Rattle.run_record_join.specs.Joining.{follows, apart, headOver, inTurn, earlier, later, joinOf, refusedJoin, Joined}
 use Rattle.run_record_join.specs.Laws.Copying.{head-and-rows}
 use Rattle.run_record_join.specs.Laws.Cases.{together, otherwise, first-ends}
 use Rattle.demands_records.specs.Runs.{Joins, chain}
@@ -57,6 +58,17 @@ module _ (one two : List ℕ) (b₁ : Bytes one) (b₂ : Bytes two) where
       let y = or-false (badRecord one) (badRecord two) (x .0) in
       let t = turned-round (y .0) (y .1) (x .1) in
       rw (t .0, t .1)
+
+  -- So two calls that hand in the two records in either order, with lists that are alike, return the same and leave the same.
+  pub handed-in-either-order : (r s : ℕ) (joined joined′ joined″ : List ℕ) → Joined one two r joined joined′ → Joined two one s joined joined″
+      → (r ≡ s) × (joined′ ≡ joined″)
+  handed-in-either-order r s joined joined′ joined″ x y =
+      let e = same-refusal (length joined) in
+      (x .answer ∙ e ∙ sym (y .answer), x .bytes ∙ go (refusedJoin one two (length joined)) refl ∙ ap (λ (k : ℕ). left k (joinOf two one) joined) e ∙ sym (y .bytes))
+    where
+      go : (k : ℕ) → refusedJoin one two (length joined) ≡ k → left (refusedJoin one two (length joined)) (joinOf one two) joined ≡ left (refusedJoin one two (length joined)) (joinOf two one) joined
+      go zero e = rw e (same-bytes (length joined) e)
+      go (suc k) e = rw e
 
 -- ---- Two records in the order of their ranges
 

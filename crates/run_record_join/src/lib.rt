@@ -3,7 +3,7 @@ ghost use mathlib.Core.Path.{_≡_};
 ghost use Rattle.run_record_join.specs.Joining.{apart, Joined};
 use run_record::Head;
 use run_record::head_of;
-use run_record::is_record;
+use run_record_reader::is_record;
 
 mod turns;
 

@@ -8,7 +8,7 @@ use buffer_checks::misfit;
 use refusals::Answer;
 use run_record::double_at;
 use run_record::head_of;
-use run_record::is_record;
+use run_record_reader::is_record;
 
 // The doubles `offset` bytes into the rows at place `k` of each chunk, added from +0.0.
 fn column_sum(bytes: &[u8], per: usize, chunks: usize, k: usize, offset: usize) -> f64

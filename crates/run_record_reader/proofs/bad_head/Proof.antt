@@ -1,9 +1,9 @@
 -- By the tests in turn.
 use borrow.Author.Needs.{needs}
 use mathlib.Core.Path.{_∙_}
 use Rattle.run_record.specs.Laws.Cases.{many-betas, many-pairs, backwards, by-samples}
-use Rattle.run_record.proofs.bad_head.Statement.{statement}
-use Rattle.run_record.proofs.bad_head.Tie as tie
+use Rattle.run_record_reader.proofs.bad_head.Statement.{statement}
+use Rattle.run_record_reader.proofs.bad_head.Tie as tie
 
 returns : tie.Need-returns
 returns c = many-betas (c .before .before .args .h) (c .if1 .taken)

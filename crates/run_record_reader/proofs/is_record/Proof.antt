@@ -8,13 +8,13 @@ use borrow.Author.Tests.{eqb-true, not-false}
 use lib.Dec.{eqb}
 use lib.ListN.{length}
 use Rattle.little_endian.specs.Words.{Bytes}
 use Rattle.run_record.specs.declared.Head.{Head}
 use Rattle.run_record.specs.Records.{chunksOf, perChunk, recordLength}
 use Rattle.run_record.specs.Reading.{badHead, badRows, badRecord}
 use Rattle.run_record.specs.Laws.Places.{no-rows}
 use Rattle.run_record.specs.Laws.Cases.{Good, good-head, few-rows, few-named, end-fits, too-short, no-head, head-bad, length-bad, by-rows}
-use Rattle.run_record.proofs.is_record.Statement.{statement}
-use Rattle.run_record.proofs.is_record.Tie as tie
+use Rattle.run_record_reader.proofs.is_record.Statement.{statement}
+use Rattle.run_record_reader.proofs.is_record.Tie as tie
 
 good : (c : tie.Else3) → Good (c .before .before .head-of .result)
 good c = good-head _ (sym (c .before .bad-head .ensures) ∙ c .if3 .left)

@@ -7,9 +7,9 @@ use Prim.Native.Nat.{_+_, _*_, _-_, _≤_}
 use native.Mathlib.Nat.{mul-le-mul-right}
 use Rattle.list_laws.specs.Search.{some}
 use Rattle.list_laws.specs.Laws.Search.{start, hit, miss, none}
 use Rattle.run_record.specs.Reading.{badChunk}
-use Rattle.run_record.proofs.rows.bad_chunks.Statement.{statement}
-use Rattle.run_record.proofs.rows.bad_chunks.Tie as tie
+use Rattle.run_record_reader.proofs.rows.bad_chunks.Statement.{statement}
+use Rattle.run_record_reader.proofs.rows.bad_chunks.Tie as tie
 
 abbrev Inv-loop : tie.InvT-loop
 Inv-loop bytes start samples betas pairs chunks c₀ c = (c ≤ chunks) × (some (badChunk bytes start samples betas pairs) c ≡ false)

@@ -1,8 +1,8 @@
 -- By the tests in turn.
 use borrow.Author.Needs.{needs}
 use Rattle.run_record.specs.Laws.Cases.{other-kind, other-chunk, other-beta, other-pair, by-sums}
-use Rattle.run_record.proofs.rows.bad_row.Statement.{statement}
-use Rattle.run_record.proofs.rows.bad_row.Tie as tie
+use Rattle.run_record_reader.proofs.rows.bad_row.Statement.{statement}
+use Rattle.run_record_reader.proofs.rows.bad_row.Tie as tie
 
 returns : tie.Need-returns
 returns c =

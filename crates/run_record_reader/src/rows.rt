@@ -3,10 +3,10 @@ ghost use mathlib.Core.Path.{_≡_};
 ghost use Prim.Native.Nat.{_+_, _≤_, _<_};
 ghost use lib.ListN.{length};
 ghost use Rattle.limits.specs.Limits.{mostNamed};
 ghost use Rattle.run_record.specs.Reading.{badRowAt, badBeta, badChunk, badChunks};
-ghost use Rattle.run_record.specs.Lying.{Lying};
-use crate::sums::bad_sums;
+ghost use Rattle.run_record_reader.specs.Lying.{Lying};
 use little_endian::word_at;
+use run_record::bad_sums;
 
 fn bad_row(bytes: &[u8], place: usize, chunk: u64, beta: usize, pair: usize, samples: usize) -> bool
     requires { ⌜ (place + 28 ≤ length (now bytes)) × (samples ≤ mostNamed) ⌝ }

@@ -2,10 +2,10 @@
 use borrow.Author.Needs.{needs}
 use native.Mathlib.Omega.{arith}
 use Prim.Native.Nat.{_*_, _-_}
 use Rattle.run_record.specs.Laws.Places.{quotient-bounds}
 use Rattle.run_record.specs.Laws.Cases.{no-row, past, by-product}
-use Rattle.run_record.proofs.bad_length.Statement.{statement}
-use Rattle.run_record.proofs.bad_length.Tie as tie
+use Rattle.run_record_reader.proofs.bad_length.Statement.{statement}
+use Rattle.run_record_reader.proofs.bad_length.Tie as tie
 
 returns : tie.Need-returns
 returns c = let a = c .before .args in no-row (a .bytes) (a .chunks) (a .per) (omega arith) (c .if1 .taken)

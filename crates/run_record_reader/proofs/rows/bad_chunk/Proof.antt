@@ -6,9 +6,9 @@ use mathlib.Core.Bool.{false}
 use Prim.Native.Nat.{_-_, _≤_}
 use Rattle.list_laws.specs.Search.{some}
 use Rattle.list_laws.specs.Laws.Search.{start, hit, miss, none}
 use Rattle.run_record.specs.Reading.{badBeta}
-use Rattle.run_record.proofs.rows.bad_chunk.Statement.{statement}
-use Rattle.run_record.proofs.rows.bad_chunk.Tie as tie
+use Rattle.run_record_reader.proofs.rows.bad_chunk.Statement.{statement}
+use Rattle.run_record_reader.proofs.rows.bad_chunk.Tie as tie
 
 abbrev Inv-loop : tie.InvT-loop
 Inv-loop bytes start samples betas pairs chunk b₀ b = (b ≤ betas) × (some (badBeta bytes start samples betas pairs chunk) b ≡ false)

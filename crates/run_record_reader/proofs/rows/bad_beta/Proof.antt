@@ -6,10 +6,10 @@ use mathlib.Core.Bool.{false}
 use Prim.Native.Nat.{_+_, _*_, _-_, _≤_, _<_}
 use Rattle.list_laws.specs.Search.{some}
 use Rattle.list_laws.specs.Laws.Search.{start, hit, miss, none}
 use Rattle.run_record.specs.Reading.{badPair}
 use Rattle.run_record.specs.Laws.Places.{row-inside}
-use Rattle.run_record.proofs.rows.bad_beta.Statement.{statement}
-use Rattle.run_record.proofs.rows.bad_beta.Tie as tie
+use Rattle.run_record_reader.proofs.rows.bad_beta.Statement.{statement}
+use Rattle.run_record_reader.proofs.rows.bad_beta.Tie as tie
 
 abbrev Inv-loop : tie.InvT-loop
 Inv-loop bytes start samples betas pairs chunk beta p₀ p = (p ≤ pairs) × (some (badPair bytes start samples betas pairs chunk beta) p ≡ false)
