@@ -1,14 +1,15 @@
 -- The record of a job's run over some chunks, whose sums are such as 26 lets pass: what is read from it, its totals, and two whose ranges follow one another.
 use mathlib.Core.Path.{_≡_, refl, sym, ap, subst, _∙_}
+use mathlib.Core.Bool.{false}
 use mathlib.Core.List.{List, _++_, append-assoc}
-use Prim.Native.Nat.{ℕ, _+_, _-_, _*_, _^_, _≤_, _<_}
+use Prim.Native.Nat.{ℕ, _+_, _-_, _*_, _≤_, _<_}
 use native.Mathlib.Omega.{arith}
 use native.Mathlib.Decide.{decLt}
 use mathlib.Core.Logic.{dite}
-use lib.Ieee.{Float}
-use lib.ListN.{length, drop}
+use lib.Ieee.{Float, nan}
+use lib.ListN.{length, getD, drop}
 use lib.Seq.{drop-at}
-use Rattle.limits.specs.Limits.{mostSamples, mostNamed, mostBetas, mostPairs}
+use Rattle.limits.specs.Limits.{mostSamples}
 use Rattle.list_laws.specs.Laws.Tabulate.{tabulate-ext}
 use Rattle.little_endian.specs.Rows.{rows}
 use Rattle.transfer_matrix.specs.Arithmetic.{sum}
@@ -18,7 +19,7 @@ use Rattle.half_vectors.specs.Laws.Terms.{sum-same}
 use Rattle.totals_call.specs.Given.{Given, sums}
 use Rattle.totals_call.specs.Calls.{totalsOfDrawn}
 use Rattle.run_record.specs.declared.Head.{Head}
-use Rattle.run_record.specs.Records.{headBytes, chunkRows, recordRows, recordOf}
+use Rattle.run_record.specs.Records.{headBytes, rowBytes, chunkRows}
 use Rattle.run_record.specs.Reading.{headOf, squaresIn, fourthsIn, badRecord}
 use Rattle.run_record_bytes.specs.Described.{Sums, Described}
 use Rattle.run_record_bytes.specs.Theorems.{described-is-accepted, head-as-written, squares-as-written, fourths-as-written}
@@ -33,7 +34,7 @@ use Rattle.demands_recordings.specs.Laws.Squares.{Even, even-square, even-fourt
 module _ (g : Given) (seed samples : ℕ) where
   -- The sums of a power in a chunk, by the chunk's own number.
   abbrev sumsAt : (Float → Float) → (chunk place : ℕ) → Float
-  sumsAt power i k = sumsFor g seed i i samples power 0 k
+  sumsAt power i k = getD (totalsOfDrawn g seed i (i + 1) samples power) k nan
 
   -- Numbers that fit their fields and limits, and sums that 26 lets pass.
   abbrev pub Run : (from to : ℕ) → Type 0
@@ -75,13 +76,17 @@ module _ (g : Given) (seed samples : ℕ) where
     rows-in : (i e : ℕ) → drop 32 (recordFor g seed i e samples) ≡ rows (chunkRows (headFor g seed i e samples) (sumsFor g seed i e samples (square ieee)) (sumsFor g seed i e samples (fourth ieee))) (e - i)
     rows-in i e = drop-at (headBytes (headFor g seed i e samples)) _ 32 (head-length (headFor g seed i e samples))
 
-    -- the rows of a chunk, whatever the range that it is in
-    abbrev rowsFrom : (start : ℕ) → (chunk : ℕ) → List ℕ
-    rowsFrom start = chunkRows (headFor g seed start start samples) (sumsFor g seed start start samples (square ieee)) (sumsFor g seed start start samples (fourth ieee))
+    -- the rows of a chunk, by its own number
+    abbrev rowsAt : (chunk : ℕ) → List ℕ
+    rowsAt i =
+        rows (λ b. rows (λ p. rowBytes i b p (sumsAt (square ieee) i (b * length (g .us) + p)) (sumsAt (fourth ieee) i (b * length (g .us) + p))) (length (g .us))) (length (g .betas))
+
+    abbrev rowsFrom : (start chunk : ℕ) → List ℕ
+    rowsFrom start c = rowsAt (start + c)
 
     -- chunk i of the second range is that many chunks behind the first
     behind : (i : ℕ) → rowsFrom from (mid - from + i) ≡ rowsFrom mid i
-    behind i = let r = one .range in let e : from + (mid - from + i) ≡ mid + i = omega arith in ap (λ (c : ℕ). rowsFrom c 0) e
+    behind i = let r = one .range in let e : from + (mid - from + i) ≡ mid + i = omega arith in ap rowsAt e
 
     both : rows (rowsFrom from) (to - from) ≡ rows (rowsFrom from) (mid - from) ++ rows (rowsFrom mid) (to - mid)
     both =

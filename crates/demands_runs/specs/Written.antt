@@ -102,7 +102,7 @@ one-long-run : (g : Given) (seed from mid to samples : ℕ) → Run g seed sampl
     → joinOf (recordFor g seed from mid samples) (recordFor g seed mid to samples) ≡ recordFor g seed from to samples
 one-long-run g seed from mid to samples x y =
     let e : headOf (recordFor g seed from mid samples) .end ≡ headOf (recordFor g seed mid to samples) .start =
-        ap (λ (h : Head). h .end) (run-head g seed samples from mid x) ∙ sym (ap (λ (h : Head). h .start) (run-head g seed samples mid to y)) in
+    ap (λ (h : Head). h .end) (run-head g seed samples from mid x) ∙ sym (ap (λ (h : Head). h .start) (run-head g seed samples mid to y)) in
     rw (eq-eqb _ _ e) (runs-join g seed samples from mid to x y)
 
 whole-joined : (g : Given) (seed from mid to samples : ℕ) (x : Run g seed samples from mid) (y : Run g seed samples mid to) (k : ℕ)
