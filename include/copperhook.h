@@ -19,7 +19,7 @@
  *
  * Answers. A function that can refuse a job returns the refusal's number, 0 for accepted; of several that fit, the first in checking order
  * is returned. What an accepted call answers goes out through pointers. A refused call leaves every list and every value as it was, but for
- * refusal 14, COPPERHOOK_PARTITION_SUM, which sets the results and the work memory's room to +0.0.
+ * refusal 14, COPPERHOOK_PARTITION_SUM, which sets the results and the work memory's room to +0.0, and the bytes of a run record to 0.
  *
  * A graph is its number of vertices `n` and three lists of one length: edge i joins vertices a[i] and b[i], in either order, with
  * magnitude m[i]. An edge of magnitude +0.0 or -0.0 is dropped; the others are kept, in their order. `floor` is a lower bound for the
@@ -42,6 +42,7 @@ extern "C" {
 /*
  * Why a call is refused, in checking order; but 19 and 20 stand before 1, 24 right behind 2, 21 between 4 and 5, 22 right behind 6 for the
  * window and right behind 9 for free edges, 23 in the place of 10, and calls for strips check 15 to 17 before 12. 25 is that of copperhook_shares alone.
+ * 26 and 27 stand before 1 where run records are read, and 26 right behind 11 where one is written.
  */
 enum copperhook_refusal {
     COPPERHOOK_ACCEPTED = 0,
@@ -70,8 +71,12 @@ enum copperhook_refusal {
     COPPERHOOK_TESTER_LIMIT = 22,   /* in the tester's calls: the window is above 12, or all signs of over 16 free edges are gone through */
     COPPERHOOK_COUPLINGS = 23,      /* of house factors: the couplings have another length, or one is no multiple of 1/128 from -4 to 4 */
     COPPERHOOK_EDGE_PLACE = 24,     /* of a preview: no edge is at that place; asked right behind 2 */
-    COPPERHOOK_SHARES = 25          /* of shares: no list or over 256, one empty or longer than 2^24, lengths that do not add up to what is
+    COPPERHOOK_SHARES = 25,         /* of shares: no list or over 256, one empty or longer than 2^24, lengths that do not add up to what is
                                        lent, or an entry that is not from -1 to 1 */
+    COPPERHOOK_RECORD = 26,         /* a run record is not exactly as its format has it; of a run that is written: its end is below its
+                                       start, or over 2^32 - 1 samples per chunk */
+    COPPERHOOK_JOIN = 27            /* two run records differ in seed, samples per chunk, betas or pairs, or neither range of chunks ends
+                                       where the other starts */
 };
 
 /* The most of each that a job may have, and how much a standard pair set and a job sheet take at most. */
@@ -429,6 +434,54 @@ size_t copperhook_sheet_job(const uint8_t *sheet, size_t sheet_len, size_t *n, s
 size_t copperhook_sheet_write(size_t n, size_t floor, const size_t *a, size_t a_len, const size_t *b, size_t b_len, const double *m,
                               size_t m_len, const size_t *us, size_t us_len, const size_t *vs, size_t vs_len, const double *betas,
                               size_t betas_len, uint8_t *sheet, size_t sheet_len, size_t *bytes);
+
+/*
+ * ---- Run records: what a sampling summed in each chunk, as bytes, little-endian like a job sheet. A head of 32 bytes: kind 17, seed u64, start
+ * u64, end u64, samples per chunk u32, betas u8, pairs u16. Then for each chunk from the start up to, and without, the end, in it for each beta
+ * and in it for each pair a row of 28: kind 18, chunk u64, beta u8, pair u16, and the chunk's sums of squares and of fourth powers, f64 each.
+ * 32 + 28 * chunks * betas * pairs bytes, and nothing behind them. The job, the factors and the manner are not in it: that two records are of one
+ * job is the caller's word.
+ * 26 is what is not exactly so, or has over 64 betas or 256 pairs, an end below its start, samples times chunks above 2^32, or a row in which
+ * 0 <= fourth powers <= squares <= samples fails or a sum is -0.0.
+ */
+
+/*
+ * The samples of copperhook_sample as a run record: sums chunk by chunk, where that call adds the chunks up. `record` has exactly the bytes of
+ * the format; 14 sets all of them to 0. `to` may be `from`: a head alone. COPPERHOOK_TESTER is not read: the tester has no records.
+ * Refusals: 1 to 8 (4 and 21 of the betas too), 10, 11, 26 (`to` below `from`, or over 2^32 - 1 samples, in an empty run too), 12, 13, 14.
+ */
+size_t copperhook_sample_record(size_t n, size_t floor, const size_t *a, size_t a_len, const size_t *b, size_t b_len, const double *m,
+                                size_t m_len, const size_t *us, size_t us_len, const size_t *vs, size_t vs_len, const double *betas,
+                                size_t betas_len, const double *factors, size_t factors_len, size_t options, uint64_t seed,
+                                uint64_t from, uint64_t to, size_t samples, uint8_t *record, size_t record_len, double *work,
+                                size_t work_len);
+
+/*
+ * The same with house factors.
+ * Refusals: 1 to 8 (4 and 21 of the betas too), 23, 11, 26, 12, 13, 14.
+ */
+size_t copperhook_house_sample_record(size_t n, size_t floor, const size_t *a, size_t a_len, const size_t *b, size_t b_len,
+                                      const double *m, size_t m_len, const size_t *us, size_t us_len, const size_t *vs, size_t vs_len,
+                                      const double *betas, size_t betas_len, size_t options, uint64_t seed, uint64_t from, uint64_t to,
+                                      size_t samples, uint8_t *record, size_t record_len, double *work, size_t work_len);
+
+/*
+ * Two records of equal seed, samples, betas and pairs, one of which ends at the chunk at which the other starts, as one record in `joined`;
+ * either order of handing them in gives the same bytes, or the same refusal. An empty range joins at either end. `joined` has exactly
+ * one_len + two_len - 32 bytes.
+ * Refusals: 26 (either record), 27, 11 (of the joined record), 12.
+ */
+size_t copperhook_record_join(const uint8_t *one, size_t one_len, const uint8_t *two, size_t two_len, uint8_t *joined,
+                              size_t joined_len);
+
+/*
+ * For each beta and pair the sums of all chunks of a record, added in order from +0.0, and in *count chunks times samples: what
+ * copperhook_sample answers for the same job over the same range, bit for bit. Both lists have exactly betas * pairs doubles, that of beta i and
+ * pair p of k at i * k + p.
+ * Refusals: 26, 12.
+ */
+size_t copperhook_record_totals(const uint8_t *record, size_t record_len, double *squares, size_t squares_len, double *fourths,
+                                size_t fourths_len, size_t *count);
 
 /* ---- Strips: w vertices across and l along, free or periodic across. Vertex (x, y), x along and y across, is x * w + y. */
 

@@ -37,7 +37,7 @@ fn main() {
     for head in heads.into_iter().flatten().filter(|head| Path::new(head).exists()) {
         println!("cargo:rerun-if-changed={head}");
     }
-    for sources in ["../../crates", "../copperhook", "src", "reading", "tests", "run", "build.rs", "Cargo.toml"] {
+    for sources in ["../../crates", "../copperhook", "src", "reading", "tests", "run", "cluster", "build.rs", "Cargo.toml"] {
         println!("cargo:rerun-if-changed={sources}");
     }
 }

@@ -13,7 +13,7 @@ use Rattle.run_record.specs.declared.Head.{Head}
 use Rattle.run_record.specs.Records.{perChunk, chunksOf, recordLength}
 
 -- What a head says.
-abbrev pub headOf : List ℕ → Head
+unfoldable pub headOf : List ℕ → Head
 headOf bytes = record {
   seed = wordAt bytes 1 8;
   start = wordAt bytes 9 8;
@@ -23,15 +23,19 @@ headOf bytes = record {
   pairs = wordAt bytes 30 2;
 }
 
+-- The double whose bits stand at a place.
+abbrev pub doubleAt : List ℕ → (place : ℕ) → Float
+doubleAt bytes place = ofBits binary64 (wordAt bytes place 8)
+
 -- Where the row of a chunk and place begins, and its sums.
 abbrev pub rowPlace : Head → (chunk place : ℕ) → ℕ
 rowPlace h c k = 32 + 28 * (c * perChunk h + k)
 
-abbrev pub squaresIn : List ℕ → (chunk place : ℕ) → Float
-squaresIn bytes c k = ofBits binary64 (wordAt bytes (rowPlace (headOf bytes) c k + 12) 8)
+unfoldable pub squaresIn : List ℕ → (chunk place : ℕ) → Float
+squaresIn bytes c k = doubleAt bytes (rowPlace (headOf bytes) c k + 12)
 
-abbrev pub fourthsIn : List ℕ → (chunk place : ℕ) → Float
-fourthsIn bytes c k = ofBits binary64 (wordAt bytes (rowPlace (headOf bytes) c k + 20) 8)
+unfoldable pub fourthsIn : List ℕ → (chunk place : ℕ) → Float
+fourthsIn bytes c k = doubleAt bytes (rowPlace (headOf bytes) c k + 20)
 
 -- ---- 26
 
@@ -40,24 +44,39 @@ abbrev pub isMinusZero : Float → Bool
 isMinusZero x = eqb (toBits binary64 x) 0x8000_0000_0000_0000
 
 -- Sums that 18 would turn away for one chunk of so many samples, or a -0.0; of no sample both are +0.0.
-abbrev pub badSums : (samples : ℕ) → (squares fourths : Float) → Bool
+unfoldable pub badSums : (samples : ℕ) → (squares fourths : Float) → Bool
 badSums samples squares fourths = not (inOrder (number samples) squares fourths) || isMinusZero squares || isMinusZero fourths
 
 -- Over 64 betas or 256 pairs, end below start, or samples times chunks above 2^32.
-abbrev pub badHead : Head → Bool
+unfoldable pub badHead : Head → Bool
 badHead h = ltb mostBetas (h .betas) || ltb mostPairs (h .pairs) || ltb (h .end) (h .start) || ltb mostSamples (chunksOf h * h .samples)
 
--- A row is of another kind, chunk, beta or pair than its place has, or its sums are bad.
-abbrev pub badRow : List ℕ → (chunk beta pair : ℕ) → Bool
-badRow bytes c b p =
-    let h = headOf bytes in
-    let k = b * h .pairs + p in
-    let place = rowPlace h c k in
-    not (eqb (wordAt bytes place 1) 18) || not (eqb (wordAt bytes (place + 1) 8) (h .start + c)) || not (eqb (wordAt bytes (place + 9) 1) b)
-    || not (eqb (wordAt bytes (place + 10) 2) p) || badSums (h .samples) (squaresIn bytes c k) (fourthsIn bytes c k)
+-- What stands at a place is no row, or one of another chunk, beta or pair, or its sums are bad.
+unfoldable pub badRowAt : List ℕ → (place chunk beta pair samples : ℕ) → Bool
+badRowAt bytes place chunk beta pair samples =
+    not (eqb (wordAt bytes place 1) 18) || not (eqb (wordAt bytes (place + 1) 8) chunk) || not (eqb (wordAt bytes (place + 9) 1) beta)
+    || not (eqb (wordAt bytes (place + 10) 2) pair) || badSums samples (doubleAt bytes (place + 12)) (doubleAt bytes (place + 20))
 
-abbrev pub badRecord : List ℕ → Bool
+-- The same of the rows behind a head: the row of a pair, some row of a beta, of a chunk, of so many chunks.
+module _ (bytes : List ℕ) (start samples betas pairs : ℕ) where
+  abbrev pub badPair : (chunk beta pair : ℕ) → Bool
+  badPair c b p = badRowAt bytes (32 + 28 * (c * (betas * pairs) + (b * pairs + p))) (start + c) b p samples
+
+  abbrev pub badBeta : (chunk beta : ℕ) → Bool
+  badBeta c b = some (badPair c b) pairs
+
+  abbrev pub badChunk : (chunk : ℕ) → Bool
+  badChunk c = some (badBeta c) betas
+
+  abbrev pub badChunks : (chunks : ℕ) → Bool
+  badChunks chunks = some badChunk chunks
+
+-- Some row of all chunks of a head.
+abbrev pub badRows : List ℕ → Head → Bool
+badRows bytes h = badChunks bytes (h .start) (h .samples) (h .betas) (h .pairs) (chunksOf h)
+
+-- 26: the bytes are not exactly a run record.
+unfoldable pub badRecord : List ℕ → Bool
 badRecord bytes =
-    let h = headOf bytes in
-    ltb (length bytes) 32 || not (eqb (wordAt bytes 0 1) 17) || badHead h || not (eqb (length bytes) (recordLength h))
-    || some (λ c. some (λ b. some (badRow bytes c b) (h .pairs)) (h .betas)) (chunksOf h)
+    ltb (length bytes) 32 || not (eqb (wordAt bytes 0 1) 17) || badHead (headOf bytes) || not (eqb (length bytes) (recordLength (headOf bytes)))
+    || badRows bytes (headOf bytes)

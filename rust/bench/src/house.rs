@@ -63,7 +63,7 @@ impl Laying {
         Laying { beta: BETAS[0], magnitudes, factors, signs }
     }
 
-    fn from_list(&self, laid: &mut [f64]) {
+    fn by_list(&self, laid: &mut [f64]) {
         for (e, (to, &minus)) in laid.iter_mut().zip(&self.signs).enumerate() {
             *to = self.factors[2 * e + usize::from(minus)];
         }
@@ -93,7 +93,7 @@ fn print_looked_up() {
         let laying = Laying::of(&job);
         let edges = laying.magnitudes.len();
         let rounds = Rounds { least: 5, round: 0.003, total: 0.1 };
-        let mut list = |laid: &mut [f64]| black_box(&laying).from_list(laid);
+        let mut list = |laid: &mut [f64]| black_box(&laying).by_list(laid);
         let mut table = |laid: &mut [f64]| black_box(&laying).looked_up(laid);
         let [from_list, looked_up] = times_beside(&rounds, edges, [&mut list, &mut table]).map(|seconds| 1e9 * seconds);
         let configurations = BETAS.len() as f64 * f64::from(1u32 << job.graph.cyclomatic());

@@ -17,6 +17,7 @@ mod graphs;
 mod guarded;
 mod house;
 mod previews;
+mod records;
 mod shapes;
 mod shares;
 mod sheets;
@@ -56,6 +57,12 @@ pub const GROUPS: &[Group] = &[
     Group { name: "shares", share: 1.0, refusals: &[25], try_one: shares::try_one },
     Group { name: "complete", share: 1.0, refusals: &[2, 12, 18], try_one: complete::try_one },
     Group { name: "sheets", share: 1.0, refusals: &[1, 2, 3, 4, 5, 6, 7, 8, 12, 19, 20, 21], try_one: sheets::try_one },
+    Group {
+        name: "records",
+        share: 2.0,
+        refusals: &[1, 2, 3, 4, 5, 6, 7, 8, 10, 11, 12, 13, 14, 21, 23, 26, 27],
+        try_one: records::try_one,
+    },
 ];
 
 /// How long a group is run.

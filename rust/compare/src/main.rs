@@ -15,8 +15,8 @@ usage: compare [options]
     --seed N       where the draws start; 1 by default
     --from N       the number of the first job; 0 by default
     --only NAME    one group: generators, graphs, strips, couplings, correlations, estimates, totals, columns, accuracies, house (the calls
-                   for house factors), previews, shares, complete (estimates of complete enumerations), sheets (job sheets); or wide, which runs only
-                   where it is named: windows from 19 to 24, with up to 3 GB of memory
+                   for house factors), previews, shares, complete (estimates of complete enumerations), sheets (job sheets), records (run
+                   records); or wide, which runs only where it is named: windows from 19 to 24, with up to 3 GB of memory
     --help         this text
 
 examples:

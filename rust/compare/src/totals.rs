@@ -1,11 +1,13 @@
 //! Totals over configurations, enumerated, stored and sampled, against the original where the factors are exponentials, and against
-//! document 01's rules where the job is small. Those by house factors are drawn apart.
+//! document 01's rules where the job is small. Those by house factors are drawn apart, and so are samplings that are
+//! written as run records.
 
 mod calls;
 mod drawing;
 mod expected;
 mod house;
 mod lent;
+mod recording;
 
 use crate::draw::Draw;
 use crate::guarded::{equal, Guarded};
@@ -13,6 +15,7 @@ use calls::Call;
 use drawing::{lend_factors, small, spoil_job, spoil_lists, vast};
 use expected::{outcome, Before, Outcome, COUNT_BEFORE};
 use lent::Lent;
+pub use recording::try_recording;
 
 pub fn try_one(draw: &mut Draw) -> Result<usize, String> {
     let mut call = if draw.once_in(25) { vast(draw) } else { small(draw) };

@@ -2,7 +2,7 @@
 
 use compare::{line, run, Until, GROUPS};
 
-const JOBS: [(&str, u64); 14] = [
+const JOBS: [(&str, u64); 15] = [
     ("generators", 150_000),
     ("graphs", 12_000),
     ("strips", 50_000),
@@ -17,6 +17,7 @@ const JOBS: [(&str, u64); 14] = [
     ("shares", 40_000),
     ("complete", 200_000),
     ("sheets", 20_000),
+    ("records", 40_000),
 ];
 
 #[test]

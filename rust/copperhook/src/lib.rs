@@ -68,6 +68,8 @@
 //! assert_eq!((refused, house::nearest(0.44)), (Err(Refusal::Couplings), 0.4375));
 //! # Ok::<(), copperhook::Refusal>(())
 //! ```
+//!
+//! The same in parts that travel: a sampling as a run record, records joined, and their totals ([`run_record`]).
 #![warn(missing_docs)]
 
 mod accuracy;
@@ -84,6 +86,7 @@ mod numbered;
 mod options;
 mod refusal;
 mod rng;
+pub mod run_record;
 mod shares;
 mod strip;
 pub mod sys;
@@ -98,6 +101,7 @@ pub use lists::{EdgeList, Factors, KeptList, LabelledPair};
 pub use options::{Arrangement, Caller, Manner, Options};
 pub use refusal::Refusal;
 pub use rng::Rng;
+pub use run_record::{record_join, record_totals};
 pub use shares::{shares, Share, Shares};
 pub use strip::{Dilution, Strip};
 

@@ -6,7 +6,7 @@ use std::fmt;
 numbered! {
     /// Why a call is refused. The numbers follow the order of the checks, but that 19 and 20 stand before 1, 24 right behind 2, 21 between
     /// 4 and 5, 22 right behind 6 for the window and right behind 9 for free edges, and 23 in the place of 10; strips check 15 to 17 before
-    /// 12, and 25 is that of shares alone. Of several reasons that fit, the first is returned.
+    /// 12, 25 is that of shares alone, and 26 and 27 stand before 1 where run records are read, 26 right behind 11 where one is written. Of several reasons that fit, the first is returned.
     pub enum Refusal;
 
     /// Returns what is wrong, as a sentence without its full stop.
@@ -40,6 +40,9 @@ numbered! {
     /// Places count from 0, dropped edges too: [`Job::preview`](crate::Job::preview).
     EdgePlace = 24, "no edge is at that place";
     Shares = 25, "there is no list or over 256, a list is empty or longer than 2^24, the lengths don't add up to what is lent, or an entry isn't from -1 to 1";
+    /// [`run_record`](crate::run_record) has the format.
+    Record = 26, "a run record isn't exactly as its format has it, or a run has its end below its start or over 2^32 - 1 samples per chunk";
+    Join = 27, "two run records differ in seed, samples per chunk, betas or pairs, or neither range of chunks ends where the other starts";
 }
 
 impl Refusal {

@@ -648,6 +648,83 @@ extern "C" {
         bytes: *mut usize,
     ) -> usize;
 
+    /// A sampling as a run record: the sums of each chunk.
+    pub fn copperhook_sample_record(
+        n: usize,
+        floor: usize,
+        a: *const usize,
+        a_len: usize,
+        b: *const usize,
+        b_len: usize,
+        m: *const f64,
+        m_len: usize,
+        us: *const usize,
+        us_len: usize,
+        vs: *const usize,
+        vs_len: usize,
+        betas: *const f64,
+        betas_len: usize,
+        factors: *const f64,
+        factors_len: usize,
+        options: usize,
+        seed: u64,
+        from: u64,
+        to: u64,
+        samples: usize,
+        record: *mut u8,
+        record_len: usize,
+        work: *mut f64,
+        work_len: usize,
+    ) -> usize;
+
+    /// The same with house factors.
+    pub fn copperhook_house_sample_record(
+        n: usize,
+        floor: usize,
+        a: *const usize,
+        a_len: usize,
+        b: *const usize,
+        b_len: usize,
+        m: *const f64,
+        m_len: usize,
+        us: *const usize,
+        us_len: usize,
+        vs: *const usize,
+        vs_len: usize,
+        betas: *const f64,
+        betas_len: usize,
+        options: usize,
+        seed: u64,
+        from: u64,
+        to: u64,
+        samples: usize,
+        record: *mut u8,
+        record_len: usize,
+        work: *mut f64,
+        work_len: usize,
+    ) -> usize;
+
+    /// Two run records as one.
+    pub fn copperhook_record_join(
+        one: *const u8,
+        one_len: usize,
+        two: *const u8,
+        two_len: usize,
+        joined: *mut u8,
+        joined_len: usize,
+    ) -> usize;
+
+    /// The totals of a run record.
+    pub fn copperhook_record_totals(
+        record: *const u8,
+        record_len: usize,
+        squares: *mut f64,
+        squares_len: usize,
+        fourths: *mut f64,
+        fourths_len: usize,
+        count: *mut usize,
+    ) -> usize;
+
     /// The kind that a name means.
     pub fn copperhook_kind_parse(name: *const u8, name_len: usize, kind: *mut usize) -> bool;
 

@@ -221,3 +221,8 @@ fn a_c_program_by_house_factors_prints_what_the_bindings_answer() {
 fn a_c_program_prints_shares_and_a_refused_call_leaves_them() {
     assert_eq!(printed_by("shares", &[]), "0 1 2 1 3 1 6 1 3\n25 7 7 7 7 7 7 7 7\n");
 }
+
+#[test]
+fn a_c_program_joins_records_and_takes_their_totals() {
+    assert_eq!(printed_by("records", &[]), "0 0 0\n0 0\n0 0 12 12\n26 27 26\n");
+}

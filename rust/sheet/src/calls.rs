@@ -51,4 +51,14 @@ impl Board {
             job.sample(&self.betas[betas], factors, self.options, by, squares, fourths, work)
         }
     }
+
+    /// The same at all betas, as a run record.
+    pub fn sample_record(&self, by: &Sampling, work: &mut [f64]) -> Result<Vec<u8>, Refusal> {
+        let (job, betas) = (self.job(), &self.betas);
+        if self.house {
+            job.house_sample_record(betas, self.options, by, work)
+        } else {
+            job.sample_record(betas, &self.factors.all, self.options, by, work)
+        }
+    }
 }

@@ -125,15 +125,18 @@ pub fn stored_memory(board: &Board) -> Result<Vec<f64>, Trouble> {
     })
 }
 
+/// That so many bytes are free, as far as the system says it; how many, where they are not.
+pub fn has_memory(bytes: f64) -> Result<(), String> {
+    free_memory().filter(|&free| free < bytes).map_or(Ok(()), |free| Err(format!("and {} are free", size(free))))
+}
+
 pub fn bytes(room: usize, threads: usize) -> f64 {
     8.0 * room as f64 * threads as f64
 }
 
 /// So many rooms, all +0.0; why not, where they do not fit the memory.
 fn allocated(room: usize, threads: usize) -> Result<Vec<f64>, String> {
-    if let Some(free) = free_memory().filter(|&free| free < bytes(room, threads)) {
-        return Err(format!("and {} are free", size(free)));
-    }
+    has_memory(bytes(room, threads))?;
     let (mut work, doubles) = (Vec::new(), room.saturating_mul(threads));
     work.try_reserve_exact(doubles).map_err(|_| "which cannot be had".to_string())?;
     work.resize(doubles, 0.0);

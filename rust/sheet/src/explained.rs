@@ -3,6 +3,7 @@
 use crate::options::Options;
 use crate::trouble::Trouble;
 use crate::values::spelled;
+use copperhook::run_record::{rows, Head, Row, HEAD_BYTES, ROW_BYTES};
 use copperhook::{house, limits, Graph, Job, Kind, Refusal, Strip};
 use std::path::Path;
 
@@ -202,6 +203,63 @@ pub fn of_beta(beta: f64, couplings: impl Iterator<Item = f64>, refusal: Refusal
         (other, _) => other.sentence().to_string(),
     };
     refused(format!("beta {}: {told}", spelled(beta)), refusal)
+}
+
+/// Where bytes stop being a run record: the byte, and why.
+pub fn stopped_record(bytes: &[u8]) -> String {
+    let Ok(head) = Head::read(bytes) else {
+        return match bytes.first() {
+            Some(17) | None => format!("it has {} bytes, and a head {HEAD_BYTES}", bytes.len()),
+            Some(kind) => format!("byte 0: a record of kind {kind}; a run record begins with kind 17"),
+        };
+    };
+    let (by, long) = (head.by, bytes.len());
+    let count = u128::from(by.to.saturating_sub(by.from)) * by.samples as u128;
+    if head.betas > limits::BETAS {
+        return format!("byte 29: {} betas; at most {}", head.betas, limits::BETAS);
+    }
+    if head.pairs > limits::PAIRS {
+        return format!("byte 30: {} pairs; at most {}", head.pairs, limits::PAIRS);
+    }
+    if by.to < by.from {
+        return format!("byte 17: the end of the chunks, {}, is below their start, {}", by.to, by.from);
+    }
+    if count > 1 << 32 {
+        return format!(
+            "byte 25: {} chunks of {} samples = {count} configurations; at most 4,294,967,296 (2^32)",
+            by.to - by.from,
+            by.samples
+        );
+    }
+    match head.bytes() {
+        Some(wanted) if wanted == long => stopped_row(bytes, &head),
+        Some(wanted) => {
+            format!("it has {long} bytes; chunks {}..{} of {} betas and {} pairs have {wanted}", by.from, by.to, head.betas, head.pairs)
+        }
+        None => format!(
+            "it has {long} bytes; chunks {}..{} of {} betas and {} pairs have more than any file",
+            by.from, by.to, head.betas, head.pairs
+        ),
+    }
+}
+
+/// The first row that is not the one of its place, or has sums that no chunk can have.
+fn stopped_row(record: &[u8], head: &Head) -> String {
+    let told = |(kind, chunk, beta, pair): (u8, u64, usize, usize)| format!("kind {kind}, chunk {chunk}, beta {beta}, pair {pair}");
+    for (i, Row { kind, chunk, beta, pair, squares, fourths }) in rows(record).enumerate() {
+        let (of_chunk, place) = (head.by.from + (i / head.rows_of_a_chunk()) as u64, i % head.rows_of_a_chunk());
+        let (found, expected) = ((kind, chunk, beta, pair), (18, of_chunk, place / head.pairs, place % head.pairs));
+        let at = HEAD_BYTES + i * ROW_BYTES;
+        if found != expected {
+            return format!("byte {at}: a row of {}; expected {}", told(found), told(expected));
+        }
+        let in_order = 0.0 <= fourths && fourths <= squares && squares <= head.by.samples as f64;
+        if !in_order || squares.is_sign_negative() || fourths.is_sign_negative() {
+            let rule = format!("0 <= fourth powers <= squares <= {} must hold, and no sum is -0", head.by.samples);
+            return format!("byte {at}: squares {} and fourth powers {}; {rule}", spelled(squares), spelled(fourths));
+        }
+    }
+    Refusal::Record.sentence().to_string()
 }
 
 /// What the library takes, and hardly anyone means.

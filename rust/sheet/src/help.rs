@@ -7,14 +7,20 @@ usage: sheet [make] --kind K --width N --length N --beta B,.. [options]
        sheet [make] --kind K --width N --length N --edges [options]
        sheet preview --kind K --width N --length N --beta B,.. --drop PLACE,..|all [options]
        sheet [make] --job FILE [options]
+       sheet record --kind K .. --sample N --chunks A..B --output FILE [--resume] [options]
+       sheet join FILE.. --output FILE
+       sheet totals FILE [the options of its job] [--format F] [--bits] [--output FILE]
        sheet show FILE
-       sheet verify FILE [--threads N]
+       sheet verify FILE [--threads N] [of a run record: the options of its job, --chunks A..B]
        sheet --help | --version
 
 make, which an option as the first word means, works a sheet out. verify works one in csv or json out again, from the
-record that it carries, compares it cell by cell (with --bits bit for bit, else digit by digit) and tells what differs.
+record that it carries, compares it cell by cell (with --bits bit for bit, else digit by digit) and tells what differs;
+of a run record it samples all chunks again, or those of --chunks, and tells the rows that differ.
 preview tells what dropping edges would do, each alone, before one is dropped; see below.
-show lists a job sheet, record by record with the byte of each, and where it stops being one, the byte and the reason.
+record writes drawn configurations as a run record, join makes one of several, totals makes a sheet of one; see below.
+show lists a job sheet, record by record with the byte of each, and where it stops being one, the byte and the reason;
+of a run record it tells the seed, chunks, samples, betas and pairs.
 
 the strip
     --kind K                 square, tri (with a diagonal), honey, or eight (with both diagonals)
@@ -68,6 +74,17 @@ of which configurations: one of these; without any, all, where at most 20 edges 
         --chunks C           that many chunks, or those of A..B, from A up to, and without, B; 1 by default
         --seed N             the seed of their streams; 1 by default
         --threads N          chunks at a time; the bits do not depend on it
+run records: a long sampling in parts, on as many machines as there are; docs/CLUSTER.md
+    record                   samples as --sample does, and writes for each chunk, beta and pair the sums of squares and
+                             of fourth powers, as little-endian bytes, to the file of --output, which is there whole or
+                             not at all. All of the above but --signs, --enumerate, --edges, --shares and --tester. With
+                             --resume a file that is the record of this run already stays, and is not worked out again
+    join                     records of one run whose chunks follow one another, named in any order, as one: the bytes
+                             of one long run. Chunks that are missing or there twice are told, or what differs
+    totals                   the sheet of a record. With the options of its job (the strip, --beta, --pairs, --manner,
+                             --house, or --job) that of --sample over the same chunks, with the record's SHA-256 too;
+                             verify works it out again by sampling. A record holds no job: that it is this one is the
+                             caller's word. Without them betas and pairs are numbered from 0, as text or csv
 how it is told
     --format F               text (the default), csv, json, or svg: a plot against distance
         --linear             its values on a linear axis; without it on a logarithmic one where they span decades
@@ -110,10 +127,15 @@ examples
     sheet --kind tri --width 3 --length 8 --beta 0.3 --seed 7 --write-job board.job
     sheet show board.job
     sheet --job board.job --seed 7
+    sheet record --job board.job --sample 100 --chunks 0..5 --threads 2 --output first.rec
+    sheet record --job board.job --sample 100 --chunks 5..8 --output second.rec
+    sheet join second.rec first.rec --output whole.rec
+    sheet totals whole.rec --job board.job
+    sheet verify whole.rec --job board.job --chunks 4..6
     sheet verify board.csv
     sheet --kind square --width 8 --length 12 --beta 0.2,0.44,0.8 --signs plus --format svg --output plot.svg
 
 Exit status: 0, 2 for a bad option or a refused job, 1 where memory or a file cannot be had.
-Of show: 0 for a job sheet whose job the library takes, else 2.
+Of show: 0 for a job sheet whose job the library takes, or a run record, else 2.
 Of verify: 0 where all agrees, 1 for a difference, 2 where the sheet cannot be read or worked out.
 ";

@@ -4,6 +4,7 @@ use crate::board::{counted, Board};
 use crate::explained;
 use crate::options::Options;
 use crate::output;
+use crate::run_record;
 use crate::trouble::Trouble;
 use crate::values::spelled;
 use copperhook::job_sheet::{Record, Records};
@@ -11,7 +12,8 @@ use copperhook::{JobSheet, Refusal};
 use std::fs;
 use std::path::Path;
 
-fn bytes(file: &Path) -> Result<Vec<u8>, Trouble> {
+/// What a file has.
+pub fn bytes(file: &Path) -> Result<Vec<u8>, Trouble> {
     fs::read(file).map_err(|e| Trouble::Machine(format!("{}: {e}", file.display())))
 }
 
@@ -90,16 +92,19 @@ fn line(place: usize, record: &Record) -> String {
     format!("{place:>6}  {}  {told}\n", kind(record))
 }
 
-/// What is told of a file, and whether it is a job sheet whose job the library takes.
+/// What is told of a file, and whether it is a job sheet whose job the library takes, or a run record.
 pub struct Shown {
     pub told: String,
     pub is_sheet: bool,
 }
 
 /// A line for each record: its byte, its kind, and what it has. Then whether it is a sheet, or the byte at which it stops being one and why; and
-/// of a sheet whether its job passes the checks.
+/// of a sheet whether its job passes the checks. Of a run record what its head says.
 pub fn show(file: &Path) -> Result<Shown, Trouble> {
     let bytes = bytes(file)?;
+    if bytes.first() == Some(&17) {
+        return Ok(run_record::shown(file, &bytes));
+    }
     let mut told = String::from("  byte  kind\n");
     let mut records = Records::new(&bytes);
     let mut place = 0;

@@ -4,6 +4,7 @@ mod accuracy;
 mod axes;
 mod board;
 mod calls;
+mod chunks;
 mod configuration;
 mod cost;
 mod data;
@@ -20,6 +21,7 @@ mod plot;
 mod preview;
 mod progress;
 mod record;
+mod run_record;
 mod sha256;
 mod shares;
 mod sheet;
@@ -50,6 +52,12 @@ fn make(options: &Options) -> Result<String, Trouble> {
     if options.shares {
         return shares::listed(options);
     }
+    if let Some(file) = &options.run_record {
+        return match options.job.is_none() && options.kind.is_empty() {
+            true => run_record::numbered(options, file),
+            false => run_record::sheet(options, file).map(|sheet| spelled(options, &sheet)),
+        };
+    }
     let mut board = Board::new(options)?;
     job_sheet::write_if_asked(options, &board)?;
     for warning in explained::warnings(options) {
@@ -65,12 +73,16 @@ fn make(options: &Options) -> Result<String, Trouble> {
     }
     let values = progress::shown(&cost, |done| source.values(&board, &mut work, done))?;
     let sheet = Sheet::new(options, &board, source.as_ref(), bounds, values);
-    Ok(match options.format {
-        Format::Text => text::text(&sheet),
-        Format::Csv => data::csv(&sheet),
-        Format::Json => data::json(&sheet),
-        Format::Svg => plot::svg(&sheet, options.linear),
-    })
+    Ok(spelled(options, &sheet))
+}
+
+fn spelled(options: &Options, sheet: &Sheet) -> String {
+    match options.format {
+        Format::Text => text::text(sheet),
+        Format::Csv => data::csv(sheet),
+        Format::Json => data::json(sheet),
+        Format::Svg => plot::svg(sheet, options.linear),
+    }
 }
 
 fn version() -> String {
@@ -87,11 +99,18 @@ fn run(words: &[String]) -> Result<u8, Trouble> {
             output::to_stdout(&verdict.told)?;
             return Ok(u8::from(!verdict.agrees));
         }
+        Asked::VerifyRecord { file, options, chunks, threads } => {
+            let verdict = run_record::verify(&file, &options, chunks, threads)?;
+            output::to_stdout(&verdict.told)?;
+            return Ok(u8::from(!verdict.agrees));
+        }
         Asked::Show(file) => {
             let shown = job_sheet::show(&file)?;
             output::to_stdout(&shown.told)?;
             return Ok(if shown.is_sheet { 0 } else { 2 });
         }
+        Asked::Record { options, resume } => run_record::write(&options, resume)?,
+        Asked::Join { files, output } => run_record::join(&files, &output)?,
         Asked::Sheet(options) => {
             let target = Target::ready(options.output.as_deref())?;
             target.take(&make(&options)?)?;

@@ -58,7 +58,9 @@ pub struct Options {
     pub job: Option<PathBuf>,
     /// Where the job goes as a job sheet.
     pub write_job: Option<PathBuf>,
-    /// Of the strip; nothing where there is a job sheet.
+    /// The run record whose totals are asked for.
+    pub run_record: Option<PathBuf>,
+    /// Of the strip; nothing where there is a job sheet, or the totals of a run record are asked for without their job.
     pub kind: String,
     pub width: usize,
     pub length: usize,
@@ -99,8 +101,28 @@ pub enum Asked {
         file: PathBuf,
         threads: usize,
     },
-    /// A job sheet, record by record.
+    /// A run record, sampled again.
+    VerifyRecord {
+        file: PathBuf,
+        /// The job that it is of.
+        options: Box<Options>,
+        /// These chunks of it alone.
+        chunks: Option<(u64, u64)>,
+        threads: usize,
+    },
+    /// A job sheet, record by record, or a run record.
     Show(PathBuf),
+    /// A sampling, written as a run record.
+    Record {
+        options: Box<Options>,
+        /// Whether a file that is the record of this run already is left as it is.
+        resume: bool,
+    },
+    /// Run records as one.
+    Join {
+        files: Vec<PathBuf>,
+        output: PathBuf,
+    },
     Sheet(Box<Options>),
 }
 
@@ -124,6 +146,10 @@ struct Written {
     dropped: Option<Dropped>,
     floor: Option<usize>,
     shares: bool,
+    record: bool,
+    resume: bool,
+    run_record: Option<PathBuf>,
+    verified: Option<PathBuf>,
     sample: Option<usize>,
     chunks: Option<(u64, u64)>,
     threads: Option<usize>,
@@ -143,6 +169,9 @@ pub fn parse(words: &[String]) -> Result<Asked, Trouble> {
         None => Err(Trouble::asked("nothing is asked for; sheet --help tells how to ask")),
         Some((first, rest)) if first == "make" => made(rest, Written::default()),
         Some((first, rest)) if first == "preview" => made(rest, Written { preview: true, ..Written::default() }),
+        Some((first, rest)) if first == "record" => made(rest, Written { record: true, ..Written::default() }),
+        Some((first, rest)) if first == "join" => joined(rest),
+        Some((first, rest)) if first == "totals" => totalled(rest),
         Some((first, rest)) if first == "verify" => verified(rest),
         Some((first, rest)) if first == "show" => shown(rest),
         Some((first, _)) if first.starts_with('-') => made(words, Written::default()),
@@ -150,8 +179,27 @@ pub fn parse(words: &[String]) -> Result<Asked, Trouble> {
     }
 }
 
-/// `verify FILE`, with `--threads N` for a sheet of drawn configurations.
+/// The options that say of which job a run record is, or how it is sampled again.
+const OF_RECORD: [&str; 12] = [
+    "--job",
+    "--kind",
+    "--width",
+    "--length",
+    "--cylinder",
+    "--dilute",
+    "--beta",
+    "--pairs",
+    "--manner",
+    "--house",
+    "--less-room",
+    "--chunks",
+];
+
+/// `verify FILE`, with `--threads N` for a sheet of drawn configurations; of a run record with the options of its job.
 fn verified(words: &[String]) -> Result<Asked, Trouble> {
+    if words.iter().any(|word| OF_RECORD.contains(&word.split('=').next().unwrap_or_default())) {
+        return verified_record(words);
+    }
     let (mut file, mut threads) = (None, None);
     let mut words = words.iter();
     while let Some(word) = words.next() {
@@ -176,6 +224,14 @@ fn verified(words: &[String]) -> Result<Asked, Trouble> {
     Ok(Asked::Verify { file, threads: threads.unwrap_or(1) })
 }
 
+/// `verify FILE`, with the job that the record in it is of.
+fn verified_record(words: &[String]) -> Result<Asked, Trouble> {
+    match words.split_first() {
+        Some((file, rest)) if !file.starts_with('-') => made(rest, Written { verified: Some(PathBuf::from(file)), ..Written::default() }),
+        _ => Err(Trouble::asked("verify needs a file before the options of its job: a run record")),
+    }
+}
+
 /// `show FILE`.
 fn shown(words: &[String]) -> Result<Asked, Trouble> {
     match words {
@@ -184,6 +240,40 @@ fn shown(words: &[String]) -> Result<Asked, Trouble> {
         [file] => Ok(Asked::Show(PathBuf::from(file))),
         [_, second, ..] => Err(Trouble::asked(format!("show takes one file; {second} is a second"))),
         [] => Err(Trouble::asked("show needs a file: a job sheet")),
+    }
+}
+
+/// `join FILE FILE.. --output FILE`.
+fn joined(words: &[String]) -> Result<Asked, Trouble> {
+    let (mut files, mut output) = (Vec::new(), None);
+    let mut words = words.iter();
+    while let Some(word) = words.next() {
+        match word.split_once('=').map_or((word.as_str(), None), |(name, value)| (name, Some(value.to_string()))) {
+            ("--help" | "-h", _) => return Ok(Asked::Help),
+            ("--output", value) => {
+                let value = value.or_else(|| words.next().cloned());
+                let value = value.ok_or_else(|| Trouble::asked("--output needs a value; sheet --help tells which"))?;
+                once(&mut output, "--output", PathBuf::from(value))?;
+            }
+            (option, _) if option.starts_with("--") => {
+                return Err(Trouble::asked(format!("join has no option {option}; sheet --help tells them")))
+            }
+            _ => files.push(PathBuf::from(word)),
+        }
+    }
+    if files.is_empty() {
+        return Err(Trouble::asked("join needs files: run records"));
+    }
+    let output = output.ok_or_else(|| Trouble::asked("--output is required (the file of the joined record)"))?;
+    Ok(Asked::Join { files, output })
+}
+
+/// `totals FILE`, with the options of its job, or without them.
+fn totalled(words: &[String]) -> Result<Asked, Trouble> {
+    match words.split_first() {
+        Some((option, _)) if option == "--help" || option == "-h" => Ok(Asked::Help),
+        Some((file, rest)) if !file.starts_with('-') => made(rest, Written { run_record: Some(PathBuf::from(file)), ..Written::default() }),
+        _ => Err(Trouble::asked("totals needs a file: a run record, before any option")),
     }
 }
 
@@ -204,7 +294,14 @@ fn made(words: &[String], mut written: Written) -> Result<Asked, Trouble> {
             written.value(name, value)?;
         }
     }
-    written.put_together().map(|options| Asked::Sheet(Box::new(options)))
+    let (record, resume) = (written.record, written.resume);
+    if let Some(file) = written.verified.take() {
+        written.only_verified()?;
+        let (chunks, threads) = (written.chunks.take(), written.threads.take().unwrap_or(1));
+        return Ok(Asked::VerifyRecord { file, options: Box::new(written.put_together()?), chunks, threads });
+    }
+    let options = Box::new(written.put_together()?);
+    Ok(if record { Asked::Record { options, resume } } else { Asked::Sheet(options) })
 }
 
 /// The first option stays: a second one would say something else.
@@ -228,6 +325,7 @@ impl Written {
             "--less-room" => &mut self.less_room,
             "--tester" => &mut self.tester,
             "--house" => &mut self.house,
+            "--resume" => &mut self.resume,
             _ => return Ok(false),
         };
         *slot = true;
@@ -361,6 +459,92 @@ impl Written {
         }
     }
 
+    /// A run record is of drawn configurations, and bytes.
+    fn only_record(&self) -> Result<(), Trouble> {
+        let given = [
+            ("--signs", self.signs.is_some()),
+            ("--enumerate", self.enumerate),
+            ("--edges", self.edges),
+            ("--shares", self.shares),
+            ("--tester", self.tester),
+            ("--format", self.format.is_some()),
+            ("--bits", self.bits),
+        ];
+        if let Some((name, _)) = given.iter().find(|g| g.1) {
+            return Err(Trouble::asked(format!(
+                "record and {name} cannot be combined: a run record is the sums of drawn configurations, as bytes"
+            )));
+        }
+        match (self.sample, &self.output) {
+            (None, _) => Err(Trouble::asked("--sample is required (samples in each chunk)")),
+            (_, None) => Err(Trouble::asked("--output is required (the file of the record)")),
+            _ => Ok(()),
+        }
+    }
+
+    /// A run record has its own configurations; what else is asked is how its job names betas and pairs.
+    fn only_totals(&self) -> Result<(), Trouble> {
+        let given = [
+            ("--signs", self.signs.is_some()),
+            ("--sample", self.sample.is_some()),
+            ("--enumerate", self.enumerate),
+            ("--seed", self.seed.is_some()),
+            ("--chunks", self.chunks.is_some()),
+            ("--threads", self.threads.is_some()),
+            ("--edges", self.edges),
+            ("--shares", self.shares),
+            ("--less-room", self.less_room),
+            ("--tester", self.tester),
+            ("--write-job", self.write_job.is_some()),
+        ];
+        match given.iter().find(|g| g.1) {
+            Some((name, _)) => Err(Trouble::asked(format!("totals and {name} cannot be combined: the record has its own configurations"))),
+            None => Ok(()),
+        }
+    }
+
+    /// A run record that is sampled again has its own configurations, but for which chunks of it are taken.
+    fn only_verified(&self) -> Result<(), Trouble> {
+        let given = [
+            ("--signs", self.signs.is_some()),
+            ("--sample", self.sample.is_some()),
+            ("--enumerate", self.enumerate),
+            ("--seed", self.seed.is_some()),
+            ("--edges", self.edges),
+            ("--shares", self.shares),
+            ("--tester", self.tester),
+            ("--write-job", self.write_job.is_some()),
+            ("--format", self.format.is_some()),
+            ("--bits", self.bits),
+            ("--output", self.output.is_some()),
+        ];
+        match given.iter().find(|g| g.1) {
+            Some((name, _)) => Err(Trouble::asked(format!("verify and {name} cannot be combined: the record has its own configurations"))),
+            None => Ok(()),
+        }
+    }
+
+    /// Whether a strip or a job sheet is given.
+    fn has_job(&self) -> bool {
+        self.job.is_some() || self.kind.is_some() || self.width.is_some() || self.length.is_some() || self.betas.is_some()
+    }
+
+    /// What says nothing without a job.
+    fn only_numbers(&self) -> Result<(), Trouble> {
+        let given = [
+            ("--cylinder", self.cylinder),
+            ("--dilute", self.dilution.is_some()),
+            ("--pairs", self.pairs.is_some()),
+            ("--manner", self.per_element.is_some()),
+            ("--house", self.house),
+        ];
+        match (given.iter().find(|g| g.1), self.format) {
+            (Some((name, _)), _) => Err(Trouble::asked(format!("{name} is of the job; give its strip, or --job, too"))),
+            (_, Some(Format::Json | Format::Svg)) => Err(Trouble::asked("totals without their job are told as text or csv")),
+            _ => Ok(()),
+        }
+    }
+
     /// A job sheet has its own graph, pairs and betas.
     fn only_job(&self) -> Result<(), Trouble> {
         let given = [
@@ -393,6 +577,18 @@ impl Written {
         } else if let Some((name, _)) = [("--drop", self.dropped.is_some()), ("--floor", self.floor.is_some())].iter().find(|g| g.1) {
             return Err(Trouble::asked(format!("{name} is for a preview; write sheet preview {name} ..")));
         }
+        if self.record {
+            self.only_record()?;
+        } else if self.resume {
+            return Err(Trouble::asked("--resume is for a run record; write sheet record --resume .."));
+        }
+        if self.run_record.is_some() {
+            self.only_totals()?;
+            if !self.has_job() {
+                self.only_numbers()?;
+                (self.kind, self.width, self.length, self.betas) = (Some(String::new()), Some(0), Some(0), Some(Vec::new()));
+            }
+        }
         if self.job.is_some() {
             self.only_job()?;
             (self.kind, self.width, self.length, self.betas) = (Some(String::new()), Some(0), Some(0), Some(Vec::new()));
@@ -407,6 +603,7 @@ impl Written {
         Ok(Options {
             job: self.job.take(),
             write_job: self.write_job.take(),
+            run_record: self.run_record.take(),
             wanted: self.wanted()?,
             kind: needed(self.kind, "--kind", "square, tri, honey or eight")?,
             width: needed(self.width, "--width", "vertices across")?,
@@ -555,6 +752,45 @@ mod tests {
         assert_eq!(parsed("show a b").unwrap_err().to_string(), "show takes one file; b is a second");
         assert_eq!(parsed("show --bits").unwrap_err().to_string(), "show has no option --bits; sheet --help tells them");
         assert_eq!(parsed("show a"), Ok(Asked::Show(PathBuf::from("a"))));
+        for (line, told) in [
+            ("record --kind sq --width 2 --length 3 --beta 1 --output a", "--sample is required (samples in each chunk)"),
+            ("record --kind sq --width 2 --length 3 --beta 1 --sample 4", "--output is required (the file of the record)"),
+            ("record --sample 4 --output a", "--kind is required (square, tri, honey or eight)"),
+            (
+                "record --job a --sample 4 --output b --bits",
+                "record and --bits cannot be combined: a run record is the sums of drawn configurations, as bytes",
+            ),
+            ("--job a --resume", "--resume is for a run record; write sheet record --resume .."),
+            ("join --output a", "join needs files: run records"),
+            ("join a b", "--output is required (the file of the joined record)"),
+            ("join a b --bits", "join has no option --bits; sheet --help tells them"),
+            ("join a --output b --output c", "--output is given twice"),
+            ("totals", "totals needs a file: a run record, before any option"),
+            ("totals --job a", "totals needs a file: a run record, before any option"),
+            ("totals a --sample 3", "totals and --sample cannot be combined: the record has its own configurations"),
+            ("totals a --house", "--house is of the job; give its strip, or --job, too"),
+            ("totals a --format svg", "totals without their job are told as text or csv"),
+            ("totals a --beta 1", "--kind is required (square, tri, honey or eight)"),
+            ("verify --job a", "verify needs a file before the options of its job: a run record"),
+            ("verify a --job b --seed 3", "verify and --seed cannot be combined: the record has its own configurations"),
+            ("verify a --chunks 0..3", "--kind is required (square, tri, honey or eight)"),
+        ] {
+            assert_eq!(parsed(line).unwrap_err().to_string(), told);
+        }
+        let Ok(Asked::VerifyRecord { file, options, chunks, threads }) = parsed("verify a --job b --chunks 2..3 --threads 2 --house")
+        else {
+            panic!()
+        };
+        assert_eq!(
+            (file, options.job, options.house, chunks, threads),
+            (PathBuf::from("a"), Some(PathBuf::from("b")), true, Some((2, 3)), 2)
+        );
+        let files = ["b", "a"].map(PathBuf::from).to_vec();
+        assert_eq!(parsed("join b a --output=c"), Ok(Asked::Join { files, output: PathBuf::from("c") }));
+        assert_eq!(
+            (parsed("join --help"), parsed("totals -h"), parsed("record --help")),
+            (Ok(Asked::Help), Ok(Asked::Help), Ok(Asked::Help))
+        );
         for name in ["--kind sq", "--width 2", "--cylinder", "--beta 1", "--pairs 0-1", "--edges"] {
             let first = name.split(' ').next().unwrap();
             let told = format!("--job and {first} cannot be combined: the job sheet has its own graph, pairs and betas");

@@ -44,18 +44,24 @@ impl Target {
 
     /// A sheet that its file does not take is not lost: it goes to standard output.
     pub fn take(&self, text: &str) -> Result<(), Trouble> {
-        let (path, written) = match self {
-            Target::Stdout => return to_stdout(text),
-            Target::Stream(path) => {
-                (path, fs::OpenOptions::new().write(true).open(path).and_then(|mut stream| stream.write_all(text.as_bytes())))
-            }
-            Target::Whole { file, mode } => (file, replace(file, mode.as_ref(), text.as_bytes())),
-        };
-        written.or_else(|e| {
+        if let Target::Stdout = self {
+            return to_stdout(text);
+        }
+        self.take_bytes(text.as_bytes()).or_else(|trouble| {
             tell("sheet: it cannot be written to its file, and goes to standard output\n");
             to_stdout(text)?;
-            Err(Trouble::Machine(format!("--output {}: {e}", path.display())))
+            Err(trouble)
         })
+    }
+
+    /// What is no text goes to its file, and nowhere else.
+    pub fn take_bytes(&self, bytes: &[u8]) -> Result<(), Trouble> {
+        let (path, written) = match self {
+            Target::Stdout => return Err(Trouble::asked("--output is required: this is no text")),
+            Target::Stream(path) => (path, fs::OpenOptions::new().write(true).open(path).and_then(|mut stream| stream.write_all(bytes))),
+            Target::Whole { file, mode } => (file, replace(file, mode.as_ref(), bytes)),
+        };
+        written.map_err(|e| Trouble::Machine(format!("--output {}: {e}", path.display())))
     }
 }
 

@@ -68,7 +68,8 @@ impl Record {
     }
 }
 
-fn build() -> [Entry; 3] {
+/// What is told of this build.
+pub fn build() -> [Entry; 3] {
     [("copperhook", Field::text(VERSION)), ("commit", Field::text(COMMIT)), ("archive_sha256", Field::text(ARCHIVE_SHA256))]
 }
 

@@ -1,16 +1,16 @@
 //! Mean squares of correlations: over all configurations, with their spreads, or over drawn ones, with their standard errors.
 
 use crate::board::{counted, Board};
+use crate::chunks::in_order;
 use crate::explained::refused;
 use crate::options::Drawing;
 use crate::record::{Entry, Field};
+use crate::run_record::Parts;
 use crate::source::{Bounds, Done, Source, Values};
 use crate::trouble::Trouble;
+use copperhook::run_record::Totals;
 use copperhook::{estimates, estimates_complete, limits, mean_error_bound, Refusal, Sampling};
-use std::collections::BTreeMap;
 use std::ops::Range;
-use std::sync::atomic::{AtomicU64, Ordering};
-use std::sync::Mutex;
 
 /// Of drawn configurations. One has a mean and no error.
 fn columns(count: usize) -> &'static [&'static str] {
@@ -193,42 +193,17 @@ impl Sampled {
     }
 }
 
-/// Chunks that are done, added as soon as all before them are.
-struct Joined {
-    total: Sums,
-    next: u64,
-    waiting: BTreeMap<u64, Sums>,
-    refused: Option<Trouble>,
+/// Where a chunk is refused, each beta is asked for by itself, to name the one that it comes from.
+fn refused_chunk(board: &Board, by: &Sampling, work: &mut [f64], refusal: Refusal) -> Trouble {
+    let refused_at = |i: usize| chunk_sums(board, i..i + 1, by, work).err().map(|refusal| board.refused_at(i, refusal));
+    (0..board.betas.len()).find_map(refused_at).unwrap_or_else(|| board.refused(refusal))
 }
 
-impl Joined {
-    fn take(&mut self, chunk: u64, sums: Result<Sums, Trouble>) {
-        match sums {
-            Ok(sums) => drop(self.waiting.insert(chunk, sums)),
-            Err(trouble) => self.refused = Some(trouble),
-        }
-        while let Some(sums) = self.waiting.remove(&self.next) {
-            self.total.add(&sums);
-            self.next += 1;
-        }
-    }
-}
-
-/// One chunk's sums. Where they are refused, each beta is asked for by itself, to name the one that it comes from.
-fn chunk_sums(board: &Board, by: &Sampling, work: &mut [f64]) -> Result<Sums, Trouble> {
-    let mut call = |betas: Range<usize>| {
-        let mut sums = Sums::zero(betas.len() * board.pairs.len());
-        let drawn = board.sample(betas, by, &mut sums.squares, &mut sums.fourths, work);
-        drawn.map(|_| sums)
-    };
-    call(0..board.betas.len()).map_err(|refusal| {
-        for i in 0..board.betas.len() {
-            if let Err(refusal) = call(i..i + 1) {
-                return board.refused_at(i, refusal);
-            }
-        }
-        board.refused(refusal)
-    })
+/// One chunk's sums at the betas of these places.
+fn chunk_sums(board: &Board, betas: Range<usize>, by: &Sampling, work: &mut [f64]) -> Result<Sums, Refusal> {
+    let mut sums = Sums::zero(betas.len() * board.pairs.len());
+    board.sample(betas, by, &mut sums.squares, &mut sums.fourths, work)?;
+    Ok(sums)
 }
 
 impl Source for Sampled {
@@ -275,50 +250,51 @@ impl Source for Sampled {
     /// Threads take chunk after chunk; the sums are added in the order of the chunks, as one call of all would add them.
     fn values(&self, board: &Board, work: &mut [f64], done: Done) -> Result<Values, Trouble> {
         let pairs = board.pairs.len();
-        let next = AtomicU64::new(0);
-        let total = Sums::zero(board.betas.len() * pairs);
-        let joined = Mutex::new(Joined { total, next: self.by.from, waiting: BTreeMap::new(), refused: None });
-        let sweep = |work: &mut [f64]| loop {
-            let i = next.fetch_add(1, Ordering::Relaxed);
-            if i >= self.chunks() {
-                return;
-            }
-            let chunk = self.by.from + i;
-            let sums = chunk_sums(board, &Sampling { from: chunk, to: chunk + 1, ..self.by }, work);
-            let mut joined = joined.lock().unwrap_or_else(|poisoned| poisoned.into_inner());
-            joined.take(chunk, sums);
-            if joined.refused.is_some() {
-                return;
-            }
-            done(joined.next - self.by.from, self.chunks(), "chunks");
+        let mut total = Sums::zero(board.betas.len() * pairs);
+        let add = |sums: Sums| {
+            total.add(&sums);
+            Ok(())
         };
-        std::thread::scope(|scope| {
-            for work in work.chunks_exact_mut(board.room()).take(self.threads) {
-                scope.spawn(|| sweep(work));
-            }
-        });
-        let joined = joined.into_inner().unwrap_or_else(|poisoned| poisoned.into_inner());
-        match joined.refused {
-            Some(trouble) => Err(trouble),
-            None => joined.total.estimates(self.count, pairs).map_err(|refusal| board.refused(refusal)),
-        }
+        self.by_chunk(board, work, |by, work| chunk_sums(board, 0..board.betas.len(), by, work), add, done)?;
+        total.estimates(self.count, pairs).map_err(|refusal| board.refused(refusal))
+    }
+}
+
+impl Sampled {
+    /// What is made of each chunk, several at a time, taken in their order.
+    fn by_chunk<T: Send>(
+        &self,
+        board: &Board,
+        work: &mut [f64],
+        make: impl Fn(&Sampling, &mut [f64]) -> Result<T, Refusal> + Sync,
+        take: impl FnMut(T) -> Result<(), Trouble> + Send,
+        done: Done,
+    ) -> Result<(), Trouble> {
+        let rooms = work.chunks_exact_mut(board.room()).take(self.threads);
+        let made = |chunk: u64, work: &mut [f64]| {
+            let by = Sampling { from: chunk, to: chunk + 1, ..self.by };
+            make(&by, work).map_err(|refusal| refused_chunk(board, &by, work, refusal))
+        };
+        in_order(self.by.from..self.by.to, rooms, made, take, done)
+    }
+
+    /// The same as a run record.
+    pub fn recorded(&self, board: &Board, work: &mut [f64], done: Done) -> Result<Vec<u8>, Trouble> {
+        let mut parts = Parts::default();
+        self.by_chunk(board, work, |by, work| board.sample_record(by, work), |part| parts.add(part), done)?;
+        parts.joined()
+    }
+
+    /// The values of totals that were added before, where there are any.
+    pub fn estimated(&self, totals: Totals, pairs: usize) -> Result<Values, Refusal> {
+        let Totals { count, squares, fourths } = totals;
+        Sums { squares, fourths }.estimates(count, pairs)
     }
 }
 
 #[cfg(test)]
 mod tests {
     use super::*;
-
-    #[test]
-    fn chunks_are_added_in_order() {
-        let sums = |x: f64| Sums { squares: vec![x], fourths: vec![x] };
-        let mut joined = Joined { total: Sums::zero(1), next: 5, waiting: BTreeMap::new(), refused: None };
-        let parts = [1e16, 1.0, 1.0, -1e16];
-        for i in [3, 1, 0, 2] {
-            joined.take(5 + i, Ok(sums(parts[i as usize])));
-        }
-        assert_eq!((joined.total, joined.next), (sums(((1e16 + 1.0) + 1.0) - 1e16), 9));
-    }
 
     #[test]
     fn too_many_are_refused() {

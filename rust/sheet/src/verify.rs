@@ -13,6 +13,9 @@ type Cells = BTreeMap<String, String>;
 /// What may differ between two builds that give the same numbers.
 const OF_THE_BUILD: [&str; 3] = ["copperhook", "commit", "archive_sha256"];
 
+/// What a sheet of a run record's totals says of the record.
+const OF_RECORD: &str = "run_record_sha256";
+
 /// So many differences are told one by one.
 const TOLD: usize = 20;
 
@@ -25,12 +28,22 @@ pub struct Verdict {
 /// The sheet is worked out by `make`, in the format in which it is found.
 pub fn verify(path: &Path, threads: usize, make: impl Fn(&Options) -> Result<String, Trouble>) -> Result<Verdict, Trouble> {
     let named = |why: String| Trouble::asked(format!("{}: {why}", path.display()));
-    let text = fs::read_to_string(path).map_err(|e| named(e.to_string()))?;
+    let bytes = fs::read(path).map_err(|e| named(e.to_string()))?;
+    if bytes.first() == Some(&17) {
+        return Err(named("a run record holds no job; give its options too, as sheet verify FILE --job board.job".to_string()));
+    }
+    let text = String::from_utf8(bytes).map_err(|_| named("it is no text".to_string()))?;
     let format = if text.trim_start().starts_with('{') { Format::Json } else { Format::Csv };
-    let found = cells(&text, format).map_err(named)?;
+    let mut found = cells(&text, format).map_err(named)?;
     let options = job(&found, format, threads).map_err(named)?;
     let expected = cells(&make(&options)?, format).map_err(named)?;
-    Ok(compared(&path.display().to_string(), &found, &expected, &options))
+    // the totals of a run record are those of a sampling, which has no record
+    let of_record = !expected.contains_key(OF_RECORD) && found.remove(OF_RECORD).is_some();
+    let mut verdict = compared(&path.display().to_string(), &found, &expected, &options);
+    if of_record {
+        verdict.told.insert_str(0, "note: the sheet is of the totals of a run record; they were worked out again by sampling\n");
+    }
+    Ok(verdict)
 }
 
 fn cells(text: &str, format: Format) -> Result<Cells, String> {
@@ -89,7 +102,8 @@ fn job(found: &Cells, format: Format, threads: usize) -> Result<Options, String>
     }
     options.bits = found.iter().any(|(place, cell)| place.contains("_bits") || place == "columns" && cell.contains("_bits"));
     // a sheet of all configurations from before spreads is worked out as it was made
-    let of_all = matches!(options.wanted, Wanted::Unsaid | Wanted::Enumerated) && !options.edges && !options.shares;
+    let of_all =
+        matches!(options.wanted, Wanted::Unsaid | Wanted::Enumerated) && !options.edges && !options.shares && options.run_record.is_none();
     let named = |(place, cell): (&String, &String)| place.contains("spread") || place == "columns" && cell.contains("spread");
     options.as_sampled = of_all && !found.iter().any(named);
     Ok(Options { format, output: None, ..options })

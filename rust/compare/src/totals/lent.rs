@@ -56,6 +56,28 @@ impl Lent<'_> {
         }
     }
 
+    /// The same lists, lent to the entry that writes a run record, with more options.
+    #[rustfmt::skip]
+    pub fn recorded(&self, more: usize, record: &mut Guarded<u8>, work: &mut Guarded<f64>) -> usize {
+        let [a, b, us, vs] = self.numbers.each_ref().map(|list| (list.pointer(), list.len()));
+        let [m, betas, f] = self.doubles.each_ref().map(|list| (list.pointer(), list.len()));
+        let (e, by, options) = (&self.call.edges, self.call.by, self.call.options + more);
+        let (record, work) = ((record.pointer_mut(), record.len()), (work.pointer_mut(), work.len()));
+        unsafe {
+            if self.call.house {
+                sys::copperhook_house_sample_record(
+                    e.n, e.floor, a.0, a.1, b.0, b.1, m.0, m.1, us.0, us.1, vs.0, vs.1, betas.0, betas.1, options,
+                    by.seed, by.from, by.to, by.samples, record.0, record.1, work.0, work.1,
+                )
+            } else {
+                sys::copperhook_sample_record(
+                    e.n, e.floor, a.0, a.1, b.0, b.1, m.0, m.1, us.0, us.1, vs.0, vs.1, betas.0, betas.1, f.0, f.1, options,
+                    by.seed, by.from, by.to, by.samples, record.0, record.1, work.0, work.1,
+                )
+            }
+        }
+    }
+
     pub fn unchanged(&self) -> Result<(), String> {
         let (e, p) = (&self.call.edges, &self.call.pairs);
         let numbers = [("a", &e.a), ("b", &e.b), ("us", &p.us), ("vs", &p.vs)];

@@ -1,0 +1,3 @@
+-- What the theorems rest on.
+pub mod Plus
+pub mod Squares

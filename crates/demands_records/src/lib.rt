@@ -1,0 +1,1 @@
+// What the demands say of run records: theorems only.

@@ -1,0 +1,1 @@
+// No code: what was written by accepted calls joins to one long run, as theorems about the contracts.

@@ -1,0 +1,1 @@
+// What a run record is, by its bytes: theorems only.

@@ -1,0 +1,4 @@
+-- Definitions,
+pub mod Totals
+-- and the laws of these definitions, which no reader needs to believe.
+pub mod Laws
