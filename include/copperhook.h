@@ -190,6 +190,29 @@ size_t copperhook_exhaustive(size_t n, size_t floor, const size_t *a, size_t a_l
                              size_t squares_len, double *fourths, size_t fourths_len, double *work, size_t work_len, size_t *count);
 
 /*
+ * The sums of an enumeration in parts. For the chunks from `from` up to, and without, `to`, each chunk's own sums, as above, from +0.0, chunk
+ * by chunk: with s = betas_len * us_len, those of chunk from + c are at c * s of both lists. Chunks hold 1,024 configurations, or all if
+ * fewer, in the order of their numbers. Both numbers count as at most the number of chunks, and both lists have exactly s doubles for each
+ * chunk that is left. *count is how many configurations these chunks hold. Of the options the manner and the arrangement are read.
+ * Refusals: as copperhook_exhaustive's, without 22; 14 of these chunks alone.
+ */
+size_t copperhook_exhaustive_chunks(size_t n, size_t floor, const size_t *a, size_t a_len, const size_t *b, size_t b_len, const double *m,
+                                    size_t m_len, const size_t *us, size_t us_len, const size_t *vs, size_t vs_len, const double *betas,
+                                    size_t betas_len, const double *factors, size_t factors_len, size_t options, uint64_t from,
+                                    uint64_t to, double *squares, size_t squares_len, double *fourths, size_t fourths_len, double *work,
+                                    size_t work_len, size_t *count);
+
+/*
+ * Sums of chunks, in order, onto running totals: to total k number c * s + k of the parts is added for c = 0, 1, .., with s the number of
+ * totals, each sum rounded once. From +0.0 totals, the chunks of ranges that follow one another from chunk 0 to the last leave what
+ * copperhook_exhaustive leaves, bit for bit, and their counts add up to its count.
+ * Refusal: 12, where the totals' lists differ in length, or the parts' do, or the parts' length is no multiple of the totals' (with no
+ * totals the parts are empty).
+ */
+size_t copperhook_totals_add(const double *subsquares, size_t subsquares_len, const double *subfourths, size_t subfourths_len,
+                             double *squares, size_t squares_len, double *fourths, size_t fourths_len);
+
+/*
  * The correlations of all configurations themselves: that of beta i, pair p and configuration x, of c, at (i * us_len + p) * c + x of
  * `stored`, which has exactly betas_len * us_len * c doubles. All else is as above.
  * Refusals: 1 to 10 (9 from 25 free edges on), 12, 13, 14, 22.
@@ -289,6 +312,16 @@ size_t copperhook_house_exhaustive(size_t n, size_t floor, const size_t *a, size
                                    const double *m, size_t m_len, const size_t *us, size_t us_len, const size_t *vs, size_t vs_len,
                                    const double *betas, size_t betas_len, size_t options, double *squares, size_t squares_len,
                                    double *fourths, size_t fourths_len, double *work, size_t work_len, size_t *count);
+
+/*
+ * The same in parts: as copperhook_exhaustive_chunks. The sums are added by copperhook_totals_add.
+ * Refusals: as copperhook_house_exhaustive's, without 22; 14 of these chunks alone.
+ */
+size_t copperhook_house_exhaustive_chunks(size_t n, size_t floor, const size_t *a, size_t a_len, const size_t *b, size_t b_len, const double *m,
+                                          size_t m_len, const size_t *us, size_t us_len, const size_t *vs, size_t vs_len,
+                                          const double *betas, size_t betas_len, size_t options, uint64_t from, uint64_t to, double *squares,
+                                          size_t squares_len, double *fourths, size_t fourths_len, double *work, size_t work_len,
+                                          size_t *count);
 
 /*
  * The correlations of all configurations themselves.

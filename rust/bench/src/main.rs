@@ -1,11 +1,11 @@
 //! Copperhook's time beside the original's: the same jobs, in one run, both built for release.
 //!
-//!     rust/bench/run [--quick | --width N | --checks | --totals [--width N] | --arrangements [--width N] | --house | --shares | --records | --memory | --growth | --limits | --accuracy]
+//!     rust/bench/run [--quick | --width N | --checks | --totals [--width N] | --arrangements [--width N] | --house | --shares | --records | --chunks | --memory | --growth | --limits | --accuracy]
 //!
 //! proves what is needed, builds the archive and runs this. Without an option, widths 4 to 20, the checks and the totals are measured. `--quick`
 //! stops at width 10, and for the totals at 8; `--width N` measures one width alone, from 1 to 24, and prints how much memory a job's room is;
 //! `--checks` measures what a call costs before its sweeps, previews of a dropped edge, and the counting of components, `--totals` the totals alone, of one width from 4 to 20 where it is told;
-//! `--arrangements` calls with less room beside those that keep all, `--house` calls by house factors beside those that are lent them, `--shares` shares beside a plain sum of the same list, `--records` samplings written as run records beside their totals, `--memory` how much of it the widest window with forty near pairs takes with less room (6 GB, a minute); `--growth`
+//! `--arrangements` calls with less room beside those that keep all, `--house` calls by house factors beside those that are lent them, `--shares` shares beside a plain sum of the same list, `--records` samplings written as run records beside their totals, `--chunks` enumerations in parts beside one call, `--memory` how much of it the widest window with forty near pairs takes with less room (6 GB, a minute); `--growth`
 //! how the time grows with the window, the vertices, the pairs and the betas; `--limits` how far the sweeps are from a copy of as much memory,
 //! and the sums from the adder's latency; `--accuracy` how large errors are beside their proved bound.
 //!
@@ -16,6 +16,7 @@ mod accuracy;
 mod arrangements;
 mod beside;
 mod checks;
+mod chunks;
 mod clock;
 mod correlations;
 mod growth;
@@ -61,6 +62,7 @@ fn main() {
         ["--house"] => house::print_house(),
         ["--shares"] => shares::print_shares(),
         ["--records"] => records::print_records(),
+        ["--chunks"] => chunks::print_chunks(),
         ["--memory"] => memory::print_memory(),
         ["--growth"] => growth::print_growth(),
         ["--limits"] => limits::print_limits(),
@@ -79,7 +81,7 @@ fn one_of(widths: RangeInclusive<usize>, word: &str) -> RangeInclusive<usize> {
 }
 
 fn usage() -> ! {
-    eprintln!("usage: rust/bench/run [--quick | --width N | --checks | --totals [--width N] | --arrangements [--width N] | --house | --shares | --records | --memory | --growth | --limits | --accuracy]");
+    eprintln!("usage: rust/bench/run [--quick | --width N | --checks | --totals [--width N] | --arrangements [--width N] | --house | --shares | --records | --chunks | --memory | --growth | --limits | --accuracy]");
     eprintln!("N is from 1 to 24, of totals and arrangements from 4 to 20");
     std::process::exit(2);
 }

@@ -99,6 +99,16 @@ impl<T: Word> Guarded<T> {
 }
 
 impl Guarded<f64> {
+    /// The same, where the bits of what is no number are any.
+    pub fn holds_numbers(&self, name: &str, expected: &[f64]) -> Result<(), String> {
+        let either = |(&found, &expected): (&f64, &f64)| if found.is_nan() && expected.is_nan() { found } else { expected };
+        let expected: Vec<f64> = match self.len() == expected.len() {
+            true => self.list().iter().zip(expected).map(either).collect(),
+            false => expected.to_vec(),
+        };
+        self.holds(name, &expected)
+    }
+
     /// That so many doubles are +0.0, what lies past them is as it was, and nothing around was touched.
     pub fn is_cleared(&self, name: &str, cleared: usize, before: &[f64]) -> Result<(), String> {
         self.untouched_around(name)?;

@@ -5,6 +5,7 @@
 
 mod accuracies;
 mod betas;
+mod chunks;
 mod columns;
 mod complete;
 mod correlations;
@@ -63,6 +64,7 @@ pub const GROUPS: &[Group] = &[
         refusals: &[1, 2, 3, 4, 5, 6, 7, 8, 10, 11, 12, 13, 14, 21, 23, 26, 27],
         try_one: records::try_one,
     },
+    Group { name: "chunks", share: 2.0, refusals: &[1, 2, 3, 4, 5, 6, 7, 8, 9, 10, 12, 13, 14, 21, 23], try_one: chunks::try_one },
 ];
 
 /// How long a group is run.

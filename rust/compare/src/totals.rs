@@ -1,8 +1,9 @@
 //! Totals over configurations, enumerated, stored and sampled, against the original where the factors are exponentials, and against
 //! document 01's rules where the job is small. Those by house factors are drawn apart, and so are samplings that are
-//! written as run records.
+//! written as run records, and enumerations in parts.
 
 mod calls;
+mod chunking;
 mod drawing;
 mod expected;
 mod house;
@@ -12,6 +13,7 @@ mod recording;
 use crate::draw::Draw;
 use crate::guarded::{equal, Guarded};
 use calls::Call;
+pub use chunking::try_chunks;
 use drawing::{lend_factors, small, spoil_job, spoil_lists, vast};
 use expected::{outcome, Before, Outcome, COUNT_BEFORE};
 use lent::Lent;

@@ -2,7 +2,7 @@
 
 use compare::{line, run, Until, GROUPS};
 
-const JOBS: [(&str, u64); 15] = [
+const JOBS: [(&str, u64); 16] = [
     ("generators", 150_000),
     ("graphs", 12_000),
     ("strips", 50_000),
@@ -18,6 +18,7 @@ const JOBS: [(&str, u64); 15] = [
     ("complete", 200_000),
     ("sheets", 20_000),
     ("records", 40_000),
+    ("chunks", 20_000),
 ];
 
 #[test]

@@ -69,11 +69,14 @@
 //! # Ok::<(), copperhook::Refusal>(())
 //! ```
 //!
+//! All configurations in parts, for several threads or runs: the sums of a range of chunks, and how they add up ([`chunks`]).
+//!
 //! The same in parts that travel: a sampling as a run record, records joined, and their totals ([`run_record`]).
 #![warn(missing_docs)]
 
 mod accuracy;
 mod call;
+pub mod chunks;
 mod estimate;
 mod graph;
 pub mod house;
@@ -92,6 +95,7 @@ mod strip;
 pub mod sys;
 
 pub use accuracy::mean_error_bound;
+pub use chunks::totals_add;
 pub use estimate::{estimate, estimate_complete, estimates, estimates_complete, sqrt, Complete, Estimate};
 pub use graph::{Components, ForestEdge, Graph, Kept};
 pub use job::{Figures, Job, Pair, Sampling};

@@ -137,6 +137,48 @@ extern "C" {
         count: *mut usize,
     ) -> usize;
 
+    /// The sums of each chunk of a range of all configurations.
+    pub fn copperhook_exhaustive_chunks(
+        n: usize,
+        floor: usize,
+        a: *const usize,
+        a_len: usize,
+        b: *const usize,
+        b_len: usize,
+        m: *const f64,
+        m_len: usize,
+        us: *const usize,
+        us_len: usize,
+        vs: *const usize,
+        vs_len: usize,
+        betas: *const f64,
+        betas_len: usize,
+        factors: *const f64,
+        factors_len: usize,
+        options: usize,
+        from: u64,
+        to: u64,
+        squares: *mut f64,
+        squares_len: usize,
+        fourths: *mut f64,
+        fourths_len: usize,
+        work: *mut f64,
+        work_len: usize,
+        count: *mut usize,
+    ) -> usize;
+
+    /// Sums of chunks, added in order to running totals.
+    pub fn copperhook_totals_add(
+        subsquares: *const f64,
+        subsquares_len: usize,
+        subfourths: *const f64,
+        subfourths_len: usize,
+        squares: *mut f64,
+        squares_len: usize,
+        fourths: *mut f64,
+        fourths_len: usize,
+    ) -> usize;
+
     /// The correlations of all configurations.
     pub fn copperhook_exhaustive_c(
         n: usize,
@@ -282,6 +324,34 @@ extern "C" {
         betas: *const f64,
         betas_len: usize,
         options: usize,
+        squares: *mut f64,
+        squares_len: usize,
+        fourths: *mut f64,
+        fourths_len: usize,
+        work: *mut f64,
+        work_len: usize,
+        count: *mut usize,
+    ) -> usize;
+
+    /// The sums of each chunk of a range of all configurations, by house factors.
+    pub fn copperhook_house_exhaustive_chunks(
+        n: usize,
+        floor: usize,
+        a: *const usize,
+        a_len: usize,
+        b: *const usize,
+        b_len: usize,
+        m: *const f64,
+        m_len: usize,
+        us: *const usize,
+        us_len: usize,
+        vs: *const usize,
+        vs_len: usize,
+        betas: *const f64,
+        betas_len: usize,
+        options: usize,
+        from: u64,
+        to: u64,
         squares: *mut f64,
         squares_len: usize,
         fourths: *mut f64,

@@ -1,7 +1,8 @@
 //! Documents 01 and 02, written down a second time and plainly: what a call is refused by, each kept edge's raw place, the room it needs,
-//! what it would come to without an edge, the configurations of a total, the sweeps, the strip of eight neighbours, the table of house factors, the shares of stored correlations, run records, and the estimate of a complete enumeration. Lists of answers and
+//! what it would come to without an edge, the configurations of a total, the sweeps, the strip of eight neighbours, the table of house factors, the shares of stored correlations, run records, enumerations in parts, and the estimate of a complete enumeration. Lists of answers and
 //! comparisons go by it where the original has no answer of its own, and hold it against the original elsewhere.
 
+pub mod chunks;
 pub mod complete;
 pub mod configurations;
 pub mod dilution;

@@ -25,6 +25,23 @@ impl Board {
         }
     }
 
+    /// The sums at beta i of each of these chunks of all configurations.
+    pub fn exhaustive_chunks(
+        &self,
+        i: usize,
+        chunks: Range<u64>,
+        squares: &mut [f64],
+        fourths: &mut [f64],
+        work: &mut [f64],
+    ) -> Result<usize, Refusal> {
+        let (job, beta) = (self.job(), &self.betas[i..=i]);
+        if self.house {
+            job.house_exhaustive_chunks(beta, self.options, chunks, squares, fourths, work)
+        } else {
+            job.exhaustive_chunks(beta, self.factors_at(i), self.options, chunks, squares, fourths, work)
+        }
+    }
+
     /// The correlations at beta i of all configurations, pair after pair, and how many configurations there are.
     pub fn exhaustive_c(&self, i: usize, stored: &mut [f64], work: &mut [f64]) -> Result<usize, Refusal> {
         let (job, beta) = (self.job(), &self.betas[i..=i]);

@@ -1,4 +1,4 @@
-//! Chunks of drawn configurations, worked out several at a time and taken in their order.
+//! Chunks of configurations, drawn or all, worked out several at a time and taken in their order.
 
 use crate::source::Done;
 use crate::trouble::Trouble;
@@ -12,20 +12,27 @@ struct Line<T, F: FnMut(T) -> Result<(), Trouble>> {
     take: F,
     next: u64,
     waiting: BTreeMap<u64, T>,
-    refused: Option<Trouble>,
+    /// The first chunk with a trouble, and that. Those before it were all begun, and are ended, so that it does not depend on the threads.
+    refused: Option<(u64, Trouble)>,
 }
 
 impl<T, F: FnMut(T) -> Result<(), Trouble>> Line<T, F> {
     fn add(&mut self, chunk: u64, made: Result<T, Trouble>) {
         match made {
             Ok(made) => drop(self.waiting.insert(chunk, made)),
-            Err(trouble) => self.refused = Some(trouble),
+            Err(trouble) => self.refuse(chunk, trouble),
         }
         while let Some(made) = self.waiting.remove(&self.next) {
-            self.next += 1;
             if let Err(trouble) = (self.take)(made) {
-                self.refused = Some(trouble);
+                self.refuse(self.next, trouble);
             }
+            self.next += 1;
+        }
+    }
+
+    fn refuse(&mut self, chunk: u64, trouble: Trouble) {
+        if self.refused.as_ref().is_none_or(|(first, _)| chunk < *first) {
+            self.refused = Some((chunk, trouble));
         }
     }
 }
@@ -60,7 +67,7 @@ pub fn in_order<'a, T: Send>(
         }
     });
     let line = line.into_inner().unwrap_or_else(|poisoned| poisoned.into_inner());
-    line.refused.map_or(Ok(()), Err)
+    line.refused.map_or(Ok(()), |(_, trouble)| Err(trouble))
 }
 
 #[cfg(test)]
@@ -94,5 +101,18 @@ mod tests {
         }
         let bad = |chunk: u64, _: &mut [f64]| if chunk == 9 { Err(Trouble::asked("nine")) } else { Ok(chunk) };
         assert_eq!(in_order(7..40, [0.0; 2].chunks_exact_mut(1), bad, |_| Ok(()), &|_, _, _| ()), Err(Trouble::asked("nine")));
+        for rooms in 1..4 {
+            let bad = |chunk: u64, _: &mut [f64]| {
+                // the first bad one takes longest
+                std::thread::sleep(std::time::Duration::from_millis(if chunk == 9 { 20 } else { 0 }));
+                if chunk < 9 {
+                    Ok(())
+                } else {
+                    Err(Trouble::asked(chunk.to_string()))
+                }
+            };
+            let mut work = vec![0.0; rooms];
+            assert_eq!(in_order(7..40, work.chunks_exact_mut(1), bad, |()| Ok(()), &|_, _, _| ()), Err(Trouble::asked("9")));
+        }
     }
 }

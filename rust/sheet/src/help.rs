@@ -70,6 +70,11 @@ of which configurations: one of these; without any, all, where at most 20 edges 
     --seed N                 one: the signs drawn with this seed
     --enumerate              all, up to 34 free edges: the mean square of each correlation, and its spread over them.
                              Nothing is drawn, so no mean has a sampling error, and none is printed
+        --threads N          chunks of 1,024 configurations, N at a time; the bits do not depend on it
+        --checkpoint FILE    the totals so far, with the record of the job and a checksum, to this file: at most once a
+                             minute, at the end, and where ^C, SIGTERM or SIGHUP breaks the run off. It is there whole
+                             or not at all. The same command goes on behind them, in any folder and on any number of
+                             threads, to the same bits; one of another job, or altered, is refused. It stays at the end
     --sample N               drawn ones, N in each chunk: the mean square, and its standard error
         --chunks C           that many chunks, or those of A..B, from A up to, and without, B; 1 by default
         --seed N             the seed of their streams; 1 by default
@@ -132,10 +137,12 @@ examples
     sheet join second.rec first.rec --output whole.rec
     sheet totals whole.rec --job board.job
     sheet verify whole.rec --job board.job --chunks 4..6
+    sheet --kind square --width 4 --length 5 --beta 0.44 --enumerate --threads 2 --checkpoint board.ckp
     sheet verify board.csv
     sheet --kind square --width 8 --length 12 --beta 0.2,0.44,0.8 --signs plus --format svg --output plot.svg
 
-Exit status: 0, 2 for a bad option or a refused job, 1 where memory or a file cannot be had.
+Exit status: 0, 2 for a bad option or a refused job, 1 where memory or a file cannot be had; with --checkpoint 130 where
+^C broke it off, 143 for SIGTERM and 129 for SIGHUP, and the checkpoint was written.
 Of show: 0 for a job sheet whose job the library takes, or a run record, else 2.
 Of verify: 0 where all agrees, 1 for a difference, 2 where the sheet cannot be read or worked out.
 ";

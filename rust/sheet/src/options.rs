@@ -89,6 +89,10 @@ pub struct Options {
     pub linear: bool,
     /// An enumeration has the standard errors of a sample, as in sheets from before spreads; verify alone asks for it.
     pub as_sampled: bool,
+    /// Chunks at a time, of all configurations; a sampling has its own.
+    pub threads: usize,
+    /// Where the totals so far of all configurations are kept.
+    pub checkpoint: Option<PathBuf>,
     pub output: Option<PathBuf>,
 }
 
@@ -153,6 +157,7 @@ struct Written {
     sample: Option<usize>,
     chunks: Option<(u64, u64)>,
     threads: Option<usize>,
+    checkpoint: Option<PathBuf>,
     per_element: Option<bool>,
     less_room: bool,
     tester: bool,
@@ -337,7 +342,7 @@ impl Written {
 
     fn value(&mut self, name: &str, value: Option<String>) -> Result<(), Trouble> {
         const NAMES: &str =
-            "--kind --width --length --dilute --job --write-job --beta --pairs --drop --floor --signs --seed --sample --chunks --threads --manner --format --output";
+            "--kind --width --length --dilute --job --write-job --beta --pairs --drop --floor --signs --seed --sample --chunks --threads --checkpoint --manner --format --output";
         if !NAMES.split(' ').any(|known| known == name) {
             return Err(Trouble::asked(format!("there is no option {name}; sheet --help tells them")));
         }
@@ -361,6 +366,7 @@ impl Written {
             "--sample" => once(&mut self.sample, name, values::count(&value).map_err(at)?),
             "--chunks" => once(&mut self.chunks, name, values::chunks(&value).map_err(at)?),
             "--threads" => once(&mut self.threads, name, values::threads(&value).map_err(at)?),
+            "--checkpoint" => once(&mut self.checkpoint, name, PathBuf::from(&value)),
             "--manner" => once(&mut self.per_element, name, values::manner(&value).map_err(at)?),
             "--format" => once(&mut self.format, name, values::format(&value).map_err(at)?),
             _ => once(&mut self.output, name, PathBuf::from(&value)),
@@ -379,10 +385,7 @@ impl Written {
         if let [first, second, ..] = given[..] {
             return Err(Trouble::asked(format!("{first} and {second} cannot be combined")));
         }
-        if self.sample.is_none() && (self.chunks.is_some() || self.threads.is_some()) {
-            let name = if self.chunks.is_some() { "--chunks" } else { "--threads" };
-            return Err(Trouble::asked(format!("{name} is for drawn configurations; give --sample too")));
-        }
+        self.in_parts()?;
         let (from, to) = self.chunks.unwrap_or((0, 1));
         let drawing = |samples| Drawing { seed: self.seed.unwrap_or(1), from, to, samples, threads: self.threads.unwrap_or(1) };
         Ok(match (self.signs.take(), self.sample, self.enumerate, self.seed) {
@@ -392,6 +395,34 @@ impl Written {
             (_, _, _, Some(seed)) => Wanted::Drawn(seed),
             _ => Wanted::Unsaid,
         })
+    }
+
+    /// What goes by chunks is asked of totals alone.
+    fn in_parts(&self) -> Result<(), Trouble> {
+        let drawn = self.sample.is_some();
+        let of_all = !drawn && self.signs.is_none() && self.seed.is_none() && !self.edges && !self.preview;
+        let given = [("--threads", self.threads.is_some()), ("--checkpoint", self.checkpoint.is_some())];
+        let given = given.iter().find(|g| g.1).map(|g| g.0);
+        match (given, &self.checkpoint) {
+            _ if self.chunks.is_some() && !drawn => Err(Trouble::asked("--chunks is for drawn configurations; give --sample too")),
+            (_, Some(_)) if drawn => {
+                Err(Trouble::asked("--checkpoint is for all configurations; a sampling is kept in parts by sheet record --chunks A..B"))
+            }
+            (Some("--threads"), _) if !drawn && !of_all => {
+                Err(Trouble::asked("--threads is for drawn configurations, or for all; give --sample or --enumerate"))
+            }
+            (Some(_), _) if !drawn && !of_all => Err(Trouble::asked("--checkpoint is for all configurations; give --enumerate")),
+            (Some(name), _) if self.shares => {
+                Err(Trouble::asked(format!("--shares and {name} cannot be combined: shares are of one call for all configurations")))
+            }
+            (Some(name), _) if self.tester && !drawn => {
+                Err(Trouble::asked(format!("--tester and {name} cannot be combined: the tester takes all configurations in one call")))
+            }
+            (_, Some(file)) if self.output.as_ref() == Some(file) => {
+                Err(Trouble::asked(format!("--checkpoint and --output are both {}; give the checkpoint a file of its own", file.display())))
+            }
+            _ => Ok(()),
+        }
     }
 
     /// What a list of edges does not depend on is not asked with it.
@@ -491,6 +522,7 @@ impl Written {
             ("--seed", self.seed.is_some()),
             ("--chunks", self.chunks.is_some()),
             ("--threads", self.threads.is_some()),
+            ("--checkpoint", self.checkpoint.is_some()),
             ("--edges", self.edges),
             ("--shares", self.shares),
             ("--less-room", self.less_room),
@@ -516,6 +548,7 @@ impl Written {
             ("--write-job", self.write_job.is_some()),
             ("--format", self.format.is_some()),
             ("--bits", self.bits),
+            ("--checkpoint", self.checkpoint.is_some()),
             ("--output", self.output.is_some()),
         ];
         match given.iter().find(|g| g.1) {
@@ -624,6 +657,8 @@ impl Written {
             bits: self.bits,
             linear: self.linear,
             as_sampled: false,
+            threads: self.threads.unwrap_or(1),
+            checkpoint: self.checkpoint,
             output: self.output,
         })
     }
@@ -660,6 +695,7 @@ mod tests {
         assert_eq!((wanted("--enumerate"), wanted("--sample 9")), (Wanted::Enumerated, sampled(1, 0, 1, 1)));
         assert_eq!(wanted("--sample 9 --chunks 5 --seed 4"), sampled(4, 0, 5, 1));
         assert_eq!(wanted("--sample 9 --chunks 5..8 --threads 3"), sampled(1, 5, 8, 3));
+        assert_eq!((wanted("--threads 3"), wanted("--enumerate --checkpoint a")), (Wanted::Unsaid, Wanted::Enumerated));
     }
 
     #[test]
@@ -687,6 +723,15 @@ mod tests {
             ("--sample 5 --chunks 3..3", "--chunks 3..3: it has no chunk; the second number must be above the first"),
             ("--sample 5 --chunks 3..x", "--chunks 3..x: 'x' is no number that fits here (invalid digit found in string)"),
             ("--sample 5 --threads 0", "--threads must be from 1 to 1,024"),
+            ("--seed 5 --threads 2", "--threads is for drawn configurations, or for all; give --sample or --enumerate"),
+            ("--signs plus --checkpoint a", "--checkpoint is for all configurations; give --enumerate"),
+            (
+                "--sample 5 --checkpoint a",
+                "--checkpoint is for all configurations; a sampling is kept in parts by sheet record --chunks A..B",
+            ),
+            ("--shares --threads 2", "--shares and --threads cannot be combined: shares are of one call for all configurations"),
+            ("--tester --checkpoint a", "--tester and --checkpoint cannot be combined: the tester takes all configurations in one call"),
+            ("--checkpoint a --output a", "--checkpoint and --output are both a; give the checkpoint a file of its own"),
             ("--seed -1", "--seed -1: '-1' is no number that fits here (invalid digit found in string)"),
             ("--pairs 0-1,2", "--pairs 0-1,2: '2' is no pair; write it as 0-5"),
             ("--dilute 1,2,3", "--dilute 1,2,3: it takes four numbers, as 0.9,0.5,1.5,11"),
@@ -718,7 +763,8 @@ mod tests {
             ("--house", "--edges and --house cannot be combined: the edges do not depend on it"),
             ("--shares", "--edges and --shares cannot be combined: the edges do not depend on it"),
             ("--format json", "--edges is told as text or csv"),
-            ("--threads 2", "--threads is for drawn configurations; give --sample too"),
+            ("--threads 2", "--threads is for drawn configurations, or for all; give --sample or --enumerate"),
+            ("--checkpoint a", "--checkpoint is for all configurations; give --enumerate"),
         ] {
             assert_eq!(parsed(&format!("{edges} {more}")).unwrap_err().to_string(), told);
         }
@@ -731,7 +777,7 @@ mod tests {
             ("--drop 0 --seed 3", "preview and --seed cannot be combined: the figures do not depend on it"),
             ("--drop 0 --edges", "preview and --edges cannot be combined: the figures do not depend on it"),
             ("--drop 0 --format json", "preview is told as text or csv"),
-            ("--drop 0 --threads 2", "--threads is for drawn configurations; give --sample too"),
+            ("--drop 0 --threads 2", "--threads is for drawn configurations, or for all; give --sample or --enumerate"),
         ] {
             assert_eq!(parsed(&format!("{preview} {more}")).unwrap_err().to_string(), told);
         }

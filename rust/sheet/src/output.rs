@@ -37,8 +37,7 @@ impl Target {
             Ok(there) => (path.canonicalize().map_err(named)?, Some(there.permissions())),
             Err(_) => (path.to_path_buf(), None),
         };
-        let beside = beside(&target.0).map_err(named)?;
-        File::create_new(&beside).and_then(|_| fs::remove_file(&beside)).map_err(named)?;
+        can_be_written(&target.0).map_err(named)?;
         Ok(Target::Whole { file: target.0, mode: target.1 })
     }
 
@@ -65,6 +64,18 @@ impl Target {
     }
 }
 
+/// A file beside it is made and taken away again.
+pub fn can_be_written(path: &Path) -> io::Result<()> {
+    let beside = beside(path)?;
+    made_beside(&beside).and_then(|_| fs::remove_file(&beside))
+}
+
+/// One of this name that is there was left by a run that was killed.
+fn made_beside(beside: &Path) -> io::Result<File> {
+    let _ = fs::remove_file(beside);
+    File::create_new(beside)
+}
+
 /// Bytes to a file, which is there whole or not at all; one that is there keeps its mode.
 pub fn to_file(path: &Path, bytes: &[u8]) -> io::Result<()> {
     let mode = fs::metadata(path).ok().map(|there| there.permissions());
@@ -73,7 +84,7 @@ pub fn to_file(path: &Path, bytes: &[u8]) -> io::Result<()> {
 
 fn replace(path: &Path, mode: Option<&Permissions>, bytes: &[u8]) -> io::Result<()> {
     let beside = beside(path)?;
-    let written = File::create_new(&beside).and_then(|mut file| {
+    let written = made_beside(&beside).and_then(|mut file| {
         file.write_all(bytes)?;
         mode.map_or(Ok(()), |mode| file.set_permissions(mode.clone()))?;
         file.sync_all()

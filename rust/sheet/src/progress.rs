@@ -12,6 +12,15 @@ pub fn tell(text: &str) {
     let _ = std::io::stderr().write_all(text.as_bytes());
 }
 
+/// The same line, in the place of the one that tells how far a run is.
+pub fn cleared(text: &str) -> String {
+    if std::io::stderr().is_terminal() {
+        format!("\r\x1b[K{text}")
+    } else {
+        text.to_string()
+    }
+}
+
 /// So many of all are done, after so many seconds.
 struct Report {
     done: u64,

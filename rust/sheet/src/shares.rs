@@ -71,7 +71,7 @@ fn enumerated(options: &Options, board: &Board) -> Result<Enumerated, Trouble> {
         let told = format!("{free} free edges; --shares takes all 2^{free} configurations: say --enumerate too, if they are meant");
         return Err(Trouble::asked(told));
     }
-    Enumerated::new(board, false)
+    Enumerated::checked(board)
 }
 
 /// Beta after beta: the shares of each pair, and those of all pairs pooled.

@@ -64,8 +64,8 @@ pub const FEW: usize = 20;
 /// The source that the options ask for.
 pub fn chosen(options: &Options, board: &Board) -> Result<Box<dyn Source>, Trouble> {
     Ok(match &options.wanted {
-        Wanted::Enumerated => Box::new(Enumerated::new(board, options.as_sampled)?),
-        Wanted::Unsaid if board.free <= FEW => Box::new(Enumerated::new(board, options.as_sampled)?),
+        Wanted::Enumerated => Box::new(Enumerated::new(options, board)?),
+        Wanted::Unsaid if board.free <= FEW => Box::new(Enumerated::new(options, board)?),
         Wanted::Unsaid => return Err(undecided(board)),
         Wanted::Sampled(by) => Box::new(Sampled::new(by)?),
         Wanted::Plus => Box::new(Configuration::plus(board.kept)),

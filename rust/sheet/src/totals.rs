@@ -1,16 +1,18 @@
 //! Mean squares of correlations: over all configurations, with their spreads, or over drawn ones, with their standard errors.
 
 use crate::board::{counted, Board};
+use crate::checkpoint::Checkpoint;
 use crate::chunks::in_order;
 use crate::explained::refused;
-use crate::options::Drawing;
+use crate::options::{Drawing, Options};
 use crate::record::{Entry, Field};
 use crate::run_record::Parts;
 use crate::source::{Bounds, Done, Source, Values};
 use crate::trouble::Trouble;
 use copperhook::run_record::Totals;
-use copperhook::{estimates, estimates_complete, limits, mean_error_bound, Refusal, Sampling};
+use copperhook::{chunks, estimates, estimates_complete, limits, mean_error_bound, totals_add, Refusal, Sampling};
 use std::ops::Range;
+use std::sync::{Mutex, PoisonError};
 
 /// Of drawn configurations. One has a mean and no error.
 fn columns(count: usize) -> &'static [&'static str] {
@@ -36,19 +38,24 @@ fn by_beta(rows: Vec<Vec<f64>>, pairs: usize) -> Values {
 
 /// The sums of squares and of fourth powers, by beta, then by pair.
 #[derive(Clone, Debug, PartialEq)]
-struct Sums {
-    squares: Vec<f64>,
-    fourths: Vec<f64>,
+pub struct Sums {
+    pub squares: Vec<f64>,
+    pub fourths: Vec<f64>,
 }
 
 impl Sums {
-    fn zero(count: usize) -> Sums {
+    pub fn zero(count: usize) -> Sums {
         Sums { squares: vec![0.0; count], fourths: vec![0.0; count] }
     }
 
-    fn add(&mut self, more: &Sums) {
-        self.squares.iter_mut().zip(&more.squares).for_each(|(x, y)| *x += y);
-        self.fourths.iter_mut().zip(&more.fourths).for_each(|(x, y)| *x += y);
+    /// Those at these places.
+    fn part(&self, places: Range<usize>) -> Sums {
+        Sums { squares: self.squares[places.clone()].to_vec(), fourths: self.fourths[places].to_vec() }
+    }
+
+    /// Adds a chunk's sums to those at these places.
+    fn add(&mut self, places: Range<usize>, more: &Sums) -> Result<(), Refusal> {
+        totals_add(&more.squares, &more.fourths, &mut self.squares[places.clone()], &mut self.fourths[places])
     }
 
     /// What the library estimates from them, for each beta and pair.
@@ -77,16 +84,45 @@ fn mean_bound(board: &Board, betas: &[f64], factors: &[f64], chunks: u64, size: 
 /// The most free edges whose configurations the library counts through.
 pub const MOST_FREE: usize = 34;
 
-/// All configurations.
+/// The totals of an enumeration in parts: its first chunks are done, and added. All chunks of a beta come before those of the next.
+#[derive(Clone, Debug, PartialEq)]
+pub struct SoFar {
+    pub done: u64,
+    pub sums: Sums,
+}
+
+impl SoFar {
+    pub fn none(sums: usize) -> SoFar {
+        SoFar { done: 0, sums: Sums::zero(sums) }
+    }
+}
+
+/// All configurations, a chunk at a time in each thread.
 pub struct Enumerated {
     free: usize,
     count: usize,
     /// With the standard errors of a sample, as sheets had them before spreads.
     as_sampled: bool,
+    threads: usize,
+    /// Where the totals so far are kept, where they are.
+    kept: Option<Checkpoint>,
 }
 
 impl Enumerated {
-    pub fn new(board: &Board, as_sampled: bool) -> Result<Enumerated, Trouble> {
+    /// What a checkpoint is refused by is told here, before a long run.
+    pub fn new(options: &Options, board: &Board) -> Result<Enumerated, Trouble> {
+        let mut all = Enumerated::checked(board)?;
+        let parts = all.chunks() * board.betas.len() as u64;
+        all.as_sampled = options.as_sampled;
+        all.threads = options.threads.min(parts.max(1).try_into().unwrap_or(usize::MAX));
+        if let Some(file) = &options.checkpoint {
+            all.kept = Some(Checkpoint::ready(file, options, board, &all, parts)?);
+        }
+        Ok(all)
+    }
+
+    /// On one thread, with nothing kept.
+    pub fn checked(board: &Board) -> Result<Enumerated, Trouble> {
         if board.free > MOST_FREE {
             let told = format!("{} free edges; --enumerate takes at most {MOST_FREE}, use --sample", board.free);
             return Err(refused(told, Refusal::FreeEdges));
@@ -96,7 +132,12 @@ impl Enumerated {
             let told = format!("{} free edges; with --tester --enumerate takes at most {most}, leave it out or use --sample", board.free);
             return Err(refused(told, Refusal::TesterLimit));
         }
-        Ok(Enumerated { free: board.free, count: 1 << board.free, as_sampled })
+        Ok(Enumerated { free: board.free, count: 1 << board.free, as_sampled: false, threads: 1, kept: None })
+    }
+
+    /// How many there are for each beta.
+    fn chunks(&self) -> u64 {
+        chunks::count(self.free)
     }
 
     /// Which configurations they are, for a sheet's head.
@@ -134,7 +175,7 @@ impl Source for Enumerated {
     }
 
     fn sweeps(&self) -> f64 {
-        self.count as f64
+        self.kept.as_ref().map_or(1.0, Checkpoint::left) * self.count as f64
     }
 
     /// The backward vectors past the edges that change are kept: six strips of 16 to 21 free edges took 0.85 to 0.95 of the time of as many samples.
@@ -142,28 +183,77 @@ impl Source for Enumerated {
         0.85
     }
 
+    fn threads(&self) -> usize {
+        self.threads
+    }
+
     fn bounds(&self, board: &Board) -> Result<Bounds, Trouble> {
-        let size = self.count.min(1024);
+        let size = self.count.min(chunks::CONFIGURATIONS);
         let bound = |(i, beta): (usize, &f64)| {
-            let bound = mean_bound(board, &[*beta], board.factors_at(i), (self.count / size) as u64, size as u64);
+            let bound = mean_bound(board, &[*beta], board.factors_at(i), self.chunks(), size as u64);
             bound.map_err(|refusal| board.refused_at(i, refusal))
         };
         board.betas.iter().enumerate().map(bound).collect()
     }
 
-    /// Beta after beta: the sums of one do not depend on the others.
+    /// Beta after beta: the sums of one do not depend on the others. The tester's calls take all chunks at once, and so do those without pairs,
+    /// which have nothing to sum.
     fn values(&self, board: &Board, work: &mut [f64], done: Done) -> Result<Values, Trouble> {
         let pairs = board.pairs.len();
+        let sums = if board.is_tester() || pairs == 0 { at_once(board, work, done)? } else { self.in_parts(board, work, done)? };
         let mut values = Vec::new();
         for i in 0..board.betas.len() {
-            let refused = |refusal| board.refused_at(i, refusal);
-            let mut sums = Sums::zero(pairs);
-            let count = board.exhaustive(i, &mut sums.squares, &mut sums.fourths, work).map_err(refused)?;
-            let estimated = if self.as_sampled { sums.estimates(count, pairs) } else { sums.complete(count, pairs) };
-            values.extend(estimated.map_err(refused)?);
-            done(i as u64 + 1, board.betas.len() as u64, "betas");
+            let sums = sums.part(i * pairs..(i + 1) * pairs);
+            let estimated = if self.as_sampled { sums.estimates(self.count, pairs) } else { sums.complete(self.count, pairs) };
+            values.extend(estimated.map_err(|refusal| board.refused_at(i, refusal))?);
         }
         Ok(values)
+    }
+}
+
+/// The sums of all configurations by one call for each beta.
+fn at_once(board: &Board, work: &mut [f64], done: Done) -> Result<Sums, Trouble> {
+    let pairs = board.pairs.len();
+    let mut all = Sums::zero(board.betas.len() * pairs);
+    for i in 0..board.betas.len() {
+        let places = i * pairs..(i + 1) * pairs;
+        let (squares, fourths) = (&mut all.squares[places.clone()], &mut all.fourths[places]);
+        board.exhaustive(i, squares, fourths, work).map_err(|refusal| board.refused_at(i, refusal))?;
+        done(i as u64 + 1, board.betas.len() as u64, "betas");
+    }
+    Ok(all)
+}
+
+impl Enumerated {
+    /// The same sums, bit for bit, by chunks; behind those that a checkpoint has.
+    fn in_parts(&self, board: &Board, work: &mut [f64], done: Done) -> Result<Sums, Trouble> {
+        let all = self.chunks() * board.betas.len() as u64;
+        let none = || SoFar::none(board.betas.len() * board.pairs.len());
+        let so_far = Mutex::new(self.kept.as_ref().map_or_else(none, Checkpoint::found));
+        match &self.kept {
+            None => self.go_on(board, all, work, &so_far, done)?,
+            Some(checkpoint) => checkpoint.kept(&so_far, || self.go_on(board, all, work, &so_far, done))?,
+        }
+        Ok(so_far.into_inner().unwrap_or_else(PoisonError::into_inner).sums)
+    }
+
+    /// Adds the chunks up to this one to those that are done. Threads take chunk after chunk, and the sums are added in their order.
+    fn go_on(&self, board: &Board, to: u64, work: &mut [f64], so_far: &Mutex<SoFar>, done: Done) -> Result<(), Trouble> {
+        let (pairs, chunks) = (board.pairs.len(), self.chunks());
+        let beta = |part: u64| (part / chunks) as usize;
+        let make = |part: u64, work: &mut [f64]| {
+            let (i, chunk, mut sums) = (beta(part), part % chunks, Sums::zero(pairs));
+            let call = board.exhaustive_chunks(i, chunk..chunk + 1, &mut sums.squares, &mut sums.fourths, work);
+            call.map_err(|refusal| board.refused_at(i, refusal)).map(|_| sums)
+        };
+        let take = |sums: Sums| {
+            let mut so_far = so_far.lock().unwrap_or_else(PoisonError::into_inner);
+            let i = beta(so_far.done);
+            so_far.done += 1;
+            so_far.sums.add(i * pairs..(i + 1) * pairs, &sums).map_err(|refusal| board.refused_at(i, refusal))
+        };
+        let from = so_far.lock().unwrap_or_else(PoisonError::into_inner).done;
+        in_order(from..to, work.chunks_exact_mut(board.room()).take(self.threads), make, take, done)
     }
 }
 
@@ -251,10 +341,8 @@ impl Source for Sampled {
     fn values(&self, board: &Board, work: &mut [f64], done: Done) -> Result<Values, Trouble> {
         let pairs = board.pairs.len();
         let mut total = Sums::zero(board.betas.len() * pairs);
-        let add = |sums: Sums| {
-            total.add(&sums);
-            Ok(())
-        };
+        let all = 0..total.squares.len();
+        let add = |sums: Sums| total.add(all.clone(), &sums).map_err(|refusal| board.refused(refusal));
         self.by_chunk(board, work, |by, work| chunk_sums(board, 0..board.betas.len(), by, work), add, done)?;
         total.estimates(self.count, pairs).map_err(|refusal| board.refused(refusal))
     }
@@ -295,6 +383,40 @@ impl Sampled {
 #[cfg(test)]
 mod tests {
     use super::*;
+    use crate::checkpoint::{read, spelled};
+    use crate::options::{parse, Asked};
+
+    /// What each cut leaves is written as a checkpoint is and read again, some on other threads.
+    #[test]
+    fn cut_anywhere_the_sums_are_those_of_one_call() {
+        let line = "--kind square --width 4 --length 5 --beta 0.3,0.44,1 --pairs 0-1,0-19,3-7 --enumerate";
+        let words: Vec<String> = line.split(' ').map(String::from).collect();
+        let Ok(Asked::Sheet(options)) = parse(&words) else { panic!("{line}") };
+        let (board, all) = (Board::new(&options).unwrap(), 12);
+        let mut work = vec![0.0; 3 * board.room()];
+        let whole = at_once(&board, &mut work[..board.room()], &|_, _, _| ()).unwrap();
+        let mut word = 1u64;
+        let mut below = |most: u64| {
+            word = word.wrapping_mul(6364136223846793005).wrapping_add(1442695040888963407);
+            (word >> 33) % most
+        };
+        for run in 0..100 {
+            let source = Enumerated { threads: 1 + run % 3, ..Enumerated::checked(&board).unwrap() };
+            let so_far = Mutex::new(SoFar::none(9));
+            let mut to = 0;
+            while to < all {
+                to += below(all - to + 1);
+                source.go_on(&board, to, &mut work, &so_far, &|_, _, _| ()).unwrap();
+                let mut kept = so_far.lock().unwrap();
+                let bytes = spelled(&[], &kept, all);
+                let (_, found, of) = read(&bytes).unwrap();
+                assert_eq!((kept.done, of), (to, all));
+                *kept = found;
+            }
+            let whole = SoFar { done: all, sums: whole.clone() };
+            assert_eq!(spelled(&[], &so_far.into_inner().unwrap(), all), spelled(&[], &whole, all));
+        }
+    }
 
     #[test]
     fn too_many_are_refused() {

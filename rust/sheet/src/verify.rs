@@ -96,7 +96,7 @@ fn job(found: &Cells, format: Format, threads: usize) -> Result<Options, String>
         let why = options::parse(rest).err().map_or("which makes no sheet".to_string(), |trouble| trouble.to_string());
         return Err(format!("its command is '{command}': {why}"));
     };
-    let mut options = *options;
+    let mut options = Options { threads, ..*options };
     if let Wanted::Sampled(by) = &mut options.wanted {
         by.threads = threads;
     }

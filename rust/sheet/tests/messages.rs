@@ -20,7 +20,10 @@ fn options_that_do_not_fit() {
     refused(SMALL, "--beta is required (inverse temperatures, as 0.44,0.6)");
     refused(&format!("{SMALL} --beta 1 --signs plus --seed 3"), "--signs and --seed cannot be combined");
     refused(&format!("{SMALL} --beta 1 --sample 0"), "--sample must be at least 1");
-    refused(&format!("{SMALL} --beta 1 --threads 2"), "--threads is for drawn configurations; give --sample too");
+    refused(
+        &format!("{SMALL} --beta 1 --seed 3 --threads 2"),
+        "--threads is for drawn configurations, or for all; give --sample or --enumerate",
+    );
     refused(&format!("{SMALL} --beta 1 --signs +-"), "--signs has 2 signs; this strip has 17 kept edges, and each needs one");
 }
 

@@ -78,6 +78,29 @@ impl Lent<'_> {
         }
     }
 
+    /// The same lists, lent to the entry for a range of chunks, with more options.
+    #[rustfmt::skip]
+    pub fn in_chunks(&self, more: usize, (from, to): (u64, u64), results: &mut [Guarded<f64>; 2], work: &mut Guarded<f64>, count: &mut usize) -> usize {
+        let [a, b, us, vs] = self.numbers.each_ref().map(|list| (list.pointer(), list.len()));
+        let [m, betas, f] = self.doubles.each_ref().map(|list| (list.pointer(), list.len()));
+        let (e, options) = (&self.call.edges, self.call.options + more);
+        let [r, q] = results.each_mut().map(|list| (list.pointer_mut(), list.len()));
+        let work = (work.pointer_mut(), work.len());
+        unsafe {
+            if self.call.house {
+                sys::copperhook_house_exhaustive_chunks(
+                    e.n, e.floor, a.0, a.1, b.0, b.1, m.0, m.1, us.0, us.1, vs.0, vs.1, betas.0, betas.1, options,
+                    from, to, r.0, r.1, q.0, q.1, work.0, work.1, count,
+                )
+            } else {
+                sys::copperhook_exhaustive_chunks(
+                    e.n, e.floor, a.0, a.1, b.0, b.1, m.0, m.1, us.0, us.1, vs.0, vs.1, betas.0, betas.1, f.0, f.1, options,
+                    from, to, r.0, r.1, q.0, q.1, work.0, work.1, count,
+                )
+            }
+        }
+    }
+
     pub fn unchanged(&self) -> Result<(), String> {
         let (e, p) = (&self.call.edges, &self.call.pairs);
         let numbers = [("a", &e.a), ("b", &e.b), ("us", &p.us), ("vs", &p.vs)];

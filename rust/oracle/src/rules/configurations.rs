@@ -2,6 +2,10 @@
 
 use super::lists::Edges;
 use crate::rng::Rng;
+use std::ops::Range;
+
+/// The configurations of a chunk of an enumeration, where there are so many.
+pub const CHUNK: u64 = 1024;
 
 /// The entries that add configurations up, or store them.
 #[derive(Clone, Copy, Debug, PartialEq)]
@@ -42,16 +46,16 @@ impl Entry {
     pub fn chunks(self, edges: &Edges, by: &Drawn) -> Vec<Vec<Vec<bool>>> {
         match self {
             Entry::Sampled => (by.from..by.to).map(|chunk| drawn(by, chunk, edges.kept().len())).collect(),
-            _ => enumerated(edges).chunks(1024).map(<[_]>::to_vec).collect(),
+            _ => enumerated(edges, 0..1 << edges.free().len()).chunks(CHUNK as usize).map(<[_]>::to_vec).collect(),
         }
     }
 }
 
-/// Returns all configurations: an edge is minus where it has a bit and that bit of the configuration's number is set.
-fn enumerated(edges: &Edges) -> Vec<Vec<bool>> {
+/// Returns the configurations of these numbers: an edge is minus where it has a bit and that bit of the configuration's number is set.
+pub fn enumerated(edges: &Edges, numbers: Range<u64>) -> Vec<Vec<bool>> {
     let bits = edges.bits();
-    let sign = |x: usize, bit: Option<usize>| bit.is_some_and(|i| x >> i & 1 == 1);
-    (0..1 << edges.free().len()).map(|x| bits.iter().map(|&bit| sign(x, bit)).collect()).collect()
+    let sign = |x: u64, bit: Option<usize>| bit.is_some_and(|i| x >> i & 1 == 1);
+    numbers.map(|x| bits.iter().map(|&bit| sign(x, bit)).collect()).collect()
 }
 
 /// Returns the samples of a chunk: a new word every 64 edges and for each sample, lowest bit first.

@@ -1,0 +1,4 @@
+-- What is proved of the definitions.
+pub mod Range
+pub mod Calling
+pub mod Entering

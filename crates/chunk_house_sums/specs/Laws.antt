@@ -1,0 +1,2 @@
+-- What is proved of house calls.
+pub mod Housing

@@ -1,0 +1,2 @@
+-- The laws that no reader needs to believe.
+pub mod Laws

@@ -1,0 +1,4 @@
+// The sums of chunks of all configurations.
+mod entry;
+
+pub use entry::exhaustive_chunks;

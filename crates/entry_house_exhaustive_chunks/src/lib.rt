@@ -1,0 +1,4 @@
+// The sums of chunks of all configurations, with house factors.
+mod entry;
+
+pub use entry::house_exhaustive_chunks;
