@@ -7,9 +7,9 @@ use Rattle.rng.specs.SplitMix.{advance, mix}
 abbrev pub word : List ℕ → ℕ → ℕ
 word s i = slice_index s i
 
--- result = rotl(s[0] + s[3], 23) + s[0]
-abbrev pub result : List ℕ → ℕ
-result s = plus (rotl (plus (word s 0) (word s 3)) 23) (word s 0)
+-- output = rotl(s[0] + s[3], 23) + s[0]
+abbrev pub output : List ℕ → ℕ
+output s = plus (rotl (plus (word s 0) (word s 3)) 23) (word s 0)
 
 -- t = s[1] << 17; s[2] ^= s[0]; s[3] ^= s[1]; s[1] ^= s[2]; s[0] ^= s[3]; s[2] ^= t; s[3] = rotl(s[3], 45)
 abbrev pub next : List ℕ → List ℕ

@@ -2,7 +2,7 @@
 ghost use Rattle.std.specs.Prelude.{◌≡◌, ◌/◌, ◌^◌, false};
 ghost use Rattle.std.specs.Float.Ieee.Exact.{HasValue};
 ghost use Rattle.rng.specs.SplitMix.{advance, mix};
-ghost use Rattle.rng.specs.Xoshiro.{result, next, seeded, streamed};
+ghost use Rattle.rng.specs.Xoshiro.{output, next, seeded, streamed};
 ghost use Rattle.rng.specs.Uniform.{unit};
 
 mod word;
@@ -18,7 +18,7 @@ pub struct Mixed {
 }
 
 pub fn splitmix(x: u64) -> Mixed
-    ensures* { λ r. ⌜ (r.state ≡ advance x) × (r.word ≡ mix (advance x)) ⌝ }
+    ensures { (result.state ≡ advance x) × (result.word ≡ mix (advance x)) }
 {
     let state = std::num::wrapping_add_u64(x, 0x9E37_79B9_7F4A_7C15);
     let y = wrapping_mul_u64(state ^ (state >> 30), 0xBF58_476D_1CE4_E5B9);
@@ -50,7 +50,7 @@ pub struct DrawnUniform {
 
 impl Rng {
     pub fn new(seed: u64) -> Rng
-        ensures* { λ r. ⌜ r.s ≡ seeded seed ⌝ }
+        ensures { result.s ≡ seeded seed }
     {
         let a = splitmix(seed);
         let b = splitmix(a.state);
@@ -63,7 +63,7 @@ impl Rng {
 
     // Independent stream for (seed, index).
     pub fn stream(seed: u64, index: u64) -> Rng
-        ensures* { λ r. ⌜ r.s ≡ streamed seed index ⌝ }
+        ensures { result.s ≡ streamed seed index }
     {
         let x = seed ^ wrapping_mul_u64(index, 0xD1B5_4A32_D192_ED03);
         let first = splitmix(x);
@@ -73,7 +73,7 @@ impl Rng {
 
     // The all-zero state gives 0 and stays.
     pub fn next_u64(self) -> Drawn
-        ensures* { λ r. ⌜ (r.word ≡ result self.s) × (r.rng.s ≡ next self.s) ⌝ }
+        ensures { (result.word ≡ output self.s) × (result.rng.s ≡ next self.s) }
     {
         let a = self.s[0];
         let b = self.s[1];
@@ -95,8 +95,8 @@ impl Rng {
 
     // The top 53 bits of the next word times 2^-53, exactly.
     pub fn uniform(self) -> DrawnUniform
-        ensures* fact { λ r. ⌜ (r.value ≡ unit (result self.s)) × (r.rng.s ≡ next self.s) ⌝ }
-        ensures* exactly { λ r. ⌜ HasValue r.value false (result self.s / 2 ^ 11) (2 ^ 53) ⌝ }
+        ensures fact { (result.value ≡ unit (output self.s)) × (result.rng.s ≡ next self.s) }
+        ensures exactly { HasValue result.value false (output self.s / 2 ^ 11) (2 ^ 53) }
     {
         let drawn = self.next_u64();
         let rng = drawn.rng;

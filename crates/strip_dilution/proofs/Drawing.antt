@@ -13,14 +13,14 @@ use Rattle.list_laws.specs.Front.{over}
 use Rattle.list_laws.specs.Laws.Front.{over-more}
 use Rattle.list_laws.specs.Tabulate.{tabulate}
 use Rattle.list_laws.specs.Laws.Tabulate.{tabulate_suc, tabulate-length}
-use Rattle.rng.specs.Xoshiro.{result, next, seeded}
+use Rattle.rng.specs.Xoshiro.{output, next, seeded}
 use Rattle.rng.specs.Uniform.{unit}
 use Rattle.refusals.specs.StripRequest.{Dilution}
 use Rattle.strip_bonds.specs.Edges.{Edge, one, unit_magnitudes}
 use Rattle.strip_dilution.specs.Diluted.{uniform, advanced, magnitude, magnitudes, state_at}
 
 -- what the generator ensures, in the definition's words
-pub uniform-is : (state : List ℕ) {u : Float} → u ≡ unit (result state) → u ≡ uniform state
+pub uniform-is : (state : List ℕ) {u : Float} → u ≡ unit (output state) → u ≡ uniform state
 unfolding uniform
 uniform-is state p = p
 

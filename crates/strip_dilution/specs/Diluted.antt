@@ -4,7 +4,7 @@ use Rattle.std.specs.Int.Bits.{bit_xor}
 use Rattle.std.specs.Float.{binary64}
 use Rattle.std.specs.Float.Ieee.{add, sub, mul, lt, of_bits}
 use Rattle.list_laws.specs.Tabulate.{tabulate}
-use Rattle.rng.specs.Xoshiro.{result, next, seeded}
+use Rattle.rng.specs.Xoshiro.{output, next, seeded}
 use Rattle.rng.specs.Uniform.{unit}
 use Rattle.refusals.specs.StripRequest.{Dilution, strip_refusal, of_diluted}
 use Rattle.strip_bonds.specs.Edges.{edges_below, edges}
@@ -15,7 +15,7 @@ use Rattle.strip.specs.declared.strip.Strip.{Strip}
 -- the uniform that a state gives, and the state after it
 unfoldable pub uniform : List ℕ → Float
 unfolding unit
-uniform state = unit (result state)
+uniform state = unit (output state)
 
 unfoldable pub advanced : List ℕ → List ℕ
 advanced state = next state

@@ -5,7 +5,7 @@ use mathlib.Core.List.{List}
 use Prim.Native.Nat.{ℕ, zero, suc, ◌+◌, ◌*◌, ◌/◌, ◌%◌}
 use native.Mathlib.Nat.{add_zero, add-suc, zero-mul}
 use native.Mathlib.Omega.{arith}
-use Rattle.rng.specs.Xoshiro.{result, streamed}
+use Rattle.rng.specs.Xoshiro.{output, streamed}
 use Rattle.list_laws.specs.Bits.{bit}
 use Rattle.list_laws.specs.Tabulate.{tabulate}
 use Rattle.list_laws.specs.Laws.Tabulate.{tabulate_ext}
@@ -28,8 +28,8 @@ words_more s state state' j k p q =
 
 -- the signs that are drawn from there are the sample's
 pub signs_are : (seed m chunk j : ℕ) (state : List ℕ) (signs : List Bool) → state ≡ drawn (streamed seed chunk) (j * words_per_sample m)
-    → signs ≡ tabulate (λ e. bit (e % 64) (result (drawn state (e / 64)))) m → signs ≡ sampled_signs seed m chunk j
+    → signs ≡ tabulate (λ e. bit (e % 64) (output (drawn state (e / 64)))) m → signs ≡ sampled_signs seed m chunk j
 unfolding sampled_minus
 signs_are seed m chunk j state signs p q =
     q ∙ tabulate_ext _ _ m
-    (λ e b. ap (λ (x : List ℕ). bit (e % 64) (result x)) (ap (λ (x : List ℕ). drawn x (e / 64)) p ∙ drawn_add (streamed seed chunk) (j * words_per_sample m) (e / 64)))
+    (λ e b. ap (λ (x : List ℕ). bit (e % 64) (output x)) (ap (λ (x : List ℕ). drawn x (e / 64)) p ∙ drawn_add (streamed seed chunk) (j * words_per_sample m) (e / 64)))

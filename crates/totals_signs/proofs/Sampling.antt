@@ -6,7 +6,7 @@ use native.Mathlib.Numerals.{add-one}
 use native.Mathlib.Omega.{arith}
 use lib.Dec.{eqb}
 use Rattle.list_laws.specs.Bits.{bit}
-use Rattle.rng.specs.Xoshiro.{result, next}
+use Rattle.rng.specs.Xoshiro.{output, next}
 use Rattle.rng.specs.declared.Drawn.{Drawn}
 use Rattle.transfer_matrix.specs.Configuration.{drawn, words_per_sample}
 use Rattle.totals_signs.specs.Words.{Word}
@@ -20,13 +20,13 @@ unfolding drawn
 drawn-more s k j e = let g : j ≡ suc k = omega arith in rw g
 
 module _ (s : List ℕ) (e : ℕ) (at r : Drawn) (g : Word s e at) where
-  pub word_new : e % 64 ≡ 0 → r.word ≡ result at.rng.s → r.rng.s ≡ next at.rng.s → Word s (e + 1) r
+  pub word_new : e % 64 ≡ 0 → r.word ≡ output at.rng.s → r.rng.s ≡ next at.rng.s → Word s (e + 1) r
   word_new z p q =
       let a : words_per_sample (e + 1) ≡ words_per_sample e + 1 = omega arith in
       let b : words_per_sample e ≡ (e + 1 - 1) / 64 = omega arith in
       record {
         state = q ∙ ap next g.state ∙ drawn-more s (words_per_sample e) (words_per_sample (e + 1)) a;
-        word = λ _. p ∙ ap result g.state ∙ ap (λ (k : ℕ). result (drawn s k)) b;
+        word = λ _. p ∙ ap output g.state ∙ ap (λ (k : ℕ). output (drawn s k)) b;
       }
 
   pub word_same : (e % 64 ≡ 0 → ⊥) → r.word ≡ at.word → r.rng.s ≡ at.rng.s → Word s (e + 1) r
@@ -36,11 +36,11 @@ module _ (s : List ℕ) (e : ℕ) (at r : Drawn) (g : Word s e at) where
       let o : 0 < e = omega arith in
       record {
         state = q ∙ g.state ∙ ap (drawn s) a;
-        word = λ _. p ∙ g.word o ∙ ap (λ (k : ℕ). result (drawn s k)) b;
+        word = λ _. p ∙ g.word o ∙ ap (λ (k : ℕ). output (drawn s k)) b;
       }
 
 -- the bit of edge e is in the current word
-pub word-bit : (s : List ℕ) (e : ℕ) (at : Drawn) → Word s (e + 1) at → eqb (at.word / 2 ^ (e % 64) % 2) 1 ≡ bit (e % 64) (result (drawn s (e / 64)))
+pub word-bit : (s : List ℕ) (e : ℕ) (at : Drawn) → Word s (e + 1) at → eqb (at.word / 2 ^ (e % 64) % 2) 1 ≡ bit (e % 64) (output (drawn s (e / 64)))
 word-bit s e at g =
     let a : (e + 1 - 1) / 64 ≡ e / 64 = omega arith in
-    ap (λ (w : ℕ). eqb (w / 2 ^ (e % 64) % 2) 1) (g.word (omega arith) ∙ ap (λ (k : ℕ). result (drawn s k)) a)
+    ap (λ (w : ℕ). eqb (w / 2 ^ (e % 64) % 2) 1) (g.word (omega arith) ∙ ap (λ (k : ℕ). output (drawn s k)) a)

@@ -1,6 +1,6 @@
 -- The sign of each kept edge in a configuration, and the factors in use: of an enumerated configuration, and of a sample.
 use Rattle.std.specs.Prelude.{Bool, cond, ◌&&◌, List, ℕ, zero, suc, ◌+◌, ◌*◌, ◌-◌, ◌/◌, ◌%◌, ◌^◌, length, get_or}
-use Rattle.rng.specs.Xoshiro.{result, next, streamed}
+use Rattle.rng.specs.Xoshiro.{output, next, streamed}
 use Rattle.edge_bits.specs.Having.{has_bit}
 use Rattle.list_laws.specs.Bits.{bit}
 use Rattle.list_laws.specs.Tabulate.{tabulate}
@@ -27,7 +27,7 @@ words_per_sample m = (m + 63) / 64
 unfoldable pub sampled_minus : (seed m chunk sample e : ℕ) → Bool
 unfolding drawn streamed
 sampled_minus seed m chunk sample e =
-    bit (e % 64) (result (drawn (streamed seed chunk) (sample * words_per_sample m + e / 64)))
+    bit (e % 64) (output (drawn (streamed seed chunk) (sample * words_per_sample m + e / 64)))
 
 -- ---- the factors in use
 

@@ -2,7 +2,7 @@
 use Rattle.std.specs.Prelude.{◌≡◌, refl, true, false, cond, [], ◌∷◌, ℕ, ◌+◌, ◌^◌, eqb, pos, negsuc, Float}
 use Rattle.std.specs.Float.{fin, binary64}
 use Rattle.std.specs.Float.Ieee.{round, add, mul, of_bits}
-use Rattle.rng.specs.Xoshiro.{result, next, streamed}
+use Rattle.rng.specs.Xoshiro.{output, next, streamed}
 use Rattle.list_laws.specs.Bits.{bit}
 use Rattle.transfer_matrix.specs.Room.{room, keep_all, less_room}
 use Rattle.transfer_matrix.specs.Configuration.{lent_at, sampled_minus}
@@ -48,6 +48,6 @@ pub no_chunk : (sampled_count 7 7 100 ≡ 0) × (sampled_count 9 7 100 ≡ 0)
 no_chunk = (refl, refl)
 
 -- 65 kept edges take two words a sample: edge 64 of sample 1 is the lowest bit of the fourth word of the chunk's stream.
-pub fourth-word : sampled_minus 5 65 6 1 64 ≡ bit 0 (result (next (next (next (streamed 5 6)))))
+pub fourth-word : sampled_minus 5 65 6 1 64 ≡ bit 0 (output (next (next (next (streamed 5 6)))))
 unfolding sampled_minus
 fourth-word = refl

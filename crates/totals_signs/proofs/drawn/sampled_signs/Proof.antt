@@ -2,7 +2,7 @@ use mathlib.Core.Path.{◌≡◌, refl, ap, ◌∙◌}
 use Prim.Native.Nat.{ℕ, ◌-◌, ◌/◌, ◌%◌, ◌≤◌}
 use native.Mathlib.Omega.{arith}
 use lib.ListN.{length, length-set}
-use Rattle.rng.specs.Xoshiro.{result}
+use Rattle.rng.specs.Xoshiro.{output}
 use Rattle.list_laws.specs.Bits.{bit}
 use Rattle.list_laws.specs.Front.{over}
 use Rattle.list_laws.specs.Tabulate.{tabulate}
@@ -15,7 +15,7 @@ use Rattle.totals_signs.proofs.drawn.sampled_signs.Statement.{statement}
 use Rattle.totals_signs.proofs.drawn.sampled_signs.Tie as tie
 
 abbrev invariant-loop : tie.invariant-loop
-invariant-loop signs₀ at₀ e₀ signs at e = (e ≤ length signs₀) × Word at₀.rng.s e at × (length signs ≡ length signs₀) × (signs ≡ over (tabulate (λ k. bit (k % 64) (result (drawn at₀.rng.s (k / 64)))) e) signs₀)
+invariant-loop signs₀ at₀ e₀ signs at e = (e ≤ length signs₀) × Word at₀.rng.s e at × (length signs ≡ length signs₀) × (signs ≡ over (tabulate (λ k. bit (k % 64) (output (drawn at₀.rng.s (k / 64)))) e) signs₀)
 
 abbrev decreases-loop : tie.decreases-loop
 decreases-loop signs₀ at₀ e₀ signs at e = length signs₀ - e
