@@ -86,6 +86,12 @@ def once(argv, table_of):
         for m in re.finditer(r"(?m)^ +(?:pub )?([a-z]\w*(?: [a-z]\w*)+) : [A-Z]\w*$", text):
             declared.update(m[1].split())
     declared = {n for n in declared if WORD.fullmatch(n)}
+    # what some file imports from a library is the library's to spell
+    crates = set(os.listdir(os.path.join(root, "crates")))
+    for path, text in texts.items():
+        for m in [] if path.endswith(".edit") else re.finditer(r"(?m)\buse ([\w.·]+)\.\{([^}]*)\}", text):
+            if m[1].split(".")[0] != "Rattle" or m[1].split(".")[1] not in crates:
+                declared -= {w.split(" as ")[0].strip() for w in m[2].split(",")}
     # what the kit's script has respelled in .antt files and not in a clause of several lines
     for path, text in texts.items():
         if path.endswith(".rt"):

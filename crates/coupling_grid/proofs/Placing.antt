@@ -1,5 +1,5 @@
 -- On the grid 128 x is a whole number ±k, and 512 more is the place 512 ± k: neither operation rounds anything away.
-use Rattle.std.proofs.Common.{◌≡◌, ℕ, ◌+◌, ◌-◌, ◌*◌, ◌^◌, ◌<◌, ◌≤◌, Bool, true, false, cond, T, ltb, pos, sym, refl, ap, ◌∙◌, subst, true≢false, mul-pos, mul_one, arith, lit<, lit≤, ltb-false, le-ltb}
+use Rattle.std.proofs.Common.{◌≡◌, ℕ, ◌+◌, ◌-◌, ◌*◌, ◌^◌, ◌<◌, ◌≤◌, Bool, true, false, cond, T, ltb, pos, sym, refl, ap, ◌∙◌, subst, true≢false, mul-pos, mul-one, arith, lit<, lit≤, ltb-false, le-ltb}
 use lib.Ieee.{Float, nan, inf, fin, binary64, up, down, add, sum, round, of_int, of_bits, in_unsigned, to_unsigned}
 use lib.Ieee.Exact.{HasValue}
 use lib.Ieee.Fits.{down_pos}
@@ -21,7 +21,7 @@ times-value (inf t) s k v h = absurd v
 times-value (fin t m e) s k v h =
     subst (λ (y : Float). HasValue y s k 1)
     (sym (product_is t m e ∙ ap (λ (b : Bool). round binary64 b (m * up e * 128) (down e)) v.0
-    ∙ round_same binary64 s (m * up e * 128) (down e) k 1 (down_pos e) (lit< tt) (mul_one (m * up e * 128) ∙ v.1)))
+    ∙ round_same binary64 s (m * up e * 128) (down e) k 1 (down_pos e) (lit< tt) (mul-one (m * up e * 128) ∙ v.1)))
     (round_whole binary64 s k (let l : 512 ≤ 2 ^ 53 = lit≤ tt in omega arith))
 
 -- ---- the sum: m * 2 ^ e is k, and the fraction is over d
@@ -39,7 +39,7 @@ below a d c k C h e i = go (ltb a (512 * d)) refl
     same : round binary64 false (512 * d - a) c ≡ round binary64 false (512 - k) 1
     same =
         round_same binary64 false (512 * d - a) c (512 - k) 1 C (lit< tt)
-        (mul_one (512 * d - a) ∙ (rest a d k h e).0 ∙ ap (λ (z : ℕ). (512 - k) * z) (sym i))
+        (mul-one (512 * d - a) ∙ (rest a d k h e).0 ∙ ap (λ (z : ℕ). (512 - k) * z) (sym i))
 
     go : (t : Bool) → ltb a (512 * d) ≡ t
         → cond t (round binary64 false (512 * d - a) c) (round binary64 (ltb (512 * d) a) (a - 512 * d) c) ≡ round binary64 false (512 - k) 1
@@ -56,7 +56,7 @@ unfolding add sum of_bits of_int
 sum_is nan s k v h = absurd v
 sum_is (inf t) s k v h = absurd v
 sum_is (fin true m e) true k v h =
-    below (m * up e * 1) (down e) (down e * 1) k (mul-pos (down_pos e) (lit< tt)) h v.1 (mul_one (down e))
+    below (m * up e * 1) (down e) (down e * 1) k (mul-pos (down_pos e) (lit< tt)) h v.1 (mul-one (down e))
 sum_is (fin true m e) false k v h = absurd (true≢false v.0)
 sum_is (fin false m e) true k v h = absurd (true≢false (sym v.0))
 sum_is (fin false m e) false k v h =

@@ -4,7 +4,7 @@ use lib.Ieee.{Float, nan, inf, fin, binary64, up, down, le, neg, of_bits}
 use lib.Ieee.Fits.{down_pos}
 use borrow.Author.Tests.{eqb-false, lt-leb}
 use Rattle.coupling_grid.specs.Grid.{whole_to512, off_grid}
-use Rattle.coupling_grid.specs.Laws.Grid.{and_true}
+use Rattle.coupling_grid.specs.Laws.Grid.{and-true}
 
 -- 4.0, as the code has it
 abbrev pub four : Float
@@ -24,7 +24,7 @@ is_le a b c d t h = go (ltb a b) refl h
   where
     go : (z : Bool) → ltb a b ≡ z → (z || (eqb c d && t)) ≡ true → (a < b) ⊎ (c ≡ d)
     go true e k = inl (ltb-true a b e)
-    go false e k = inr (eqb-true c d (and_true (eqb c d) t k).0)
+    go false e k = inr (eqb-true c d (and-true (eqb c d) t k).0)
 
 -- ---- beyond 4 in size
 too_many : (a c : ℕ) → 512 * c < a → whole_to512 a c ≡ false

@@ -10,7 +10,7 @@ use lib.Ieee.Back.{round_whole}
 use lib.Ieee.Casts.{to_signed_in}
 use mir.ValLaws.{to_z-of_z}
 use borrow.Author.Tests.{eqb-false}
-use Rattle.rounding.specs.Laws.Commute.{and_true}
+use Rattle.rounding.specs.Laws.Commute.{and-true}
 use Rattle.nearest.specs.Laws.Smallest.{in_smallest}
 use Rattle.coupling_grid.specs.Grid.{off_grid}
 use Rattle.coupling_grid.proofs.Product.{times128, product_is}
@@ -50,7 +50,7 @@ off-is : (s : Bool) (m : ℕ) (e : ℤ) → m * up e ≤ 4 * down e → off_grid
 unfolding off_grid
 off-is s m e l =
     let b : m * up e * 128 / down e < 513 = (div-lt_iff_lt-mul (down_pos e)).1 (let d = down_pos e in omega arith) in
-    rw (le-leb (m * up e * 128 / down e) 512 (omega arith)) (ap not (and_true (eqb (m * up e * 128 % down e) 0)))
+    rw (le-leb (m * up e * 128 / down e) 512 (omega arith)) (ap not (and-true (eqb (m * up e * 128 % down e) 0)))
 
 pub product : (x : Float) → T (fits binary64 x) → le x four ≡ true → le (neg four) x ≡ true → (s : Bool) × (a : ℕ) × (c : ℕ) × Steps x (times128 x) s a c
 product nan f h g = absurd (not_nan h)
@@ -110,7 +110,7 @@ tests_agree a b c d f g = go (eqb a b) refl
     go false h = sym (ne_eqb c d (λ q. eqb-false a b h (g q)))
 
 level-is : (a b : ℕ) (t s : Bool) → ((t ≡ s) ⊎ (a ≡ 0)) → (eqb a b && (beq t s || eqb a 0)) ≡ eqb a b
-level-is a b t s h = rw (alike t s h) (and_true (eqb a b))
+level-is a b t s h = rw (alike t s h) (and-true (eqb a b))
   where
     alike : (t s : Bool) → ((t ≡ s) ⊎ (a ≡ 0)) → (beq t s || eqb a 0) ≡ true
     alike t s (inl e) = rw e (same s)

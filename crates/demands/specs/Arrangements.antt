@@ -1,7 +1,7 @@
 -- Both arrangements of a call, with room for both: the same answer, 14 too, and the same bits in every list of results. And the second's room is no larger.
 use Rattle.std.specs.Prelude.{◌≡◌, refl, Bool, true, false, cond, ◌&&◌, ◌||◌, List, ℕ, zero, suc, ◌+◌, ◌*◌, ◌^◌, ◌≤◌, eqb, Float, length}
 use Rattle.std.proofs.Common.{sym, ap, ◌∙◌, mul-le-mul_left, arith}
-use Rattle.std.proofs.Math.Bool.{or_true}
+use Rattle.std.proofs.Math.Bool.{or-true}
 use Rattle.limits.specs.declared.Caller.{Caller}
 use Rattle.list_laws.specs.Count.{count}
 use Rattle.list_laws.specs.Search.{some}
@@ -45,7 +45,7 @@ some_more s t h (suc n) e = go (some s n) (s n) (some t n) (t n) (some_more s t 
   where
     go : (a b c d : Bool) → (a ≡ true → c ≡ true) → (b ≡ true → d ≡ true) → (a || b) ≡ true → (c || d) ≡ true
     go true b c d f g e = rw (f refl) refl
-    go false true c d f g e = rw (g refl) (or_true c)
+    go false true c d f g e = rw (g refl) (or-true c)
     go false false c d f g e = absurd (let z : ◌≡◌ {A = ℕ} 0 1 = cc in omega arith)
 
 kept_more : (w : ℕ) (us vs : List ℕ) (t : ℕ) → keeps_backward less_room w us vs t ≡ true → keeps_backward keep_all w us vs t ≡ true

@@ -1,6 +1,6 @@
 -- What the demands say of an accepted call of `exhaustive_c`, of the stored correlations and with no tolerance.
 use Rattle.std.specs.Prelude.{◌≡◌, Bool, true, not, List, ℕ, ◌+◌, ◌*◌, ◌/◌, ◌%◌, ◌^◌, ◌≤◌, ◌<◌, eqb, Float, length, get_or}
-use Rattle.std.proofs.Common.{ap, ◌∙◌, mod-lt, div-lt_iff_lt-mul, add_zero, mod-eq_of_lt, mul-le-mul_right, arith, pow_pos}
+use Rattle.std.proofs.Common.{ap, ◌∙◌, mod-lt, div-lt_iff_lt-mul, add-zero, mod-eq_of_lt, mul-le-mul_right, arith, pow_pos}
 use Rattle.std.proofs.Math.Nat.{mul-add-div_right, mul-add-mod_self_right, div-eq_of_lt}
 use Rattle.std.specs.Float.{nan}
 use Rattle.plan_layout.specs.Arrangements.{arrangement_of}
@@ -75,7 +75,7 @@ module _ {n floor : ℕ} {a b : List ℕ} {m : List Float} {us vs : List ℕ} {b
       let q = beta * length us + p in
       let below : q + 1 ≤ length betas * length us = omega (arith, mul-le-mul_right (length us) l) in
       let inside : q * 2 ^ free + x < size = omega (arith, mul-le-mul_right (2 ^ free) below) in
-      let d : (q * 2 ^ free + x) / 2 ^ free ≡ q = mul-add-div_right (pow_pos free) q x ∙ ap (λ (j : ℕ). q + j) (div-eq_of_lt h) ∙ add_zero q in
+      let d : (q * 2 ^ free + x) / 2 ^ free ≡ q = mul-add-div_right (pow_pos free) q x ∙ ap (λ (j : ℕ). q + j) (div-eq_of_lt h) ∙ add-zero q in
       let r : (q * 2 ^ free + x) % 2 ^ free ≡ x = mul-add-mod_self_right q (2 ^ free) x ∙ mod-eq_of_lt h in
       rw (stored_are (q * 2 ^ free + x) inside, d, r, ← pair-numbered (configuration x) us vs beta p k)
 

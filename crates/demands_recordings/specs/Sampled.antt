@@ -1,6 +1,6 @@
 -- The rows of a chunk are what `sample`, or its house twin, leaves over that chunk alone; and each chunk's sums keep what 26 asks of them.
 use Rattle.std.specs.Prelude.{◌≡◌, refl, Bool, true, false, not, ◌&&◌, List, ℕ, ◌+◌, ◌-◌, ◌*◌, ◌≤◌, ◌<◌, T, eqb, Float, length, get_or}
-use Rattle.std.proofs.Common.{sym, ap, ◌∙◌, subst, one_mul, arith, eq-eqb}
+use Rattle.std.proofs.Common.{sym, ap, ◌∙◌, subst, one-mul, arith, eq-eqb}
 use Rattle.std.specs.Float.{nan, binary64}
 use Rattle.std.specs.Float.Ieee.{of_bits, of_int, le, fits}
 use Rattle.std.specs.Float.Ieee.Bits.{is_true}
@@ -77,7 +77,7 @@ module _ (g : Given) (seed from to samples : ℕ) (c k : ℕ) (l : k < sums g) w
   }
 
 one-count : (i samples : ℕ) → sampled_count i (i + 1) samples ≡ samples
-one-count i samples = let e : i + 1 - i ≡ 1 = omega arith in ap (λ (x : ℕ). x * samples) e ∙ one_mul samples
+one-count i samples = let e : i + 1 - i ≡ 1 = omega arith in ap (λ (x : ℕ). x * samples) e ∙ one-mul samples
 
 -- ---- `sample_record`
 

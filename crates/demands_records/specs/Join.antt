@@ -6,7 +6,7 @@ use mathlib.Core.List.{List, ◌++◌, append_assoc, append-nil}
 use Rattle.std.proofs.lemmas.Bool.{eqb-false}
 use Rattle.std.proofs.Math.ListN.{drop}
 use Rattle.std.proofs.Math.Seq.{drop_at}
-use Rattle.list_laws.specs.Laws.Search.{or_false}
+use Rattle.list_laws.specs.Laws.Search.{or-false}
 use Rattle.little_endian.specs.Words.{Bytes}
 use Rattle.refusals.specs.Answers.{left}
 use Rattle.run_record.specs.declared.Head.{Head}
@@ -53,7 +53,7 @@ module _ (one two : List ℕ) (b₁ : Bytes one) (b₂ : Bytes two) where
   pub same_bytes : (n : ℕ) → refused_join one two n ≡ 0 → join_of one two ≡ join_of two one
   same_bytes n a =
       let x = passes one two n a in
-      let y = or_false (bad_record one) (bad_record two) x.0 in
+      let y = or-false (bad_record one) (bad_record two) x.0 in
       let t = turned_round y.0 y.1 x.1 in
       rw (t.0, t.1)
 

@@ -11,7 +11,7 @@ use borrow.Author.Tests.{eqb-true, not-false}
 use Rattle.coupling_grid.specs.Grid.{some_off_grid}
 use Rattle.house_factors.specs.Factors.{single_factors}
 use Rattle.house_factors.specs.Laws.Factors.{single-length}
-use Rattle.list_laws.specs.Laws.Search.{or_false}
+use Rattle.list_laws.specs.Laws.Search.{or-false}
 use Rattle.transfer_matrix.specs.Room as Room
 use Rattle.refusals.specs.Request.{house, bad_coupling_list}
 use Rattle.refusals.specs.Laws.First.{unless}
@@ -33,7 +33,7 @@ pub housed-of : (A : Room.Arrangement) (n w edges : ℕ) (us vs : List ℕ) (cou
     → lists_refusal house A n w edges us vs couplings results work ≡ 0 → Housed A n w edges us vs couplings results work
 housed-of A n w edges us vs couplings results work h =
     let t23 = unless (bad_coupling_list couplings edges) {k = 23} (omega arith) h in
-    let f = or_false (not (eqb (length couplings) edges)) (some_off_grid couplings) t23.0 in
+    let f = or-false (not (eqb (length couplings) edges)) (some_off_grid couplings) t23.0 in
     let buffers = accepted-buffers A n w edges us vs (not (eqb results (length us))) work t23.1 in
     record {
       count = eqb-true _ _ (not-false _ f.0);

@@ -6,7 +6,7 @@ use Prim.Native.Nat.{ℕ, ◌<◌}
 use lib.Dec.{leb}
 use lib.ListN.{length}
 use borrow.Author.Tests.{leb-false}
-use Rattle.list_laws.specs.Laws.Search.{or_false}
+use Rattle.list_laws.specs.Laws.Search.{or-false}
 use Rattle.refusals.specs.Request.{outside}
 use Rattle.distance.specs.Walks.{Distance}
 use Rattle.distance.specs.declared.Reach.TheVariants as Reach
@@ -31,7 +31,7 @@ pub no_distance : (K : ℕ) (early late : List ℕ) (u v : ℕ) → 0 ≡ K → 
 no_distance K early late u v e d = record { number = e; values = λ z joined length. d }
 
 pub inside_both : (n u v : ℕ) → outside n u v ≡ false → (u < n) × (v < n)
-inside_both n u v h = let p = or_false (leb n u) (leb n v) h in (leb-false n u p.0, leb-false n v p.1)
+inside_both n u v h = let p = or-false (leb n u) (leb n v) h in (leb-false n u p.0, leb-false n v p.1)
 
 -- ---- a measure
 

@@ -15,9 +15,9 @@ use Rattle.list_laws.specs.Laws.Search.{some_at, none_of, miss}
 use Rattle.refusals.specs.Request.{same_ends}
 use Rattle.graph_checks.specs.Chains.{LastAt, Chain, Heads}
 
-and_false : (a b : Bool) → b ≡ false → (a && b) ≡ false
-and_false true b e = e
-and_false false b e = refl
+and-false : (a b : Bool) → b ≡ false → (a && b) ≡ false
+and-false true b e = e
+and-false false b e = refl
 
 module _ (early late : List ℕ) (e : ℕ) where
   -- no edge from k on up to e joins e's ends, and the edge before k ends where e does
@@ -27,7 +27,7 @@ module _ (early late : List ℕ) (e : ℕ) where
     pub past : (f : ℕ) → k ≤ f → f < e → same_ends early late e f ≡ false
 
   other-late : (f : ℕ) → (get_or late f 0 ≡ get_or late e 0 → ⊥) → same_ends early late e f ≡ false
-  other-late f n = and_false (eqb (get_or early f 0) (get_or early e 0)) (eqb (get_or late f 0) (get_or late e 0)) (ne_eqb _ _ n)
+  other-late f n = and-false (eqb (get_or early f 0) (get_or early e 0)) (eqb (get_or late f 0) (get_or late e 0)) (ne_eqb _ _ n)
 
   other-early : (f : ℕ) → (get_or early f 0 ≡ get_or early e 0 → ⊥) → same_ends early late e f ≡ false
   other-early f n = rw (ne_eqb (get_or early f 0) (get_or early e 0) n)

@@ -7,7 +7,7 @@ use lib.Dec.{ltb}
 use lib.Ieee.{Float}
 use lib.ListN.{length}
 use borrow.Author.Tests.{ltb-false}
-use Rattle.list_laws.specs.Laws.Search.{or_false}
+use Rattle.list_laws.specs.Laws.Search.{or-false}
 use Rattle.list_laws.specs.Front.{over}
 use Rattle.refusals.specs.Edges.{kept}
 use Rattle.kept_edges.specs.Keep.{Written, Placed, places_of, Holds}
@@ -17,9 +17,9 @@ use Rattle.graph_edges.specs.Graphs.{WrittenKept, too_short}
 -- buffers that are not too short hold the edges
 pub holds-all : (k : ℕ) (early late : List ℕ) (mag : List Float) (raw : List ℕ) → too_short k early late mag raw ≡ false → Holds k early late mag × (k ≤ length raw)
 holds-all k early late mag raw h =
-    let o = or_false (ltb (length early) k || ltb (length late) k || ltb (length mag) k) (ltb (length raw) k) h in
-    let p = or_false (ltb (length early) k || ltb (length late) k) (ltb (length mag) k) o.0 in
-    let q = or_false (ltb (length early) k) (ltb (length late) k) p.0 in
+    let o = or-false (ltb (length early) k || ltb (length late) k || ltb (length mag) k) (ltb (length raw) k) h in
+    let p = or-false (ltb (length early) k || ltb (length late) k) (ltb (length mag) k) o.0 in
+    let q = or-false (ltb (length early) k) (ltb (length late) k) p.0 in
     (record { earlies = ltb-false _ _ q.0; lates = ltb-false _ _ q.1; mags = ltb-false _ _ p.1 }, ltb-false _ _ o.1)
 
 -- and the places, which are as many

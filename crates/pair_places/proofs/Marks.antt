@@ -1,6 +1,6 @@
 -- How the marks grow, pair by pair.
 use mathlib.Core.Path.{◌≡◌, refl, sym, ap, ◌∙◌}
-use mathlib.Core.Bool.{Bool, true, false, ◌&&◌, ◌||◌, and_true, and_false, or_true, or_false, or_assoc}
+use mathlib.Core.Bool.{Bool, true, false, ◌&&◌, ◌||◌, and-true, and-false, or-true, or-false, or_assoc}
 use mathlib.Core.List.{List}
 use mathlib.Core.Logic.{dite}
 use Prim.Native.Nat.{ℕ, ◌+◌, ◌<◌}
@@ -30,11 +30,11 @@ pub mark_set : (marks : List Bool) (t : ℕ) → t < length marks → MarkedToo 
 mark_set marks t b = record { at = λ u. go u (ℕ_discrete t u) }
   where
     go : (u : ℕ) → Dec (t ≡ u) → get_or (set marks t true) u false ≡ (get_or marks u false || (eqb t u && true))
-    go u (yes e) = rw (← e, eq-eqb t t refl) (get_or-set_same marks t true false b ∙ sym (or_true (get_or marks t false)))
-    go u (no e) = rw (ne_eqb t u e) (get_or-set_other marks t u true false (λ q. e (sym q)) ∙ sym (or_false (get_or marks u false)))
+    go u (yes e) = rw (← e, eq-eqb t t refl) (get_or-set_same marks t true false b ∙ sym (or-true (get_or marks t false)))
+    go u (no e) = rw (ne_eqb t u e) (get_or-set_other marks t u true false (λ q. e (sym q)) ∙ sym (or-false (get_or marks u false)))
 
 pub mark_left : (marks : List Bool) (t : ℕ) → MarkedToo marks marks t false
-mark_left marks t = record { at = λ u. rw (and_false (eqb t u)) (sym (or_false (get_or marks u false))) }
+mark_left marks t = record { at = λ u. rw (and-false (eqb t u)) (sym (or-false (get_or marks u false))) }
 
 -- the tests of the pairs
 abbrev pub asks_forward : ℕ → List ℕ → List ℕ → ℕ → ℕ → Bool
@@ -63,7 +63,7 @@ one_more marks marks' asks i h e = record { at = λ t. rw (add-one i) (e t ∙ a
 
 module _ (marks marks' : List Bool) (us vs : List ℕ) (i v : ℕ) (ev : v ≡ later us vs i) (marked : MarkedToo marks marks' v true) where
   at-later : (t : ℕ) → get_or marks' t false ≡ (get_or marks t false || eqb (later us vs i) t)
-  at-later t = marked.at t ∙ ap (λ (x : Bool). get_or marks t false || x) (and_true (eqb v t) ∙ ap (λ (x : ℕ). eqb x t) ev)
+  at-later t = marked.at t ∙ ap (λ (x : Bool). get_or marks t false || x) (and-true (eqb v t) ∙ ap (λ (x : ℕ). eqb x t) ev)
 
   pub forward_iteration : (w u : ℕ) (kept : Bool) (marks'' : List Bool) → u ≡ earlier us vs i → kept ≡ is_propagated w us vs i
       → MarkedToo marks' marks'' u kept → Asked marks (asks_forward w us vs) i → Asked marks'' (asks_forward w us vs) (i + 1)

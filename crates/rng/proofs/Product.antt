@@ -1,5 +1,5 @@
 -- The wrapping product by halves of 32 bits, as a law on numbers.
-use Rattle.std.proofs.Common.{◌≡◌, ℕ, ◌+◌, ◌*◌, ◌/◌, ◌%◌, ◌^◌, ◌<◌, sym, ap, ◌∙◌, ap₂, add_assoc, mul_assoc, add-mul, mul-le-mul, add_comm, div-add-mod', mul_add, mul_right_comm, arith}
+use Rattle.std.proofs.Common.{◌≡◌, ℕ, ◌+◌, ◌*◌, ◌/◌, ◌%◌, ◌^◌, ◌<◌, sym, ap, ◌∙◌, ap₂, add_assoc, mul_assoc, add-mul, mul-le-mul, add_comm, div-add-mod', mul-add, mul_right_comm, arith}
 use native.Mathlib.Nat.{mul-mul-mul_comm, le-pred_of_lt, add-mod, add-mod-mod, mul-add-mod_self_right}
 
 -- the base of the two digits that a word is written in
@@ -9,7 +9,7 @@ half = 4294967296
 -- the product of two numbers of two digits in base b
 expand : (b x y u v : ℕ) → (x * b + y) * (u * b + v) ≡ x * u * (b * b) + (x * v * b + y * u * b) + y * v
 expand b x y u v =
-    rw (add-mul, mul_add (x * b) (u * b) v, mul_add y (u * b) v, mul-mul-mul_comm x b u b, mul_right_comm x b v, ← mul_assoc y u b)
+    rw (add-mul, mul-add (x * b) (u * b) v, mul-add y (u * b) v, mul-mul-mul_comm x b u b, mul_right_comm x b v, ← mul_assoc y u b)
     (omega arith)
 
 pub digits_fit : {x y : ℕ} → x < 2 ^ 32 → y < 2 ^ 32 → x * y < 2 ^ 64

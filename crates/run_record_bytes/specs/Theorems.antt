@@ -4,7 +4,7 @@ use Rattle.std.proofs.Common.{sym, ◌∙◌, arith}
 use Rattle.std.proofs.Math.Path.{ap, subst}
 use borrow.Author.Tests.{eqb-true, eq-eqb, le-ltb, not-false}
 use Rattle.std.specs.Float.Ieee.{binary64, to_bits, of_bits}
-use Rattle.list_laws.specs.Laws.Search.{or_false, none-at, none_of}
+use Rattle.list_laws.specs.Laws.Search.{or-false, none-at, none_of}
 use Rattle.little_endian.specs.Words.{Bytes, word_at}
 use Rattle.little_endian.specs.Rows.{Stand}
 use Rattle.little_endian.specs.Laws.Words.{word-at-below}
@@ -32,10 +32,10 @@ row-passed : (bytes : List ℕ) (place chunk beta pair samples : ℕ) → bad_ro
     → RowPassed bytes place chunk beta pair samples
 unfolding bad_row_at
 row-passed bytes place chunk beta pair samples e =
-    let x₄ = or_false _ (bad_sums samples (double_at bytes (place + 12)) (double_at bytes (place + 20))) e in
-    let x₃ = or_false _ (not (eqb (word_at bytes (place + 10) 2) pair)) x₄.0 in
-    let x₂ = or_false _ (not (eqb (word_at bytes (place + 9) 1) beta)) x₃.0 in
-    let x₁ = or_false (not (eqb (word_at bytes place 1) 18)) (not (eqb (word_at bytes (place + 1) 8) chunk)) x₂.0 in
+    let x₄ = or-false _ (bad_sums samples (double_at bytes (place + 12)) (double_at bytes (place + 20))) e in
+    let x₃ = or-false _ (not (eqb (word_at bytes (place + 10) 2) pair)) x₄.0 in
+    let x₂ = or-false _ (not (eqb (word_at bytes (place + 9) 1) beta)) x₃.0 in
+    let x₁ = or-false (not (eqb (word_at bytes place 1) 18)) (not (eqb (word_at bytes (place + 1) 8) chunk)) x₂.0 in
     record {
       kind = eqb-true _ _ (not-false _ x₁.0);
       chunk_is = eqb-true _ _ (not-false _ x₁.1);

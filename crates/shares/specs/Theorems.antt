@@ -4,7 +4,7 @@ use Rattle.std.proofs.Common.{sym, ap, ◌∙◌, arith}
 use Rattle.list_laws.specs.Count.{count}
 use Rattle.list_laws.specs.Search.{some}
 use Rattle.list_laws.specs.Laws.Count.{count_ext}
-use Rattle.list_laws.specs.Laws.Search.{or_false}
+use Rattle.list_laws.specs.Laws.Search.{or-false}
 use Rattle.euclid.specs.declared.Fraction.{Fraction}
 use Rattle.euclid.specs.Euclid.{LowestTerms}
 use Rattle.euclid.specs.Theorems.{in_lowest_terms, only-lowest-terms}
@@ -36,7 +36,7 @@ module _ (stored : List Float) (lengths : List ℕ) where
 
   module _ (h : refuses stored lengths ≡ false) where
     parts : (bad_lists lengths (length stored) ≡ false) × (some (λ i. bad_entry (at stored i)) (length stored) ≡ false)
-    parts = or_false (bad_lists lengths (length stored)) (some (λ i. bad_entry (at stored i)) (length stored)) h
+    parts = or-false (bad_lists lengths (length stored)) (some (λ i. bad_entry (at stored i)) (length stored)) h
 
     pub answered : shares_of stored lengths ≡ Pooled (pooled stored)
     unfolding shares_of

@@ -1,7 +1,7 @@
 -- The pattern that the code puts together is that of the root: its fields stand for the nearest number of places.
 use mathlib.Core.Path.{◌≡◌, sym, ◌∙◌, subst}
 use Prim.Native.Nat.{ℕ, zero, suc, ◌+◌, ◌-◌, ◌*◌, ◌/◌, ◌%◌, ◌^◌, ◌≤◌, ◌<◌}
-use native.Mathlib.Nat.{mul_one, lt_irrefl}
+use native.Mathlib.Nat.{mul-one, lt_irrefl}
 use native.Mathlib.Omega.{arith}
 use mathlib.Core.Bool.{Bool, false, not}
 use lib.Dec.{T, leb, eqb, eqb→eq, not_T}
@@ -30,7 +30,7 @@ of_bits_fields x t X H =
 
 fields_value : (x t : ℕ) → x < 2047 → HasValue (of_fields binary64 false x t) false (magnitude x t) (2 ^ 1074)
 unfolding of_fields
-fields_value zero t h = subst (λ (z : ℕ). HasValue (odd 53 false t 0 1074) false z (2 ^ 1074)) (mul_one t) (odd_sign 53 false t 0 1074)
+fields_value zero t h = subst (λ (z : ℕ). HasValue (odd 53 false t 0 1074) false z (2 ^ 1074)) (mul-one t) (odd_sign 53 false t 0 1074)
 fields_value (suc x) t h =
     let n = is_false (eqb (suc x) 2047) (not_T (eqb (suc x) 2047) (λ e. lt_irrefl 2047 (subst (λ (z : ℕ). z < 2047) (eqb→eq (suc x) 2047 e) h))) in
     rw n (odd_sign 53 false (2 ^ 52 + t) x 1074)

@@ -1,9 +1,9 @@
 -- The tests that the code makes of any double: zero, above zero, neither; and above zero the fields of its pattern.
 use mathlib.Core.Path.{◌≡◌, refl, sym, ap, ◌∙◌, subst}
 use Prim.Native.Nat.{ℕ, zero, suc, ◌+◌, ◌*◌, ◌/◌, ◌%◌, ◌^◌, ◌<◌}
-use native.Mathlib.Nat.{lt_irrefl, mul_one, zero-mul, mul-pos, zero-lt-suc}
+use native.Mathlib.Nat.{lt_irrefl, mul-one, zero-mul, mul-pos, zero-lt-suc}
 use native.Mathlib.Omega.{arith}
-use mathlib.Core.Bool.{Bool, true, false, not, ◌&&◌, ◌||◌, beq, cond, true≢false, or_true}
+use mathlib.Core.Bool.{Bool, true, false, not, ◌&&◌, ◌||◌, beq, cond, true≢false, or-true}
 use lib.IntN.{ℤ}
 use lib.Dec.{T, leb, eqb, eqb→eq}
 use borrow.Author.Tests.{lt-ltb}
@@ -18,7 +18,7 @@ abbrev pub +0·0 : Float
 
 -- a finite number above zero compares as that
 above : (m : ℕ) (e : ℤ) → 0 * 1 * down e < suc m * up e * 1
-above m e = rw (zero-mul (down e), mul_one (suc m * up e)) (mul-pos (zero-lt-suc m) (up_pos e))
+above m e = rw (zero-mul (down e), mul-one (suc m * up e)) (mul-pos (zero-lt-suc m) (up_pos e))
 
 pub root_at_zero : (x : Float) → T (eq x +0·0) → x ≡ sqrt binary64 x
 unfolding eq sqrt of_bits
@@ -38,7 +38,7 @@ root_of_neither (inf false) h g = absurd (true≢false g)
 root_of_neither (fin s zero e) h g = absurd (true≢false (sym is_zero ∙ h))
   where
     is_zero : (eqb (0 * up e * 1) (0 * 1 * down e) && (beq s false || eqb (0 * up e * 1) 0)) ≡ true
-    is_zero = rw (mul_one (0 * up e), zero-mul (up e), zero-mul (down e)) (or_true (beq s false))
+    is_zero = rw (mul-one (0 * up e), zero-mul (up e), zero-mul (down e)) (or-true (beq s false))
 root_of_neither (fin true (suc m) e) h g = refl
 root_of_neither (fin false (suc m) e) h g = absurd (true≢false (sym (lt-ltb (0 * 1 * down e) (suc m * up e * 1) (above m e)) ∙ g))
 

@@ -1,7 +1,7 @@
 -- Where the digits of a root start: by the fields of the pattern, moved up, and from there to the root's halves.
 use mathlib.Core.Path.{◌≡◌, refl, sym, ap, ◌∙◌, subst}
 use Prim.Native.Nat.{ℕ, zero, suc, ◌+◌, ◌-◌, ◌*◌, ◌/◌, ◌%◌, ◌^◌, ◌≤◌, ◌<◌}
-use native.Mathlib.Nat.{le_trans, le_of_eq, lt_of_lt_of_le, lt_of_le_of_lt, pow-suc, one_mul, mul_one, zero-lt-suc, lt_irrefl}
+use native.Mathlib.Nat.{le_trans, le_of_eq, lt_of_lt_of_le, lt_of_le_of_lt, pow-suc, one-mul, mul-one, zero-lt-suc, lt_irrefl}
 use native.Mathlib.Nat.{mul-pos, mul_assoc, mul-le-mul_right, mul-lt-mul_of_pos_right}
 use native.Mathlib.Omega.{arith}
 use lib.Dec.{lit≤, lit<}
@@ -53,7 +53,7 @@ module _ (x t : ℕ) (F : Fields x t) where
   placed_zero e =
       let a = F.above in
       let b = F.short in
-      rw e (subst (λ (z : ℕ). Placed z t 511) (mul_one t) (odd_field t 1 (omega arith) (omega arith) (lit< tt) (lit< tt) refl))
+      rw e (subst (λ (z : ℕ). Placed z t 511) (mul-one t) (odd_field t 1 (omega arith) (omega arith) (lit< tt) (lit< tt) refl))
 
   magnitude-is : (x : ℕ) → 0 < x → (t + 2 ^ 52) * 2 ^ (x - 1) ≡ magnitude x t
   magnitude-is zero h = absurd (lt_irrefl 0 h)
@@ -81,7 +81,7 @@ pub placed_pos : (n m k : ℕ) → Placed n m k → 0 < k
 placed_pos n m zero h = absurd (go (n * 2 ^ 1076) (le_trans (lit≤ tt) many) h.same h.small)
   where
     many : 2 ^ 1076 ≤ n * 2 ^ 1076
-    many = subst (λ (z : ℕ). z ≤ n * 2 ^ 1076) (one_mul (2 ^ 1076)) (mul-le-mul_right (2 ^ 1076) h.some)
+    many = subst (λ (z : ℕ). z ≤ n * 2 ^ 1076) (one-mul (2 ^ 1076)) (mul-le-mul_right (2 ^ 1076) h.some)
 
     go : (p : ℕ) → 2 ^ 108 ≤ p → m * 2 ^ 54 * (1 * 1) ≡ p → m + 2 ≤ 2 ^ 54 → ⊥
     go p a b c = omega arith

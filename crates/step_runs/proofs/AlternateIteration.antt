@@ -2,7 +2,7 @@
 use mathlib.Core.Path.{◌≡◌, refl, ap, ◌∙◌}
 use mathlib.Core.List.{List}
 use Prim.Native.Nat.{ℕ, ◌+◌, ◌/◌, ◌%◌, ◌≤◌, ◌<◌}
-use native.Mathlib.Nat.{add_zero}
+use native.Mathlib.Nat.{add-zero}
 use native.Mathlib.Omega.{arith}
 use lib.ListN.{length, get_or, set}
 use lib.Ieee.{Float, nan, neg}
@@ -37,7 +37,7 @@ module _ (s o : ℕ) (d : List Float) where
   -- the only entry
   pub alternate-one : (n : ℕ) → n ≡ 1 → o + n ≤ length d → set d o (get_or d s nan) ≡ put d o (tabulate rule n)
   alternate-one n e fits =
-      let x : get_or d s nan ≡ rule 0 = rw (alternate_even (entries d s) 0 refl, add_zero s) in
+      let x : get_or d s nan ≡ rule 0 = rw (alternate_even (entries d s) 0 refl, add-zero s) in
       rw e
       (ap (λ (l : List Float). set l o (get_or d s nan)) (fill_none d o rule)
-      ∙ rw (add_zero o) at (fill_one d o rule 0 (get_or d s nan) (omega arith) x))
+      ∙ rw (add-zero o) at (fill_one d o rule 0 (get_or d s nan) (omega arith) x))

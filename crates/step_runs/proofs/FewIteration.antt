@@ -2,7 +2,7 @@
 use mathlib.Core.Path.{◌≡◌, refl, sym, ap, ◌∙◌}
 use mathlib.Core.List.{List}
 use Prim.Native.Nat.{ℕ, ◌+◌, ◌≤◌}
-use native.Mathlib.Nat.{add_zero}
+use native.Mathlib.Nat.{add-zero}
 use native.Mathlib.Omega.{arith}
 use lib.ListN.{length, set}
 use lib.Ieee.{Float}
@@ -23,14 +23,14 @@ module _ (d : List Float) (at half : ℕ) (a b : Float) (fits : at + half ≤ le
       let f = alternating a b in
       rw e
       (ap (λ (l : List Float). set l at a) (fill_none d at f)
-      ∙ rw (add_zero at) at (fill_one d at f 0 a (omega arith) (sym (alternating_even a b 0 refl))))
+      ∙ rw (add-zero at) at (fill_one d at f 0 a (omega arith) (sym (alternating_even a b 0 refl))))
 
   pub few-two : half ≡ 2 → set (set d at a) (at + 1) b ≡ put d at (tabulate (alternating a b) half)
   few-two e =
       let f = alternating a b in
       rw e
       (ap (λ (l : List Float). set (set l at a) (at + 1) b) (fill_none d at f)
-      ∙ rw (add_zero at) at (fill_two d at f 0 a b (omega arith) (sym (alternating_even a b 0 refl)) (sym (alternating-odd a b 1 refl))))
+      ∙ rw (add-zero at) at (fill_two d at f 0 a b (omega arith) (sym (alternating_even a b 0 refl)) (sym (alternating-odd a b 1 refl))))
 
   -- the larger of them
   first-most : {m : Float} → m ≡ larger ieee.𝟘 a → m ≡ top (alternating a b) 1

@@ -8,7 +8,7 @@ use lib.Dec.{eqb, ltb}
 use lib.ListN.{length}
 use borrow.Author.Tests.{ltb-false}
 use Rattle.refusals.specs.Laws.First.{here, past, told}
-use Rattle.list_laws.specs.Laws.Search.{or_false}
+use Rattle.list_laws.specs.Laws.Search.{or-false}
 use Rattle.strip_pairs.specs.PairSet.{pair_set, label_bytes, pairs_refusal}
 use Rattle.strip_pairs.specs.PairListing.{PairRoom}
 use Rattle.strip.specs.declared.strip.Strip.{Strip}
@@ -37,8 +37,8 @@ module _ (s : Strip) (us vs labels : List ℕ) {sides : Bool} (p : sides ≡ (eq
 
     pub pairs-room : short ≡ false → PairRoom (pair_set s) (record { pairs = 0; bytes = 0 }) us vs labels
     pairs-room t =
-        let q = or_false (ltb (length us) pairs || ltb (length vs) pairs) (ltb (length labels) bytes) (told r t) in
-        let o = or_false (ltb (length us) pairs) (ltb (length vs) pairs) q.0 in
+        let q = or-false (ltb (length us) pairs || ltb (length vs) pairs) (ltb (length labels) bytes) (told r t) in
+        let o = or-false (ltb (length us) pairs) (ltb (length vs) pairs) q.0 in
         let a = ltb-false (length us) pairs o.0 in
         let b = ltb-false (length vs) pairs o.1 in
         let c = ltb-false (length labels) bytes q.1 in

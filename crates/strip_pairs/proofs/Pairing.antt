@@ -12,7 +12,7 @@ use lib.Seq.{take-suc}
 use borrow.Author.Tests.{ltb-true}
 use Rattle.list_laws.specs.Front.{over}
 use Rattle.list_laws.specs.Laws.Front.{over-more, over-length}
-use Rattle.strip.specs.Laws.Tests.{and_true}
+use Rattle.strip.specs.Laws.Tests.{and-true}
 use Rattle.strip.specs.Vertices.{vertex}
 use Rattle.strip.specs.Sides.{Sides}
 use Rattle.strip_candidates.specs.Candidates.{candidate_at}
@@ -28,10 +28,10 @@ use Rattle.strip_pairs.specs.declared.standard.Filled.{Filled}
 -- ---- what a strip takes of a candidate
 four : (a p q r s n : Bool) → (a && (p && q && r && s && n)) ≡ true → (p ≡ true) × (q ≡ true) × (r ≡ true) × (s ≡ true)
 four a p q r s n h =
-    let i = (and_true (p && q && r && s) n (and_true a (p && q && r && s && n) h).1).0 in
-    let b = and_true (p && q && r) s i in
-    let d = and_true (p && q) r b.0 in
-    let e = and_true p q d.0 in
+    let i = (and-true (p && q && r && s) n (and-true a (p && q && r && s && n) h).1).0 in
+    let b = and-true (p && q && r) s i in
+    let d = and-true (p && q) r b.0 in
+    let e = and-true p q d.0 in
     (e.0, e.1, d.1, b.1)
 
 vertex-low : {w l : ℕ} → Sides w l → (x y : ℕ) → x < l → y < w → x * w + y ≤ 4096

@@ -5,7 +5,7 @@ use Rattle.std.proofs.Math.Path.{refl}
 use Rattle.std.proofs.Common.{sym, ◌∙◌, le_trans, mul-le-mul_left, take-suc, eq-eqb, ne_eqb, lt-ltb, le-ltb}
 use mathlib.Core.List.{List, [], ◌∷◌, ◌++◌, map, map-append}
 use Prim.Native.Nat.{ℕ, zero, suc, ◌+◌, ◌*◌, ◌≤◌, ◌<◌, max}
-use Rattle.std.proofs.Math.Nat.{min-eq_left, max-eq_right, max_le, le-max_right}
+use Rattle.std.proofs.Math.Nat.{min-eq_left, max-eq_right, max-le, le-max_right}
 use native.Mathlib.Omega.{arith}
 use Rattle.std.specs.Float.{nan}
 use Rattle.std.specs.Float.Ieee.{eq, le, lt, neg, of_bits}
@@ -15,7 +15,7 @@ use Rattle.std.proofs.lemmas.Bool.{lt-leb}
 use Rattle.limits.specs.Limits.{most_vertices, most_edges, most_pairs, most_betas, most_window}
 use Rattle.list_laws.specs.Laws.Search.{start, none_of}
 use Rattle.transfer_matrix.specs.Job as Job
-use Rattle.refusals.specs.Edges.{Kept, kept_at, kept_of, is_zero, kept_early, kept_late}
+use Rattle.refusals.specs.Edges.{Kept, kept_at, kept_of, is_zero, keptEarly, keptLate}
 use Rattle.refusals.specs.Key.{Key, among}
 use Rattle.refusals.specs.Laws.First.{here, past}
 use Rattle.refusals.specs.Refusal.{refusal, of_graph, of_room}
@@ -117,12 +117,12 @@ module _ {s : Strip} {r : Request} (S : Sides s.w s.l) (o : odd_cylinder s ≡ f
   none_zero : (i : ℕ) → i < length (edges s) → is_zero (get_or m i nan) ≡ false
   none_zero i h = rw (unit-at (edges s) i h) one_kept
 
-  kept-early : kept_early a b m ≡ a
+  kept-early : keptEarly a b m ≡ a
   kept-early =
       column-all a b m a (λ k. k.early) (λ i h. none_zero i (omega (arith, a-length)))
       (λ i h. min-eq_left (omega (arith, (ends-inside s S o i (omega (arith, a-length))).0)))
 
-  kept-late : kept_late a b m ≡ b
+  kept-late : keptLate a b m ≡ b
   kept-late =
       let same : length a ≡ length b = a-length ∙ sym b-length in
       rw same
@@ -194,7 +194,7 @@ module _ {s : Strip} {r : Request} (S : Sides s.w s.l) (o : odd_cylinder s ≡ f
 
   -- Where it is not, nor the floor, 6 does not fit.
   pub wide_enough : window_of s ≤ most_window → r.floor ≤ most_window → wide_window most_window r ≡ false
-  wide_enough h k = rw whole-window (le-ltb most_window (max r.floor (window_of s)) (max_le k h))
+  wide_enough h k = rw whole-window (le-ltb most_window (max r.floor (window_of s)) (max-le k h))
 
   -- So are cylinders of eight neighbours, two columns or more, from width 13 on,
   pub eight_too_wide : (more : List Key) → OfJob more → is_eight s.kind ≡ true → s.periodic ≡ true → 1 < s.l → 12 < s.w → 6 ≡ refusal (of_room ++ more) r

@@ -3,7 +3,7 @@ use Rattle.std.specs.Prelude.{◌≡◌, Bool, not, ◌&&◌, List, [], ◌∷�
 use Rattle.std.proofs.Math.Path.{refl}
 use Rattle.std.proofs.Common.{◌∙◌, le_trans, le_antisymm, mul-le-mul_left, length-append}
 use Rattle.std.proofs.Math.Bool.{true, false, cond}
-use Rattle.std.proofs.Math.Nat.{mod-eq_of_lt, mod_self, div-eq_of_lt, max_le, le-max_left, le-max_right}
+use Rattle.std.proofs.Math.Nat.{mod-eq_of_lt, mod_self, div-eq_of_lt, max-le, le-max_left, le-max_right}
 use native.Mathlib.Omega.{arith}
 use Rattle.std.proofs.Math.Dec.{eqb, ltb}
 use Rattle.std.proofs.Math.ListN.{get_or-append, get_or-map}
@@ -177,5 +177,5 @@ module _ (s : Strip) (S : Sides s.w s.l) where
   pub window-is : odd_cylinder s ≡ false → window_of s ≡ reach s
   window-is o =
       le_antisymm
-      (max_le (reach-one s S) (most-least (λ i. get_or (late_ends (edges s)) i 0 - get_or (early_ends (edges s)) i 0) (length (edges s)) (reach s) (λ i h. edge-near s S o i h)))
+      (max-le (reach-one s S) (most-least (λ i. get_or (late_ends (edges s)) i 0 - get_or (early_ends (edges s)) i 0) (length (edges s)) (reach s) (λ i h. edge-near s S o i h)))
       reached

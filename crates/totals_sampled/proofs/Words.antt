@@ -3,7 +3,7 @@ use mathlib.Core.Path.{◌≡◌, ap, ◌∙◌}
 use mathlib.Core.Bool.{Bool}
 use mathlib.Core.List.{List}
 use Prim.Native.Nat.{ℕ, zero, suc, ◌+◌, ◌*◌, ◌/◌, ◌%◌}
-use native.Mathlib.Nat.{add_zero, add-suc, zero-mul}
+use native.Mathlib.Nat.{add-zero, add-suc, zero-mul}
 use native.Mathlib.Omega.{arith}
 use Rattle.rng.specs.Xoshiro.{output, streamed}
 use Rattle.list_laws.specs.Bits.{bit}
@@ -14,7 +14,7 @@ use Rattle.totals_sampled.specs.Samples.{sampled_signs}
 
 drawn_add : (s : List ℕ) (a b : ℕ) → drawn (drawn s a) b ≡ drawn s (a + b)
 unfolding drawn
-drawn_add s a zero = rw add_zero
+drawn_add s a zero = rw add-zero
 drawn_add s a (suc b) = rw (add-suc, drawn_add s a b)
 
 pub words_none : (s state : List ℕ) (k : ℕ) → state ≡ s → state ≡ drawn s (0 * k)

@@ -42,11 +42,11 @@ accurate J ok β c u v differ inU inV sound h =
     let exact = exactly-scaled rational rational_laws (at_values J) (checked-values J ok) (exact_sweeps J) u v differ inU inV in
     subst (λ t. Close (2 * roundings J c + 1) (answer ieee J u v) t oneℚ) exact
     (ratio-close (roundings J c) (N ieee J (min u v) (max u v)) (Z ieee J (max u v)) (exact_n J (min u v) (max u v)) (exact_z J (max u v)) sound
-    (numerator_under J ok (min u v) (max u v) (min_le_max u v)) (Z_pos J ok β c (max u v) (max_le inU inV) sound h)
-    (N-close J ok β c (max u v) (max_le inU inV) sound h (min u v) (min_le_max u v)) (Z-close J ok β c (max u v) (max_le inU inV) sound h))
+    (numerator_under J ok (min u v) (max u v) (min_le_max u v)) (Z_pos J ok β c (max u v) (max-le inU inV) sound h)
+    (N-close J ok β c (max u v) (max-le inU inV) sound h (min u v) (min_le_max u v)) (Z-close J ok β c (max u v) (max-le inU inV) sound h))
   where
-    max_le : {a b c : ℕ} → a ≤ c → b ≤ c → max a b ≤ c
-    max_le h k = omega arith
+    max-le : {a b c : ℕ} → a ≤ c → b ≤ c → max a b ≤ c
+    max-le h k = omega arith
 
     min_le_max : (a b : ℕ) → min a b ≤ max a b
     min_le_max a b = omega arith

@@ -1,6 +1,6 @@
 -- The theorem in numbers that code can compute: factors between powers of two, and the bound as a double.
 use Rattle.std.specs.Prelude.{◌≡◌, refl, true, false, List, [], ◌∷◌, ℕ, zero, suc, ◌+◌, ◌*◌, ◌-◌, ◌^◌, ◌≤◌, ◌<◌, max, T, leb, ltb, length, Float}
-use Rattle.std.proofs.Common.{sym, ◌∙◌, ap₂, subst, le_trans, le_of_eq, mul_assoc, one_mul, mul-zero, mul-suc, mul-pos, lt_of_lt_of_le, mul-lt-mul_of_pos_right, mul-le-mul, arith, ltb-false, ne_eqb, leb→le, ltb→lt, lit≤, pow_pos, pow-add, pow_mono}
+use Rattle.std.proofs.Common.{sym, ◌∙◌, ap₂, subst, le_trans, le_of_eq, mul_assoc, one-mul, mul-zero, mul-suc, mul-pos, lt_of_lt_of_le, mul-lt-mul_of_pos_right, mul-le-mul, arith, ltb-false, ne_eqb, leb→le, ltb→lt, lit≤, pow_pos, pow-add, pow_mono}
 use Rattle.std.proofs.Math.Path.{ap, subst₂}
 use Rattle.std.proofs.Math.Option.{none}
 use Rattle.std.proofs.Math.Decide.{dec_lt}
@@ -60,7 +60,7 @@ two⁻-power a (suc n) = ap (λ z. z ⋆ two⁻ a) (two⁻-power a n) ∙ two⁻
 two⁻-many : (a b c : ℕ) → a + c ≤ b → nat (2 ^ a) ⋆ two⁻ b ≼ two⁻ c
 two⁻-many a b c h =
     subst (λ z. z ≼ two⁻ c) (frac-nat (2 ^ a) (2 ^ b - 1))
-    (frac-≼ (2 ^ a) (2 ^ b) 1 (2 ^ c) (pow_pos b) (pow_pos c) (le_trans (le_of_eq (sym (pow-add 2 a c))) (le_trans (pow_mono h) (le_of_eq (sym (one_mul (2 ^ b)))))))
+    (frac-≼ (2 ^ a) (2 ^ b) 1 (2 ^ c) (pow_pos b) (pow_pos c) (le_trans (le_of_eq (sym (pow-add 2 a c))) (le_trans (pow_mono h) (le_of_eq (sym (one-mul (2 ^ b)))))))
 
 -- ---- factors from 2 ^ -κ to 2 ^ κ
 
@@ -71,9 +71,9 @@ moderate κ (fin true m e) p h = absurd p
 moderate κ (fin false m e) p h = record {
   passed = p;
   least = subst (λ z. two⁻ κ ≼ z) (sym (value-signed false m e))
-      (frac-≼ 1 (2 ^ κ) (m * up e) (down e) (pow_pos κ) (down_pos e) (le_trans (le_of_eq (one_mul (down e))) low));
+      (frac-≼ 1 (2 ^ κ) (m * up e) (down e) (pow_pos κ) (down_pos e) (le_trans (le_of_eq (one-mul (down e))) low));
   most = subst (λ z. two⁻ κ ≼ z) (sym (ap invℚ (value-signed false m e) ∙ inv_frac (m * up e) (down e) N (down_pos e)))
-      (frac-≼ 1 (2 ^ κ) (down e) (m * up e) (pow_pos κ) N (le_trans (le_of_eq (one_mul (m * up e))) high));
+      (frac-≼ 1 (2 ^ κ) (down e) (m * up e) (pow_pos κ) N (le_trans (le_of_eq (one-mul (m * up e))) high));
 }
   where
     N : 0 < m * up e

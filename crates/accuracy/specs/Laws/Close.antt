@@ -1,6 +1,6 @@
 -- Laws of what specs/Close defines.
 use Rattle.std.specs.Prelude.{◌≡◌, refl, ℕ, zero, suc, ◌+◌, ◌-◌, ◌≤◌, T, Float}
-use Rattle.std.proofs.Common.{sym, ◌∙◌, ap, ap₂, subst, add_zero, add-suc, arith}
+use Rattle.std.proofs.Common.{sym, ◌∙◌, ap, ap₂, subst, add-zero, add-suc, arith}
 use Rattle.std.specs.Float.{binary64}
 use Rattle.std.specs.Float.Ieee.{add, sub, mul, div, neg}
 use Rattle.std.specs.Float.Ieee.Positive.{positive}
@@ -27,7 +27,7 @@ gain_nn (suc k) = nn_add _ _ (gain_nn k) (nn_mul _ _ ε_nn (nn_add _ _ nn_one (g
 -- Roundings one after the other.
 pub gain_add : (k l : ℕ) → gain (k + l) ≡ (gain k ⊹ gain l) ⊹ gain k ⋆ gain l
 unfolding gain
-gain_add k zero = ap gain (add_zero k) ∙ ring (gain k)
+gain_add k zero = ap gain (add-zero k) ∙ ring (gain k)
   where
     ring : (a : ℚ) → a ≡ (a ⊹ zeroℚ) ⊹ a ⋆ zeroℚ
     ring a = simp spread

@@ -1,6 +1,6 @@
 -- Powers of a fraction β up to one, and what the factors of one vertex come to at least: θ.
 use Rattle.std.specs.Prelude.{◌≡◌}
-use Rattle.std.proofs.Common.{sym, ◌∙◌, ap, add_zero, add-suc, arith}
+use Rattle.std.proofs.Common.{sym, ◌∙◌, ap, add-zero, add-suc, arith}
 use Rattle.std.proofs.Math.Path.{subst}
 use Prim.Native.Nat.{ℕ, zero, suc, ◌+◌, ◌≤◌}
 use Rattle.fraction.specs.Fraction.{ℚ, oneℚ, Posℚ}
@@ -19,7 +19,7 @@ power-first b = one-* b
 
 pub power_add : (b : ℚ) (m n : ℕ) → power b (m + n) ≡ power b m ⋆ power b n
 unfolding power
-power_add b m zero = ap (power b) (add_zero m) ∙ sym (*-one (power b m))
+power_add b m zero = ap (power b) (add-zero m) ∙ sym (*-one (power b m))
 power_add b m (suc n) = ap (power b) (add-suc m n) ∙ ap (λ z. z ⋆ b) (power_add b m n) ∙ *_assoc (power b m) (power b n) b
 
 pub power_pos : (b : ℚ) → Posℚ b → (n : ℕ) → Posℚ (power b n)

@@ -43,28 +43,28 @@ pub *-left : (x y z : ℚ) → x ⋆ (y ⋆ z) ≡ y ⋆ (x ⋆ z)
 *-left x y z = cc (Q.mul_assoc x y z, Q.mul_comm x y, Q.mul_assoc y x z)
 
 pub *-+ : (x y z : ℚ) → x ⋆ (y ⊹ z) ≡ x ⋆ y ⊹ x ⋆ z
-*-+ = Q.mul_add
+*-+ = Q.mul-add
 
 pub +-* : (x y z : ℚ) → (x ⊹ y) ⋆ z ≡ x ⋆ z ⊹ y ⋆ z
-+-* x y z = cc (Q.mul_comm (x ⊹ y) z, Q.mul_add z x y, Q.mul_comm z x, Q.mul_comm z y)
++-* x y z = cc (Q.mul_comm (x ⊹ y) z, Q.mul-add z x y, Q.mul_comm z x, Q.mul_comm z y)
 
 pub *-one : (x : ℚ) → x ⋆ oneℚ ≡ x
-*-one = Q.mul_one
+*-one = Q.mul-one
 
 pub one-* : (x : ℚ) → oneℚ ⋆ x ≡ x
-one-* x = Q.mul_comm oneℚ x ∙ Q.mul_one x
+one-* x = Q.mul_comm oneℚ x ∙ Q.mul-one x
 
 pub +_zero : (x : ℚ) → x ⊹ zeroℚ ≡ x
-+_zero = Q.add_zero
++_zero = Q.add-zero
 
 pub zero_+ : (x : ℚ) → zeroℚ ⊹ x ≡ x
-zero_+ x = Q.add_comm zeroℚ x ∙ Q.add_zero x
+zero_+ x = Q.add_comm zeroℚ x ∙ Q.add-zero x
 
 pub *_zero : (x : ℚ) → x ⋆ zeroℚ ≡ zeroℚ
-*_zero x = own (x ⋆ zeroℚ) (sym (Q.mul_add x zeroℚ zeroℚ) ∙ ap (mulℚ x) (Q.add_zero zeroℚ))
+*_zero x = own (x ⋆ zeroℚ) (sym (Q.mul-add x zeroℚ zeroℚ) ∙ ap (mulℚ x) (Q.add-zero zeroℚ))
   where
     own : (y : ℚ) → y ⊹ y ≡ y → y ≡ zeroℚ
-    own y h = cc (Q.add_assoc y y (‐ y), Q.add_neg y, Q.add_zero y)
+    own y h = cc (Q.add_assoc y y (‐ y), Q.add_neg y, Q.add-zero y)
 
 pub zero_* : (x : ℚ) → zeroℚ ⋆ x ≡ zeroℚ
 zero_* x = Q.mul_comm zeroℚ x ∙ *_zero x
@@ -73,7 +73,7 @@ zero_* x = Q.mul_comm zeroℚ x ∙ *_zero x
 
 -- What adds up to zero with x is its negative.
 neg_only : (x y : ℚ) → x ⊹ y ≡ zeroℚ → y ≡ ‐ x
-neg_only x y h = cc (Q.add_assoc (‐ x) x y, Q.add_comm (‐ x) x, Q.add_neg x, zero_+ y, Q.add_zero (‐ x))
+neg_only x y h = cc (Q.add_assoc (‐ x) x y, Q.add_comm (‐ x) x, Q.add_neg x, zero_+ y, Q.add-zero (‐ x))
 
 pub neg_neg : (x : ℚ) → ‐ (‐ x) ≡ x
 neg_neg x = sym (neg_only (‐ x) x (Q.add_comm (‐ x) x ∙ Q.add_neg x))
@@ -87,10 +87,10 @@ pub *_neg : (x y : ℚ) → x ⋆ ‐ y ≡ ‐ (x ⋆ y)
 pub neg_+ : (x y : ℚ) → ‐ (x ⊹ y) ≡ (‐ x) ⊹ ‐ y
 neg_+ x y =
     let e : (x ⊹ y) ⊹ ((‐ x) ⊹ ‐ y) ≡ (x ⊹ ‐ x) ⊹ (y ⊹ ‐ y) = simp (+_assoc, +-left) in
-    sym (neg_only (x ⊹ y) ((‐ x) ⊹ ‐ y) (e ∙ cc (Q.add_neg x, Q.add_neg y, Q.add_zero zeroℚ)))
+    sym (neg_only (x ⊹ y) ((‐ x) ⊹ ‐ y) (e ∙ cc (Q.add_neg x, Q.add_neg y, Q.add-zero zeroℚ)))
 
 pub neg_zero : ‐ zeroℚ ≡ zeroℚ
-neg_zero = sym (neg_only zeroℚ zeroℚ (Q.add_zero zeroℚ))
+neg_zero = sym (neg_only zeroℚ zeroℚ (Q.add-zero zeroℚ))
 
 -- Sums of products are sorted by these,
 pub ruleset sorted = (+_assoc, +_comm, +-left, *_assoc, *_comm, *-left)
@@ -106,7 +106,7 @@ add_take x a s =
     e ∙ ap (λ z. z ⊹ (x ⊹ s)) (Q.add_neg a) ∙ zero_+ (x ⊹ s)
 
 pub move : (x y z w : ℚ) → x ⊹ y ≡ z ⊹ w → x ≡ z ⊹ (w ⊹ ‐ y)
-move x y z w h = cc (Q.add_assoc x y (‐ y), Q.add_neg y, Q.add_zero x, Q.add_assoc z w (‐ y))
+move x y z w h = cc (Q.add_assoc x y (‐ y), Q.add_neg y, Q.add-zero x, Q.add_assoc z w (‐ y))
 
 -- ---- what is not below zero
 

@@ -1,6 +1,6 @@
 -- Laws of what specs/Rounds defines.
 use Rattle.std.specs.Prelude.{◌≡◌, refl, ◌⊎◌, Bool, true, false, cond, ℕ, suc, ◌+◌, ◌*◌, ◌-◌, ◌^◌, ◌≤◌, ◌<◌, T, ltb, Float}
-use Rattle.std.proofs.Common.{sym, ◌∙◌, subst, inl, inr, mul-pos, mul_comm, mul_left_comm, one_mul, arith, ltb→lt, lit≤, pow_pos}
+use Rattle.std.proofs.Common.{sym, ◌∙◌, subst, inl, inr, mul-pos, mul_comm, mul_left_comm, one-mul, arith, ltb→lt, lit≤, pow_pos}
 use Rattle.std.proofs.Math.Path.{ap, ap₂}
 use Rattle.std.specs.Float.{inf, Format}
 use Rattle.std.specs.Float.Ieee.{binary64, prec, low, up, down, odd, units, round}
@@ -162,7 +162,7 @@ module _ (c : ℕ) (C : 0 < c) where
   unfolding part smallest
   smallest-parts =
       parts 1 (2 ^ 1022) (c * 2 ^ 52) (pow_pos 1022) (mul-pos C (pow_pos 52))
-      ∙ ap₂ (λ (m n : ℕ). nat m ⋆ frac 1 0 (n - 1)) (one_mul (c * 2 ^ 52)) (mul_left_comm (2 ^ 1022) c (2 ^ 52))
+      ∙ ap₂ (λ (m n : ℕ). nat m ⋆ frac 1 0 (n - 1)) (one-mul (c * 2 ^ 52)) (mul_left_comm (2 ^ 1022) c (2 ^ 52))
 
   module _ (a : ℕ) where
     n : ℕ

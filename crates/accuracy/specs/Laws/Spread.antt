@@ -1,7 +1,7 @@
 -- How far apart the entries of an exact vector can be: the weights of a window's vertices apart, and no more, however long the sweep.
 use Rattle.std.specs.Prelude.{◌≡◌, refl, length, Float}
 use Rattle.std.proofs.Math.Path.{sym, ap, subst}
-use Rattle.std.proofs.Common.{◌∙◌, subst₂, add_zero, add-suc, mod-lt, add_comm, pow_pos, pow-add}
+use Rattle.std.proofs.Common.{◌∙◌, subst₂, add-zero, add-suc, mod-lt, add_comm, pow_pos, pow-add}
 use Prim.Native.Nat.{ℕ, zero, suc, ◌+◌, ◌*◌, ◌-◌, ◌/◌, ◌%◌, ◌^◌, ◌≤◌, ◌<◌}
 use Rattle.std.proofs.Math.Nat.{mod-eq_of_lt, div-eq_of_lt, add-mul-div_right}
 use native.Mathlib.Omega.{arith}
@@ -24,7 +24,7 @@ use Rattle.accuracy.specs.Laws.Weights.{forward-mix, backward-mix}
 -- ---- indexes
 
 mod_mod : (b d s : ℕ) → s % 2 ^ (b + d) % 2 ^ b ≡ s % 2 ^ b
-mod_mod b zero s = ap (λ (n : ℕ). s % 2 ^ n % 2 ^ b) (add_zero b) ∙ mod-eq_of_lt (mod-lt s (pow_pos b))
+mod_mod b zero s = ap (λ (n : ℕ). s % 2 ^ n % 2 ^ b) (add-zero b) ∙ mod-eq_of_lt (mod-lt s (pow_pos b))
 mod_mod b (suc d) s =
     ap (λ (n : ℕ). s % 2 ^ n % 2 ^ b) (add-suc b d)
     ∙ sym (mod_mod b d (s % 2 ^ suc (b + d))) ∙ ap (λ (n : ℕ). n % 2 ^ b) (mod_low (b + d) s) ∙ mod_mod b d s

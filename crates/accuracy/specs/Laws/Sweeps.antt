@@ -3,7 +3,7 @@ use Rattle.std.specs.Prelude.{◌≡◌, Bool, true, false, cond, List, T, lengt
 use Rattle.std.proofs.Math.Path.{sym, ap, subst}
 use Rattle.std.proofs.Common.{◌∙◌, subst₂}
 use Prim.Native.Nat.{ℕ, zero, suc, ◌+◌, ◌*◌, ◌-◌, ◌^◌, ◌≤◌, ◌<◌}
-use Rattle.std.proofs.Math.Nat.{add_zero, add-suc}
+use Rattle.std.proofs.Math.Nat.{add-zero, add-suc}
 use native.Mathlib.Omega.{arith}
 use Rattle.std.specs.Float.Ieee.{binary64, div, neg}
 use Rattle.std.specs.Float.Ieee.Scale.{finite}
@@ -157,7 +157,7 @@ module _ (J : Job Float) where
           (exact_forward J (u + i))
       unfolding propagated propagated_of forward before ahead
       propagated-near u zero clear fin j l =
-          let e : u + 0 ≡ u = add_zero u in
+          let e : u + 0 ≡ u = add-zero u in
           subst (λ (n : ℕ). Near (suc n * c) (alternate ieee J.window (forward ieee J u)) (alternate rational J.window (exact_forward J u))
           (exact_forward J n)) (sym e)
           (alternate-near (suc u * c) (forward ieee J u) (exact_forward J u) (before-near (suc u) (rw e at clear) (rw e at fin))) j l

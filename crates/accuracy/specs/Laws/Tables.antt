@@ -1,7 +1,7 @@
 -- The tables of a step, rounded and exact: they are close where no factor is so far from one that a product of them leaves the normal range.
 use Rattle.std.specs.Prelude.{◌≡◌, Bool, cond}
 use Rattle.std.proofs.Math.Path.{refl, subst}
-use Rattle.std.proofs.Common.{sym, ◌∙◌, ap, add_zero}
+use Rattle.std.proofs.Common.{sym, ◌∙◌, ap, add-zero}
 use Rattle.std.proofs.Math.Bool.{true, false}
 use mathlib.Core.List.{List, [], ◌∷◌, map}
 use Rattle.std.proofs.Math.Option.{Option, none, some}
@@ -72,7 +72,7 @@ module _ (β : ℚ) (β_nn : NonNeg β) (β-one : β ≼ oneℚ) where
       → Table (k + length bs) (product ieee bs m x) (product rational (map back_at_value bs) m e) (power β (length bs) ⋆ e)
   unfolding product power
   product-close [] moderate k m x e h c n l = record {
-    close = subst (λ (i : ℕ). Close i x e e) (sym (add_zero k)) c;
+    close = subst (λ (i : ℕ). Close i x e e) (sym (add-zero k)) c;
     least = ≼-of _ _ (one-* e);
     nonneg = n;
   }
@@ -113,7 +113,7 @@ module _ (β : ℚ) (β_nn : NonNeg β) (β-one : β ≼ oneℚ) where
           (λ s. close_div y (e ⋆ invℚ v) moderate.0.passed (product-finite bs (m / 2) _ h) c (≼_refl _) s)
       go false h ih =
           next ih (mul binary64 x y) v moderate.0.least (≼_nn β_nn moderate.0.least) h
-          (λ s. subst (λ (i : ℕ). Close (suc i) (mul binary64 x y) (e ⋆ v) (e ⋆ v)) (add_zero k)
+          (λ s. subst (λ (i : ℕ). Close (suc i) (mul binary64 x y) (e ⋆ v) (e ⋆ v)) (add-zero k)
           (close_mul (e ⋆ v) (product-finite bs (m / 2) _ h) c (close-exact y v v refl (within_nonneg v (≼_nn β_nn moderate.0.least))) (≼_refl _) s))
 
   unit-close : Close 0 unit oneℚ oneℚ

@@ -2,7 +2,7 @@
 -- scales: a propagated vector stays under the forward vector, and a finite forward vector has finite ones before it.
 use Rattle.std.specs.Prelude.{◌≡◌, refl, List, T, ltb, Float}
 use Prim.Native.Nat.{ℕ, zero, suc, ◌+◌, ◌-◌, ◌^◌, ◌≤◌}
-use Rattle.std.proofs.Math.Nat.{add_zero}
+use Rattle.std.proofs.Math.Nat.{add-zero}
 use Rattle.std.proofs.Common.{add-suc}
 use Rattle.std.specs.Float.Ieee.{binary64, div, le}
 use Rattle.std.specs.Float.Ieee.Scale.{finite}
@@ -105,7 +105,7 @@ module _ {J : Job Float} {F : ℕ → List Float} {f : ℕ → Float} {B : ℕ �
   -- propagated vectors take the same steps, by the same scales
   pub propagated_beneath : (u i : ℕ) → Beneath (propagated_of ieee J F f B u i) (F (u + i))
   unfolding propagated_of
-  propagated_beneath u zero = rw add_zero (alternate_beneath J.window (F u) (fair.forwards u))
+  propagated_beneath u zero = rw add-zero (alternate_beneath J.window (F u) (fair.forwards u))
   propagated_beneath u (suc i) =
       rw (add-suc u i, fair.stepped (u + i))
       (forward_step_beneath J.window (step_of J (suc (u + i))) (f (suc (u + i))) (fair.steps (u + i)) (propagated_of ieee J F f B u i) (F (u + i)) (propagated_beneath u i))
@@ -119,5 +119,5 @@ module _ {J : Job Float} {F : ℕ → List Float} {f : ℕ → Float} {B : ℕ �
   before-finite wide t h = forward_step-finite J.window (step_of J (suc t)) (f (suc t)) (F t) wide (rw (fair.stepped t) at h)
 
   pub earlier-finite : 1 ≤ J.window → (t i : ℕ) → Finite J.window (F (t + i)) → Finite J.window (F t)
-  earlier-finite wide t zero h = rw add_zero at h
+  earlier-finite wide t zero h = rw add-zero at h
   earlier-finite wide t (suc i) h = earlier-finite wide t i (before-finite wide (t + i) (rw add-suc at h))

@@ -2,7 +2,7 @@
 -- calls `push`, which is covered. The invariant, where t pairs are left to copy: i + t are copied in all, and the ends are those of the first i.
 use mathlib.Core.Path.{◌≡◌, refl, sym, ap, subst, ◌∙◌}
 use Prim.Native.Nat.{ℕ, zero, suc, ◌+◌, ◌*◌, ◌<◌, ◌≤◌, ◌^◌, min}
-use native.Mathlib.Nat.{add_zero, zero-add, min-le_left, min-le_right}
+use native.Mathlib.Nat.{add-zero, zero-add, min-le_left, min-le_right}
 use native.Mathlib.Numerals.{add-one}
 use native.Mathlib.Omega.{arith}
 use mathlib.Core.Bool.{Bool, true, false}
@@ -332,7 +332,7 @@ module _ {M : Type 1} {𝓤 : Ura M} (𝓛 : Logic 𝓤) (mem : Memory → SProp
     turn_at : (t i : ℕ) (e : Ends) (v : Val) → Facts t i e → ent 𝓤 (⋆ 𝓛 (At i e v)) (Wp 𝓤 H C Λ En mirs.turn-1 (after_turn 𝓤 H (Below t) Left))
     turn_at zero i e v h =
         subst (λ (j : ℕ). e ≡ ends_of ps j → ent 𝓤 (⋆ 𝓛 (At j e v)) (Wp 𝓤 H C Λ En mirs.turn-1 (after_turn 𝓤 H (Below zero) Left)))
-        (sym h.0 ∙ add_zero i) (ends e v (Below zero)) h.1
+        (sym h.0 ∙ add-zero i) (ends e v (Below zero)) h.1
     turn_at (suc t) i e v h =
         let small = below-m i t m h.0 in
         more i e v (Below (suc t)) small (ap (λ (x : Ends). x.count) h.1)

@@ -2,7 +2,7 @@
 -- and neither refusal reads a pair.
 use Rattle.std.specs.Prelude.{◌≡◌, Bool, true, false, cond, List, ℕ, ◌<◌, Float, length, take}
 use Rattle.std.proofs.Common.{sym, subst, ◌∙◌, arith, take_all, length-take-le, lt-ltb}
-use Rattle.std.proofs.Math.Bool.{or_true}
+use Rattle.std.proofs.Math.Bool.{or-true}
 use Rattle.std.proofs.Math.Decide.{dec_lt}
 use Rattle.std.proofs.lemmas.List.{length-map}
 use Rattle.limits.specs.declared.Caller.{Caller}
@@ -20,7 +20,7 @@ use Rattle.c_pair_records.specs.Columns.{firsts, seconds, first_ends, second_end
 use Rattle.c_pair_records.specs.Laws.Held.{first-ends-held, second-ends-held}
 
 many-pairs : (q : Request) → 256 < length q.firsts → bad_lists q ≡ true
-many-pairs q h = simp (lt-ltb _ _ h, or_true)
+many-pairs q h = simp (lt-ltb _ _ h, or-true)
 
 -- with more pairs than a job may have, its first two checks decide
 refused-many : (q : Request) → 256 < length q.firsts → refusal of_correlations q ≡ cond (bad_vertices q) 1 2

@@ -8,9 +8,9 @@ use Rattle.std.specs.Float.Ieee.Exact.{HasValue}
 use Rattle.std.proofs.lemmas.Bool.{not-false}
 use Rattle.coupling_grid.specs.Grid.{whole_to512, multiple, steps, off_grid}
 
-pub and_true : (a b : Bool) → (a && b) ≡ true → (a ≡ true) × (b ≡ true)
-and_true true b h = (refl, h)
-and_true false b h = absurd (true≢false (sym h))
+pub and-true : (a b : Bool) → (a && b) ≡ true → (a ≡ true) × (b ≡ true)
+and-true true b h = (refl, h)
+and-true false b h = absurd (true≢false (sym h))
 
 both : (a b : Bool) → a ≡ true → b ≡ true → (a && b) ≡ true
 both true b h k = k
@@ -30,7 +30,7 @@ pub record OnGrid (x : Float) (s : Bool) (k : ℕ) : Type 0 where
 
 steps-whole : (a c : ℕ) → whole_to512 a c ≡ true → (a ≡ a / c * c) × (a / c ≤ 512)
 steps-whole a c h =
-    let (p, q) = and_true (a % c == 0) (nat_le (a / c) 512) h in
+    let (p, q) = and-true (a % c == 0) (nat_le (a / c) 512) h in
     let r = eqb-true (a % c) 0 p in
     (omega (arith, div-add-mod' a c), leb-true (a / c) 512 q)
 

@@ -7,7 +7,7 @@ use Rattle.std.specs.Float.Ieee.{mul}
 use Rattle.std.specs.Float.Ieee.Positive.{positive}
 use Rattle.std.proofs.lemmas.List.{length-map}
 use Rattle.std.proofs.lemmas.Bool.{not-false}
-use Rattle.list_laws.specs.Laws.Search.{or_false, none-at}
+use Rattle.list_laws.specs.Laws.Search.{or-false, none-at}
 use Rattle.transfer_matrix.specs.Configuration.{lent_at}
 use Rattle.coupling_grid.specs.Grid.{off_grid, some_off_grid}
 use Rattle.coupling_grid.specs.Theorems.{place-only}
@@ -34,7 +34,7 @@ use Rattle.demands_house.specs.Factors.{table_factors, TableEntry}
 
 pub on_grid : (couplings : List Float) (count : ℕ) → bad_coupling_list couplings count ≡ false → (length couplings ≡ count) × (some_off_grid couplings ≡ false)
 on_grid couplings count h =
-    let p = or_false (not (eqb (length couplings) count)) (some_off_grid couplings) h in
+    let p = or-false (not (eqb (length couplings) count)) (some_off_grid couplings) h in
     (eqb-true (length couplings) count (not-false _ p.0), p.1)
 
 -- so 10 passes the table's factors: one for each coupling,

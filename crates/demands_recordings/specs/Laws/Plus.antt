@@ -1,7 +1,7 @@
 -- +0.0 and a double that carries no minus are that double; and such a double is not -0.0 by its bits.
 use Rattle.std.specs.Prelude.{◌≡◌, Bool, true, false, not, ◌&&◌, ℕ, zero, suc, ◌+◌, ◌-◌, ◌*◌, ◌%◌, ◌^◌, ◌≤◌, ◌<◌, ℤ, pos, negsuc, T, leb, ltb, eqb, Float}
 use Rattle.std.proofs.Math.Path.{refl}
-use Rattle.std.proofs.Common.{sym, ap, ◌∙◌, subst, not-le_of_lt, lt_of_not-le, le_of_suc-le-suc, one_mul, zero-mul, mul-pos, mul-lt-mul_of_pos_right, lt_of_mul-lt-mul_right, arith, leb→le, ltb→lt, pow-add, pow_pos, ne_eqb}
+use Rattle.std.proofs.Common.{sym, ap, ◌∙◌, subst, not-le_of_lt, lt_of_not-le, le_of_suc-le-suc, one-mul, zero-mul, mul-pos, mul-lt-mul_of_pos_right, lt_of_mul-lt-mul_right, arith, leb→le, ltb→lt, pow-add, pow_pos, ne_eqb}
 use Rattle.std.proofs.Math.Decide.{ℕ_discrete}
 use Rattle.std.proofs.Math.Pow.{pow-lt}
 use Rattle.std.specs.Float.{nan, inf, fin, Format, binary64}
@@ -28,7 +28,7 @@ scaled : (f : Format) (e : ℤ) → down e ≤ 2 ^ low f → (j : ℕ) × (up e 
 scaled f (pos k) h = (k + low f, omega (arith, pow-add 2 k (low f)))
 scaled f (negsuc k) h =
     let l : suc k ≤ low f = le_of_suc-le-suc (lt_of_not-le (λ (g : suc (low f) ≤ suc k). not-le_of_lt (pow-lt g) h)) in
-    (low f - suc k, one_mul (2 ^ low f) ∙ ap (λ (x : ℕ). 2 ^ x) (sym (back k (low f) l)) ∙ pow-add 2 (low f - suc k) (suc k))
+    (low f - suc k, one-mul (2 ^ low f) ∙ ap (λ (x : ℕ). 2 ^ x) (sym (back k (low f) l)) ∙ pow-add 2 (low f - suc k) (suc k))
 
 held : (f : Format) (m : ℕ) (e : ℤ) → m < 2 ^ prec f → down e ≤ 2 ^ low f → m * up e < 2 ^ suc (emax f) * down e
     → HasValue (round f false (m * up e) (down e)) false (m * up e) (down e)

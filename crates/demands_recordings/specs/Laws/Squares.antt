@@ -1,6 +1,6 @@
 -- Sums of squares, or of fourth powers, from +0.0 carry no minus.
 use Rattle.std.specs.Prelude.{◌≡◌, refl, T, Float}
-use Rattle.std.proofs.Common.{sym, ap, ◌∙◌, subst, add_zero, arith}
+use Rattle.std.proofs.Common.{sym, ap, ◌∙◌, subst, add-zero, arith}
 use Rattle.std.proofs.Math.Path.{fun_ext}
 use Prim.Native.Nat.{ℕ, zero, suc, ◌+◌, ◌-◌, ◌<◌}
 use Rattle.std.specs.Float.Ieee.{binary64, mul, fits}
@@ -38,7 +38,7 @@ pub one_chunk : (power : Float → Float) → Even power → (i samples : ℕ) (
 unfolding sampled chunked sum
 one_chunk power even i samples c =
     let one : i + 1 - i ≡ suc zero = omega arith in
-    let z : i + 0 ≡ i = add_zero i in
+    let z : i + 0 ≡ i = add-zero i in
     ap (λ (n : ℕ). sum ieee n (λ h. sum ieee samples (λ j. power (c (i + h) j)))) one
     ∙ ap (λ (h : ℕ). sum ieee 1 (λ _. sum ieee samples (λ j. power (c h j)))) z
     ∙ zero_plus (sum ieee samples (λ j. power (c i j))) (sum_fits power even (c i) samples) (sum_plain power even (c i) samples)

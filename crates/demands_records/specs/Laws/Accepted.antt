@@ -3,7 +3,7 @@ use Rattle.std.specs.Prelude.{◌≡◌, refl, Bool, true, false, not, cond, ◌
 use Rattle.std.proofs.Common.{sym, ap, ◌∙◌, arith, eqb-true, eq-eqb, ne_eqb, drop_of_length-le}
 use Rattle.std.proofs.lemmas.Bool.{eqb-false}
 use Rattle.limits.specs.Limits.{most_samples}
-use Rattle.list_laws.specs.Laws.Search.{or_false}
+use Rattle.list_laws.specs.Laws.Search.{or-false}
 use Rattle.little_endian.specs.Words.{Bytes}
 use Rattle.refusals.specs.Request.{too_many_chunks}
 use Rattle.refusals.specs.Laws.AcceptedTotals.{few-samples}
@@ -37,7 +37,7 @@ module _ (one two : List ℕ) where
   pub joins : (n : ℕ) → refused_join one two n ≡ 0 → Joins (earlier one two) (later one two)
   joins n e =
       let x = passes n e in
-      let y = or_false (bad_record one) (bad_record two) x.0 in
+      let y = or-false (bad_record one) (bad_record two) x.0 in
       let t = together (head_of one) (head_of two) x.1 in
       go (eqb (head_of one).end (head_of two).start) refl y.0 y.1 x.1 t (few-samples _ _ _ x.2)
     where

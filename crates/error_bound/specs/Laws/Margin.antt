@@ -1,6 +1,6 @@
 -- The tests that the code makes of factors, in the machine's own terms, and that they are those of the theorem; and the laws of its arithmetic.
 use Rattle.std.specs.Prelude.{◌≡◌, refl, Bool, true, false, cond, not, ◌&&◌, List, ℕ, zero, suc, ◌+◌, ◌*◌, ◌-◌, ◌/◌, ◌^◌, ◌≤◌, ◌<◌, pos, negsuc, T, leb, eqb, length, get_or, Float}
-use Rattle.std.proofs.Common.{sym, ◌∙◌, ap, subst, true≢false, mul_assoc, mul-pos, le_of_lt, le_trans, le_of_eq, mul-le-mul, mul_one, one_mul, div-mul-le_self, mul-le-mul_right, arith, lit<, lit≤, le→leb, pow-add, pow_mono, pow_pos}
+use Rattle.std.proofs.Common.{sym, ◌∙◌, ap, subst, true≢false, mul_assoc, mul-pos, le_of_lt, le_trans, le_of_eq, mul-le-mul, mul-one, one-mul, div-mul-le_self, mul-le-mul_right, arith, lit<, lit≤, le→leb, pow-add, pow_mono, pow_pos}
 use Rattle.std.proofs.Math.Nat.{min-le_left, min-le_right}
 use Rattle.std.proofs.lemmas.Bool.{not-false, not-true}
 use Rattle.std.proofs.Math.Pow.{pow-lt}
@@ -61,7 +61,7 @@ one-over nan bits h v = absurd v
 one-over (inf t) bits h v = absurd v
 one-over (fin true m e) bits h v = absurd (true≢false v.0)
 one-over (fin false m e) bits h v =
-    let N : 0 < m = first_pos m (up e) (subst (λ z. 0 < z) (sym v.1 ∙ mul_one (m * up e)) (mul-pos (pow_pos bits) (down_pos e))) in
+    let N : 0 < m = first_pos m (up e) (subst (λ z. 0 < z) (sym v.1 ∙ mul-one (m * up e)) (mul-pos (pow_pos bits) (down_pos e))) in
     let a = 1 * 1 * down e in
     let c = m * up e * 1 in
     let is : div binary64 (fin false 1 (pos 0)) (fin false m e) ≡ round binary64 false 1 (2 ^ bits) =

@@ -7,7 +7,7 @@ use Rattle.std.specs.Float.Ieee.Fits.{and_i, and_l, and_r}
 use Rattle.std.specs.Float.Ieee.Positive.{num, den, den_pos, positive, positive-finite, through}
 use Rattle.std.specs.Float.Ieee.Scale.{finite}
 use Rattle.std.proofs.lemmas.Bool.{not-false}
-use Rattle.list_laws.specs.Laws.Search.{or_false}
+use Rattle.list_laws.specs.Laws.Search.{or-false}
 use Rattle.rounding.specs.Powers.{Ordered}
 use Rattle.rounding.specs.Under.{nought, unit}
 use Rattle.rounding.specs.Laws.Powers.{square-under}
@@ -36,7 +36,7 @@ module _ (count : ℕ) (squares fourths : Float) (e : MeanSpread) (accepted : co
   values = passed.1
 
   parts : (not (is_complete count) ≡ false) × (not (is_in_order (number count) squares fourths) ≡ false)
-  parts = or_false (not (is_complete count)) (not (is_in_order (number count) squares fourths)) passed.0
+  parts = or-false (not (is_complete count)) (not (is_in_order (number count) squares fourths)) passed.0
 
   pub counted : Power count
   counted = complete_power count (not-false _ parts.0)

@@ -5,7 +5,7 @@ use Rattle.std.proofs.Math.Decide.{ℕ_discrete}
 use Rattle.std.specs.Float.{nan}
 use Rattle.std.proofs.lemmas.Bool.{not-false}
 use Rattle.list_laws.specs.Search.{some}
-use Rattle.list_laws.specs.Laws.Search.{none-at, or_false}
+use Rattle.list_laws.specs.Laws.Search.{none-at, or-false}
 use Rattle.list_laws.specs.Laws.Tabulate.{tabulate-at, tabulated}
 use Rattle.refusals.specs.Laws.First.{unless}
 use Rattle.estimate.specs.declared.answer.Estimate.{Estimate}
@@ -22,7 +22,7 @@ module _ (count : ℕ) (squares fourths : List Float) (means errors : ℕ) (z : 
       let eighteen : 0 < 18 = omega arith in
       let p = unless (not (eqb (length squares) (length fourths))) two z in
       let q = unless (not (eqb means (length squares)) || not (eqb errors (length squares))) twelve p.1 in
-      let r = or_false (not (eqb means (length squares))) (not (eqb errors (length squares))) q.0 in (
+      let r = or-false (not (eqb means (length squares))) (not (eqb errors (length squares))) q.0 in (
         sym (eqb-true (length squares) (length fourths) (not-false _ p.0)),
         eqb-true means (length squares) (not-false _ r.0),
         eqb-true errors (length squares) (not-false _ r.1),
@@ -33,12 +33,12 @@ module _ (count : ℕ) (squares fourths : List Float) (means errors : ℕ) (z : 
   fitting = (passed.0, passed.1, passed.2)
 
   counted : bad_count count ≡ false
-  counted = (or_false (bad_count count) (some (λ i. not (is_in_order (number count) (at squares i) (at fourths i))) (length squares)) passed.3).0
+  counted = (or-false (bad_count count) (some (λ i. not (is_in_order (number count) (at squares i) (at fourths i))) (length squares)) passed.3).0
 
   ordered : (i : ℕ) → i < length squares → is_in_order (number count) (at squares i) (at fourths i) ≡ true
   ordered i h =
       not-false _ (none-at (λ i. not (is_in_order (number count) (at squares i) (at fourths i))) (length squares) i h
-      (or_false (bad_count count) (some (λ i. not (is_in_order (number count) (at squares i) (at fourths i))) (length squares)) passed.3).1)
+      (or-false (bad_count count) (some (λ i. not (is_in_order (number count) (at squares i) (at fourths i))) (length squares)) passed.3).1)
 
   estimated : (i : ℕ) → i < length squares → (count ≡ 1 → ⊥)
       → estimate_at count squares fourths i ≡ Estimated (mean_error_of (number count) (at squares i) (at fourths i))

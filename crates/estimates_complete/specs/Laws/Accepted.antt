@@ -4,7 +4,7 @@ use Rattle.std.proofs.Common.{sym, ap, ◌∙◌, arith, eqb-true, eq-eqb}
 use Rattle.std.specs.Float.{nan, binary64}
 use Rattle.std.proofs.lemmas.Bool.{not-false}
 use Rattle.list_laws.specs.Search.{some}
-use Rattle.list_laws.specs.Laws.Search.{none-at, none_of, or_false}
+use Rattle.list_laws.specs.Laws.Search.{none-at, none_of, or-false}
 use Rattle.list_laws.specs.Laws.Tabulate.{tabulate-at}
 use Rattle.rounding.specs.Powers.{Ordered}
 use Rattle.refusals.specs.Laws.First.{unless}
@@ -29,9 +29,9 @@ module _ (count : ℕ) (squares fourths : List Float) (means errors spreads : �
       let s = not (eqb spreads (length squares)) in
       let p = unless (not (eqb (length squares) (length fourths))) two z in
       let q = unless (m || e || s) twelve p.1 in
-      let t = or_false (m || e) s q.0 in
-      let r = or_false m e t.0 in
-      let w = or_false (not (is_complete count)) (bad_sums count squares fourths) (unless (not (is_complete count) || bad_sums count squares fourths) eighteen q.1).0 in (
+      let t = or-false (m || e) s q.0 in
+      let r = or-false m e t.0 in
+      let w = or-false (not (is_complete count)) (bad_sums count squares fourths) (unless (not (is_complete count) || bad_sums count squares fourths) eighteen q.1).0 in (
         sym (eqb-true (length squares) (length fourths) (not-false _ p.0)),
         eqb-true means (length squares) (not-false _ r.0),
         eqb-true errors (length squares) (not-false _ r.1),
@@ -49,7 +49,7 @@ module _ (count : ℕ) (squares fourths : List Float) (means errors spreads : �
   ordered : (i : ℕ) → i < length squares → is_in_order (number count) (at squares i) (at fourths i) ≡ true
   ordered i h =
       not-false _ (none-at (λ i. not (is_in_order (number count) (at squares i) (at fourths i))) (length squares) i h
-      (or_false (bad_count count) (some (λ i. not (is_in_order (number count) (at squares i) (at fourths i))) (length squares)) passed.5).1)
+      (or-false (bad_count count) (some (λ i. not (is_in_order (number count) (at squares i) (at fourths i))) (length squares)) passed.5).1)
 
   -- each row is the record that `estimate_complete` answers
   pub rows_are : (i : ℕ) → i < length squares

@@ -1,6 +1,6 @@
 -- The reduced fraction is the one in lowest terms.
 use Rattle.std.specs.Prelude.{◌≡◌, ℕ, zero, suc, ◌*◌, ◌/◌, ◌<◌}
-use Rattle.std.proofs.Common.{sym, ◌∙◌, one_mul, zero-mul, arith}
+use Rattle.std.proofs.Common.{sym, ◌∙◌, one-mul, zero-mul, arith}
 use Rattle.std.proofs.Math.Path.{ap}
 use Rattle.std.specs.Int.{◌∣◌}
 use Rattle.std.proofs.Math.Nat.{dvd-mul_left, dvd-mul_right, dvd_antisymm, div-mul_cancel, mul-dvd-mul_right, pos_of_dvd_of_pos, eq_of_mul-eq-mul_right, eq-one_of_dvd-one, dvd_of_mul-dvd-mul_right}
@@ -19,7 +19,7 @@ coprime a b h = let g = gcd-greatest a b in h (gcd a b) g.first g.second
 -- a number that has no divisor in common with a and divides a * s divides s
 rest_divides : (a b s : ℕ) → ((k : ℕ) → k ∣ a → k ∣ b → k ≡ 1) → b ∣ a * s → b ∣ s
 rest_divides a b s h d =
-    let e : gcd a b * s ≡ s = ap (λ (x : ℕ). x * s) (coprime a b h) ∙ one_mul s in
+    let e : gcd a b * s ≡ s = ap (λ (x : ℕ). x * s) (coprime a b h) ∙ one-mul s in
     rw e at ((gcd-scaled a b s).every b d (dvd-mul_right b s))
 
 -- equal cross products with one fraction: equal cross products
@@ -56,5 +56,5 @@ module _ (top bottom : ℕ) (h : 0 < bottom) where
         same = ap (λ (x : ℕ). top / d * x) (sym b) ∙ (omega arith) ∙ ap (λ (x : ℕ). x * (bottom / d)) t;
         lowest = λ k p q.
             eq-one_of_dvd-one (dvd_of_mul-dvd-mul_right {k = d} k (pos_of_dvd_of_pos g.second h)
-            (rw (one_mul d) (g.every (k * d) (rw t at (mul-dvd-mul_right k p d)) (rw b at (mul-dvd-mul_right k q d)))));
+            (rw (one-mul d) (g.every (k * d) (rw t at (mul-dvd-mul_right k p d)) (rw b at (mul-dvd-mul_right k q d)))));
       }

@@ -1,6 +1,6 @@
 -- Euclid's rule gives the greatest common divisor, also of two numbers that have one more factor.
 use Rattle.std.specs.Prelude.{◌≡◌, ℕ, zero, suc, ◌+◌, ◌*◌, ◌/◌, ◌%◌, ◌≤◌, ◌<◌}
-use Rattle.std.proofs.Common.{sym, ap, ◌∙◌, div-add-mod', mod-lt, mul_one, zero-mul, arith, eq-eqb, ne_eqb}
+use Rattle.std.proofs.Common.{sym, ap, ◌∙◌, div-add-mod', mod-lt, mul-one, zero-mul, arith, eq-eqb, ne_eqb}
 use Rattle.std.proofs.Math.Nat.{dvd_refl, dvd-zero, dvd-add, dvd-mul_left_of_dvd, dvd-add_iff_right, dvd_antisymm}
 use Rattle.std.proofs.Math.Decide.{ℕ_discrete}
 use Rattle.euclid.specs.Euclid.{Greatest, turns, gcd}
@@ -32,7 +32,7 @@ turns-greatest (suc n) a b s h = go (turns-greatest n b (a % b) s) (ℕ_discrete
 
 pub gcd-greatest : (a b : ℕ) → Greatest a b (gcd a b)
 unfolding gcd
-gcd-greatest a b = simp mul_one at (turns-greatest b a b 1 (omega arith))
+gcd-greatest a b = simp mul-one at (turns-greatest b a b 1 (omega arith))
 
 -- so is the product with s of the two times s
 pub gcd-scaled : (a b s : ℕ) → Greatest (a * s) (b * s) (gcd a b * s)

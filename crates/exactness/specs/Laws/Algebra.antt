@@ -1,7 +1,7 @@
 -- The laws that exact arithmetic has and rounded arithmetic lacks, and what follows from them for sums, products and quotients.
 use Rattle.std.specs.Prelude.{◌≡◌, ◌≢◌, Bool, not}
 use Rattle.std.proofs.Math.Path.{refl, sym, ap}
-use Rattle.std.proofs.Common.{◌∙◌, add_zero, add-suc}
+use Rattle.std.proofs.Common.{◌∙◌, add-zero, add-suc}
 use Rattle.std.proofs.Math.Bool.{true, false, cond}
 use Rattle.std.specs.Bool.{beq}
 use Prim.Native.Nat.{ℕ, zero, suc, ◌+◌, ◌*◌, ◌≤◌, ◌<◌}
@@ -102,7 +102,7 @@ module _ (O : Ops) where
 
     pub sum_append : (m n : ℕ) (f : ℕ → K) → sum O (m + n) f ≡ sum O m f ⊕ sum O n (λ j. f (m + j))
     unfolding sum
-    sum_append m zero f = rw (add_zero m) (sym (⊕_zero _))
+    sum_append m zero f = rw (add-zero m) (sym (⊕_zero _))
     sum_append m (suc n) f =
         rw (add-suc m n) (cc (sum_append m n f, ⊕_assoc (sum O m f) (sum O n (λ j. f (m + j))) (f (m + n))))
 
@@ -156,7 +156,7 @@ module _ (O : Ops) where
 
     pub prod_snoc : (d n : ℕ) (g : ℕ → K) → prod_from d (suc n) g ≡ prod_from d n g ⊗ g (d + n)
     unfolding prod_from
-    prod_snoc d zero g = ⊗_comm (g d) 𝟙 ∙ ap (λ x. 𝟙 ⊗ g x) (sym (add_zero d))
+    prod_snoc d zero g = ⊗_comm (g d) 𝟙 ∙ ap (λ x. 𝟙 ⊗ g x) (sym (add-zero d))
     prod_snoc d (suc n) g =
         let e : suc d + n ≡ d + suc n = omega arith in
         ap (λ x. g d ⊗ x) (prod_snoc (suc d) n g) ∙ sym (⊗_assoc _ _ _) ∙ ap (λ x. (g d ⊗ prod_from (suc d) n g) ⊗ g x) e

@@ -1,7 +1,7 @@
 -- Whole sweeps in exact arithmetic, with any scales: Z and both kinds of N are one common factor times a sum over the spins of all vertices.
 use Rattle.std.specs.Prelude.{◌≡◌, List}
 use Rattle.std.proofs.Math.Path.{refl, sym, ap, ap₂, fun_ext}
-use Rattle.std.proofs.Common.{◌∙◌, add_zero, add-suc, zero-add, mod-lt, mod-eq_of_lt, pow_pos}
+use Rattle.std.proofs.Common.{◌∙◌, add-zero, add-suc, zero-add, mod-lt, mod-eq_of_lt, pow_pos}
 use Rattle.std.proofs.Math.Bool.{Bool, not}
 use Rattle.std.specs.Bool.{beq}
 use Prim.Native.Nat.{ℕ, zero, suc, ◌+◌, ◌-◌, ◌/◌, ◌%◌, ◌^◌, ◌≤◌, ◌<◌}
@@ -222,7 +222,7 @@ module _ (O : Ops) (LW : Laws O) (J : Job O.K) (hw : 1 ≤ J.window) where
 
     scales_append : (a i k : ℕ) → scales_f a i ⊗ scales_f (a + i) k ≡ scales_f a (i + k)
     unfolding forward_scales
-    scales_append a i zero = ⊗-one _ ∙ ap (scales_f a) (sym (add_zero i))
+    scales_append a i zero = ⊗-one _ ∙ ap (scales_f a) (sym (add-zero i))
     scales_append a i (suc k) =
         let e : a + i + k ≡ a + (i + k) = omega arith in
         sym (⊗_assoc _ _ _) ∙ ap₂ ◌⊗◌ (scales_append a i k) (ap f e) ∙ ap (scales_f a) (sym (add-suc i k))

@@ -1,6 +1,6 @@
 -- Binary digits of numbers that stand for spin settings: bit 0 is the newest spin, and a newer spin b makes 2 s + b of s.
 use Rattle.std.specs.Prelude.{◌≡◌, refl, Bool, true, false, not, ℕ, zero, suc, ◌+◌, ◌*◌, ◌-◌, ◌/◌, ◌%◌, ◌^◌, ◌<◌, ltb, eqb}
-use Rattle.std.proofs.Common.{sym, ◌∙◌, ap, ap₂, arith, add_zero, mod-lt, add-one, shr-shr, pow_pos, lt-ltb, le-ltb}
+use Rattle.std.proofs.Common.{sym, ◌∙◌, ap, ap₂, arith, add-zero, mod-lt, add-one, shr-shr, pow_pos, lt-ltb, le-ltb}
 use Rattle.std.specs.Bool.{beq}
 use Rattle.std.proofs.Math.Nat.{pow-succ', div-div-eq-div-mul}
 use Rattle.std.proofs.lemmas.Nat.{mod-pow-add}
@@ -25,7 +25,7 @@ pub bit_shift : (p q c : ℕ) → bit p (c / 2 ^ q) ≡ bit (q + p) c
 bit_shift p q c = rw shr-shr
 
 pub bit_shift_zero : (q c : ℕ) → bit 0 (c / 2 ^ q) ≡ bit q c
-bit_shift_zero q c = bit_shift 0 q c ∙ ap (λ n. bit n c) (add_zero q)
+bit_shift_zero q c = bit_shift 0 q c ∙ ap (λ n. bit n c) (add-zero q)
 
 pub bit_even : (k : ℕ) → bit 0 (2 * k) ≡ false
 bit_even k = let e : 2 * k / 1 % 2 ≡ 0 = omega arith in ap (λ x. eqb x 1) e

@@ -18,7 +18,7 @@ use Rattle.exactness.specs.Exact.{rational, edge_at_value, at_values}
 
 less_zero : (x : ℚ) → posℚ (addℚ x (negℚ zeroℚ)) ≡ posℚ x
 unfolding negℚ
-less_zero x = ap posℚ (Q.add_zero x)
+less_zero x = ap posℚ (Q.add-zero x)
 
 above : (x : ℚ) → Pos rational x → Posℚ x
 above x h = sym (less_zero x) ∙ h
@@ -26,26 +26,26 @@ above x h = sym (less_zero x) ∙ h
 pos : (x : ℚ) → Posℚ x → Pos rational x
 pos x h = less_zero x ∙ h
 
-one_mul : (x : ℚ) → mulℚ oneℚ x ≡ x
-one_mul x = Q.mul_comm oneℚ x ∙ Q.mul_one x
+one-mul : (x : ℚ) → mulℚ oneℚ x ≡ x
+one-mul x = Q.mul_comm oneℚ x ∙ Q.mul-one x
 
 pub rational_laws : Laws rational
 rational_laws = record {
   ⊕_comm = Q.add_comm;
   ⊕_assoc = Q.add_assoc;
-  ⊕_zero = Q.add_zero;
+  ⊕_zero = Q.add-zero;
   ⊕_neg = Q.add_neg;
   ⊖-is = λ x y. refl;
   ⊗_comm = Q.mul_comm;
   ⊗_assoc = Q.mul_assoc;
-  ⊗-one = Q.mul_one;
-  ⊗-⊕ = Q.mul_add;
-  ⊘-is = λ x y. ap (mulℚ x) (sym (one_mul (invℚ y)));
-  ⊗_inv = λ x h. ap (mulℚ x) (one_mul (invℚ x)) ∙ Q.mul_inv_pos x (above x h);
+  ⊗-one = Q.mul-one;
+  ⊗-⊕ = Q.mul-add;
+  ⊘-is = λ x y. ap (mulℚ x) (sym (one-mul (invℚ y)));
+  ⊗_inv = λ x h. ap (mulℚ x) (one-mul (invℚ x)) ∙ Q.mul_inv_pos x (above x h);
   pos_one = pos _ Q.pos_one;
   pos_⊕ = λ x y h k. pos _ (Q.pos_add x y (above x h) (above y k));
   pos_⊗ = λ x y h k. pos _ (Q.pos_mul x y (above x h) (above y k));
-  pos_inv = λ x h. pos _ (subst Posℚ (sym (one_mul (invℚ x))) (Q.pos_inv x (above x h)));
+  pos_inv = λ x h. pos _ (subst Posℚ (sym (one-mul (invℚ x))) (Q.pos_inv x (above x h)));
 }
 
 -- The theorem at fractions.

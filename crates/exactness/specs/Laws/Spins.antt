@@ -2,7 +2,7 @@
 -- each vertex from a on adds a bit below. Vertices before vertex 0 count as spins with no edges.
 use Rattle.std.specs.Prelude.{◌≡◌}
 use Rattle.std.proofs.Math.Path.{refl, sym, ap, fun_ext}
-use Rattle.std.proofs.Common.{◌∙◌, ap₂, add_zero, add-suc, zero-add}
+use Rattle.std.proofs.Common.{◌∙◌, ap₂, add-zero, add-suc, zero-add}
 use Prim.Native.Nat.{ℕ, zero, suc, ◌+◌, ◌*◌, ◌/◌, ◌^◌, ◌<◌}
 use native.Mathlib.Omega.{arith}
 use Rattle.std.proofs.Math.Nat.{pow-succ'}
@@ -61,7 +61,7 @@ module _ (O : Ops) (LW : Laws O) (J : Job O.K) where
 
   spins_append : (a i k : ℕ) (f : ℕ → K) (s : ℕ) → spins a i (spins (a + i) k f) s ≡ spins a (i + k) f s
   unfolding sum_spins
-  spins_append a i zero f s = ap (λ n. spins a n f s) (sym (add_zero i))
+  spins_append a i zero f s = ap (λ n. spins a n f s) (sym (add-zero i))
   spins_append a i (suc k) f s =
       let e : a + i + k ≡ a + (i + k) = omega arith in
       spins_append a i k (spin (a + i + k) f) s ∙ ap (λ t. spins a (i + k) (spin t f) s) e ∙ ap (λ n. spins a n f s) (sym (add-suc i k))
@@ -74,7 +74,7 @@ module _ (O : Ops) (LW : Laws O) (J : Job O.K) where
 
   pub spins-front : (a i : ℕ) (f : ℕ → K) (s : ℕ) → spins a (suc i) f s ≡ spin a (spins (suc a) i f) s
   unfolding sum_spins
-  spins-front a zero f s = ap (λ t. spin t f s) (add_zero a)
+  spins-front a zero f s = ap (λ t. spin t f s) (add-zero a)
   spins-front a (suc i) f s =
       let e : a + suc i ≡ suc a + i = omega arith in
       spins-front a i (spin (a + suc i) f) s ∙ ap (λ t. spin a (spins (suc a) i (spin t f)) s) e

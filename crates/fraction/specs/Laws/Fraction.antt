@@ -36,9 +36,9 @@ pub add_assoc : (q r s : ℚ) → addℚ (addℚ q r) s ≡ addℚ q (addℚ r s
 unfolding addℚ
 add_assoc = ind₃ (λ q r s. Quot-set _ _) (λ x y z. ap of_raw (add_r_assoc x y z))
 
-pub add_zero : (q : ℚ) → addℚ q zeroℚ ≡ q
+pub add-zero : (q : ℚ) → addℚ q zeroℚ ≡ q
 unfolding addℚ
-add_zero = ind (λ q. Quot-set _ _) (λ x. ap of_raw (add_r_zero x))
+add-zero = ind (λ q. Quot-set _ _) (λ x. ap of_raw (add_r_zero x))
 
 pub add_neg : (q : ℚ) → addℚ q (negℚ q) ≡ zeroℚ
 unfolding addℚ negℚ
@@ -52,13 +52,13 @@ pub mul_assoc : (q r s : ℚ) → mulℚ (mulℚ q r) s ≡ mulℚ q (mulℚ r s
 unfolding mulℚ
 mul_assoc = ind₃ (λ q r s. Quot-set _ _) (λ x y z. ap of_raw (mul_r_assoc x y z))
 
-pub mul_one : (q : ℚ) → mulℚ q oneℚ ≡ q
+pub mul-one : (q : ℚ) → mulℚ q oneℚ ≡ q
 unfolding mulℚ
-mul_one = ind (λ q. Quot-set _ _) (λ x. ap of_raw (mul_r-one x))
+mul-one = ind (λ q. Quot-set _ _) (λ x. ap of_raw (mul_r-one x))
 
-pub mul_add : (q r s : ℚ) → mulℚ q (addℚ r s) ≡ addℚ (mulℚ q r) (mulℚ q s)
+pub mul-add : (q r s : ℚ) → mulℚ q (addℚ r s) ≡ addℚ (mulℚ q r) (mulℚ q s)
 unfolding addℚ mulℚ
-mul_add = ind₃ (λ q r s. Quot-set _ _) (λ x y z. sound (mul_r-add_r x y z))
+mul-add = ind₃ (λ q r s. Quot-set _ _) (λ x y z. sound (mul_r-add_r x y z))
 
 pub mul_inv : (q : ℚ) → (q ≡ zeroℚ → ⊥) → mulℚ q (invℚ q) ≡ oneℚ
 unfolding mulℚ invℚ

@@ -1,6 +1,6 @@
 -- The largest entry of a vector stands in its symmetric half.
 use Rattle.std.specs.Prelude.{◌≡◌, refl, Bool, true, false, cond, List, ℕ, zero, suc, ◌+◌, ◌*◌, ◌-◌, ◌%◌, ◌^◌, ◌≤◌, ◌<◌, T, eqb, length, Float}
-use Rattle.std.proofs.Common.{sym, ap, ◌∙◌, add_zero, add-suc, arith}
+use Rattle.std.proofs.Common.{sym, ap, ◌∙◌, add-zero, add-suc, arith}
 use Rattle.std.proofs.Math.Logic.{dite}
 use Rattle.std.proofs.Math.Decide.{dec_lt}
 use Rattle.std.specs.Float.Ieee.{lt}
@@ -48,7 +48,7 @@ top_bound f (suc n) = rw (top_suc f n) (bound_next f n (top f n) (top_bound f n)
 -- entries that stand among the first n do not change it
 top-more : (f : ℕ → Float) (n i : ℕ) → ((k : ℕ) → k < i → (j : ℕ) × (j < n) × (f (n + k) ≡ f j)) → top f (n + i) ≡ top f n
 unfolding larger
-top-more f n zero h = rw add_zero
+top-more f n zero h = rw add-zero
 top-more f n (suc i) h =
     let w = h i (omega arith) in
     rw (add-suc n i, top_suc f (n + i), top-more f n i (λ k l. h k (omega arith)), w.2, (top_bound f n).bound w.0 w.1)

@@ -1,6 +1,6 @@
 -- The series at x = i / 128, in exact fractions, is `through i n` over `bottom n`.
 use Rattle.std.specs.Prelude.{◌≡◌, refl, Bool, true, false, cond, ℕ, zero, suc, ◌+◌, ◌-◌, ◌*◌, ◌%◌, ◌^◌, ◌<◌, ltb, eqb, ℤ, pos, negsuc, neg_ℤ, ◌+ℤ◌, ◌*ℤ◌}
-use Rattle.std.proofs.Common.{sym, ap, ap₂, ◌∙◌, pow-suc, mul-pos, mul_one, zero-mul, arith, lit<, ltb-true, ltb-false, lt-ltb, eqb-true}
+use Rattle.std.proofs.Common.{sym, ap, ap₂, ◌∙◌, pow-suc, mul-pos, mul-one, zero-mul, arith, lit<, ltb-true, ltb-false, lt-ltb, eqb-true}
 use Rattle.std.proofs.Math.Nat.{pow-zero}
 use Rattle.std.proofs.Math.IntN.{sub_ℕ}
 use Rattle.std.proofs.lemmas.Bool.{eqb-false}
@@ -74,7 +74,7 @@ over-one : (c : ℕ) → 0 < c → over (pos c) c ≡ oneℚ
 over-one c C = sound (omega arith)
 
 over-scale : (a : ℤ) (d c : ℕ) → 0 < d → 0 < c → over (a *ℤ pos c) (d * c) ≡ over a d
-over-scale a d c D C = over_mul a (pos c) d c D C ∙ ap (mulℚ (over a d)) (over-one c C) ∙ F.mul_one (over a d)
+over-scale a d c D C = over_mul a (pos c) d c D C ∙ ap (mulℚ (over a d)) (over-one c C) ∙ F.mul-one (over a d)
 
 -- ---- powers
 neg_product : (n m : ℕ) → neg_ℤ (pos n) *ℤ negsuc m ≡ pos (n * suc m)
@@ -127,8 +127,8 @@ unfolding invℚ
 inverse f h = rw (lt-ltb 0 f h)
 
 times-one : (z : ℤ) → z *ℤ pos 1 ≡ z
-times-one (pos n) = ap pos (mul_one n)
-times-one (negsuc n) = ap (λ (m : ℕ). neg_ℤ (pos m)) (mul_one (suc n))
+times-one (pos n) = ap pos (mul-one n)
+times-one (negsuc n) = ap (λ (m : ℕ). neg_ℤ (pos m)) (mul-one (suc n))
 
 term_is : (i : ℤ) (k : ℕ) → over (power i k) (bottom k) ≡ termℚ (over i 128) k
 unfolding bottom

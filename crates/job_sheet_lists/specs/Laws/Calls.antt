@@ -3,7 +3,7 @@ use Rattle.std.specs.Prelude.{◌≡◌, refl, true, false, ◌||◌, List, ℕ,
 use Rattle.std.proofs.Common.{sym, ap, ◌∙◌, arith, ne_eqb, ltb-false}
 use Rattle.list_laws.specs.Front.{over}
 use Rattle.list_laws.specs.Tabulate.{tabulate}
-use Rattle.list_laws.specs.Laws.Search.{or_false}
+use Rattle.list_laws.specs.Laws.Search.{or-false}
 use Rattle.little_endian.specs.Words.{word_at}
 use Rattle.job_sheet.specs.Counts.{counted, counts_of}
 use Rattle.job_sheet.specs.Sheets.{sheet_length, Sheet}
@@ -63,22 +63,22 @@ module _ {sheet a b m x us vs : List ℕ} {e n p : ℕ} (A : Roomy sheet a b m x
   places_fit = sym is-sheet.size
 
   pub load_ones : Loads sheet 4 13 1 2 e (length a)
-  load_ones = let z = places_fit in record { fits = ltb-false _ _ (or_false _ _ A.ends).0; lie = λ i h. omega arith }
+  load_ones = let z = places_fit in record { fits = ltb-false _ _ (or-false _ _ A.ends).0; lie = λ i h. omega arith }
 
   pub load_others : Loads sheet 4 13 3 2 e (length b)
-  load_others = let z = places_fit in record { fits = ltb-false _ _ (or_false (ltb (length a) e) _ A.ends).1; lie = λ i h. omega arith }
+  load_others = let z = places_fit in record { fits = ltb-false _ _ (or-false (ltb (length a) e) _ A.ends).1; lie = λ i h. omega arith }
 
   pub load_magnitudes : Loads sheet 4 13 5 8 e (length m)
-  load_magnitudes = let z = places_fit in record { fits = ltb-false _ _ (or_false _ (ltb (length x) n) A.doubles).0; lie = λ i h. omega arith }
+  load_magnitudes = let z = places_fit in record { fits = ltb-false _ _ (or-false _ (ltb (length x) n) A.doubles).0; lie = λ i h. omega arith }
 
   pub load_betas : Loads sheet (4 + 13 * e) 9 1 8 n (length x)
-  load_betas = let z = places_fit in record { fits = ltb-false _ _ (or_false (ltb (length m) e) _ A.doubles).1; lie = λ i h. omega arith }
+  load_betas = let z = places_fit in record { fits = ltb-false _ _ (or-false (ltb (length m) e) _ A.doubles).1; lie = λ i h. omega arith }
 
   pub load_firsts : Loads sheet (4 + 13 * e + 9 * n) 5 1 2 p (length us)
-  load_firsts = let z = places_fit in record { fits = ltb-false _ _ (or_false _ (ltb (length vs) p) A.pairs).0; lie = λ i h. omega arith }
+  load_firsts = let z = places_fit in record { fits = ltb-false _ _ (or-false _ (ltb (length vs) p) A.pairs).0; lie = λ i h. omega arith }
 
   pub load_seconds : Loads sheet (4 + 13 * e + 9 * n) 5 3 2 p (length vs)
-  load_seconds = let z = places_fit in record { fits = ltb-false _ _ (or_false (ltb (length us) p) _ A.pairs).1; lie = λ i h. omega arith }
+  load_seconds = let z = places_fit in record { fits = ltb-false _ _ (or-false (ltb (length us) p) _ A.pairs).1; lie = λ i h. omega arith }
 
   -- none
   pub loaded : {a' b' m' x' us' vs' : List ℕ} {v f : ℕ} → v ≡ word_at sheet 1 2 → f ≡ word_at sheet 3 1

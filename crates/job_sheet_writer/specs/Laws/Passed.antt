@@ -7,16 +7,16 @@ use Rattle.std.specs.Float.Ieee.Bits.{of_bits-to_bits, to_bits-lt, to_bits-of_bi
 use Rattle.std.proofs.Math.ListN.{get_or-eq_default}
 use Rattle.std.proofs.lemmas.Bool.{not-false}
 use Rattle.limits.specs.declared.Caller.TheVariants.{Desk}
-use Rattle.list_laws.specs.Laws.Search.{or_false, none-at}
+use Rattle.list_laws.specs.Laws.Search.{or-false, none-at}
 use Rattle.list_laws.specs.Laws.Tabulate.{tabulate-length, tabulate-at, tabulated}
 use Rattle.transfer_matrix.specs.Job.{window_of}
 use Rattle.refusals.specs.Key.{Key}
-use Rattle.refusals.specs.Edges.{kept_early, kept_late}
+use Rattle.refusals.specs.Edges.{keptEarly, keptLate}
 use Rattle.refusals.specs.Request.{call_request, bad_ends, outside, limit, oversized, some_oversized}
 use Rattle.refusals.specs.Refusal.{refusal, of_job}
 use Rattle.refusals.specs.AcceptedJob.{AcceptedJob}
 use Rattle.refusals.specs.Laws.First.{passed-at}
-use Rattle.refusals.specs.Laws.Later.{and_true, passed-before}
+use Rattle.refusals.specs.Laws.Later.{and-true, passed-before}
 use Rattle.refusals.specs.Laws.AcceptedJob.{accepted_with}
 use Rattle.job_sheet_put.specs.Laws.Rows.{bits_at, bits-length}
 use Rattle.job_sheet_bytes.specs.Jobs.{Fits, given, bits_of, doubles_of}
@@ -62,7 +62,7 @@ doubles_of_bits xs d =
 
 not_nan : (x : Float) → oversized x ≡ false → T (not (is_nan x))
 unfolding is_nan le
-not_nan nan e = let q = (and_true (le (neg limit) nan) (le nan limit) (not-false (le (neg limit) nan && le nan limit) e)).1 in let z : ◌≡◌ {A = ℕ} 0 1 = cc in absurd (omega arith)
+not_nan nan e = let q = (and-true (le (neg limit) nan) (le nan limit) (not-false (le (neg limit) nan && le nan limit) e)).1 in let z : ◌≡◌ {A = ℕ} 0 1 = cc in absurd (omega arith)
 not_nan (inf s) e = tt
 not_nan (fin s m k) e = tt
 
@@ -93,17 +93,17 @@ module _ (n floor : ℕ) (a b : List ℕ) (m : List Float) (us vs : List ℕ) (b
 
   -- 4: no magnitude and no beta is a NaN
   pub sizes : (some_oversized m ≡ false) × (some_oversized betas ≡ false)
-  sizes = or_false (some_oversized m) (some_oversized betas) (passed-at of_job (call_request Desk n floor a b m us vs betas) passed Key.sizes refl)
+  sizes = or-false (some_oversized m) (some_oversized betas) (passed-at of_job (call_request Desk n floor a b m us vs betas) passed Key.sizes refl)
 
   job : AcceptedJob n floor a b m us vs
   job = (accepted_with Desk n floor a b m us vs betas passed).0
 
   low-floor : floor ≤ 24
-  low-floor = omega (arith, job.narrow, floor-low floor (kept_early a b m) (kept_late a b m))
+  low-floor = omega (arith, job.narrow, floor-low floor (keptEarly a b m) (keptLate a b m))
 
   inside : (i : ℕ) → i < length a → (get_or a i 0 < n) × (get_or b i 0 < n)
   inside i h =
-      let o = or_false (leb n (get_or a i 0)) (leb n (get_or b i 0)) (or_false (eqb (get_or a i 0) (get_or b i 0)) (outside n (get_or a i 0) (get_or b i 0)) (none-at (bad_ends n a b) (length a) i h job.graph.edges)).1 in
+      let o = or-false (leb n (get_or a i 0)) (leb n (get_or b i 0)) (or-false (eqb (get_or a i 0) (get_or b i 0)) (outside n (get_or a i 0) (get_or b i 0)) (none-at (bad_ends n a b) (length a) i h job.graph.edges)).1 in
       (leb-false n (get_or a i 0) o.0, leb-false n (get_or b i 0) o.1)
 
   pub fits-given : Doubles m → Doubles betas → Fits (given n floor a b m us vs betas)

@@ -1,6 +1,6 @@
 -- The order of the floats from +0.0 up.
 use Rattle.std.specs.Prelude.{◌≡◌, refl, Bool, true, false, not, ◌&&◌, cond, ℕ, zero, suc, ◌+◌, ◌*◌, ◌%◌, ◌/◌, ◌^◌, ◌≤◌, ◌<◌, ℤ, pos, negsuc, T, ltb, eqb, leb, Float}
-use Rattle.std.proofs.Common.{sym, ap, ◌∙◌, subst, mul_one, one_mul, pow-suc, mul_left_comm, mul_assoc, zero-lt-suc, le_antisymm, mul-pos, zero-mul, arith, eqb→eq, pow_pos, pow-add, ltb-true, ltb-false, le-ltb}
+use Rattle.std.proofs.Common.{sym, ap, ◌∙◌, subst, mul-one, one-mul, pow-suc, mul_left_comm, mul_assoc, zero-lt-suc, le_antisymm, mul-pos, zero-mul, arith, eqb→eq, pow_pos, pow-add, ltb-true, ltb-false, le-ltb}
 use Rattle.std.proofs.Math.Nat.{pow-succ', eq_of_mul-eq-mul_right}
 use Rattle.std.specs.Float.{nan, inf, fin, binary64}
 use Rattle.std.specs.Float.Ieee.{lt, fits, up, down, prec, low, emax}
@@ -57,11 +57,11 @@ even_odd : (m t : ℕ) → m % 2 ≡ 1 → m ≡ 2 * t → ⊥
 even_odd m t o h = omega arith
 
 odd_pow : (m n a b : ℕ) → m % 2 ≡ 1 → n % 2 ≡ 1 → m * 2 ^ a ≡ n * 2 ^ b → (m ≡ n) × (a ≡ b)
-odd_pow m n zero zero o p h = (sym (mul_one m) ∙ h ∙ mul_one n, refl)
+odd_pow m n zero zero o p h = (sym (mul-one m) ∙ h ∙ mul-one n, refl)
 odd_pow m n zero (suc b) o p h =
-    absurd (even_odd m (n * 2 ^ b) o (sym (mul_one m) ∙ h ∙ ap (λ (x : ℕ). n * x) (pow-succ' 2 b) ∙ mul_left_comm n 2 (2 ^ b)))
+    absurd (even_odd m (n * 2 ^ b) o (sym (mul-one m) ∙ h ∙ ap (λ (x : ℕ). n * x) (pow-succ' 2 b) ∙ mul_left_comm n 2 (2 ^ b)))
 odd_pow m n (suc a) zero o p h =
-    absurd (even_odd n (m * 2 ^ a) p (sym (mul_one n) ∙ sym h ∙ ap (λ (x : ℕ). m * x) (pow-succ' 2 a) ∙ mul_left_comm m 2 (2 ^ a)))
+    absurd (even_odd n (m * 2 ^ a) p (sym (mul-one n) ∙ sym h ∙ ap (λ (x : ℕ). m * x) (pow-succ' 2 a) ∙ mul_left_comm m 2 (2 ^ a)))
 odd_pow m n (suc a) (suc b) o p h =
     let r = odd_pow m n a b o p (eq_of_mul-eq-mul_right 2 (zero-lt-suc 1) (m * 2 ^ a) (n * 2 ^ b)
     (mul_assoc m (2 ^ a) 2 ∙ ap (λ (x : ℕ). m * x) (sym (pow-suc 2 a)) ∙ h ∙ ap (λ (x : ℕ). n * x) (pow-suc 2 b) ∙ sym (mul_assoc n (2 ^ b) 2))) in
@@ -81,22 +81,22 @@ two_up p h e = omega arith
 
 flat : (e : ℤ) → up e * down e ≡ 1 → e ≡ pos 0
 flat (pos zero) h = refl
-flat (pos (suc k)) h = absurd (two_up (2 ^ k) (pow_pos k) (sym (pow-succ' 2 k) ∙ sym (mul_one (2 ^ suc k)) ∙ h))
-flat (negsuc k) h = absurd (two_up (2 ^ k) (pow_pos k) (sym (pow-succ' 2 k) ∙ sym (one_mul (2 ^ suc k)) ∙ h))
+flat (pos (suc k)) h = absurd (two_up (2 ^ k) (pow_pos k) (sym (pow-succ' 2 k) ∙ sym (mul-one (2 ^ suc k)) ∙ h))
+flat (negsuc k) h = absurd (two_up (2 ^ k) (pow_pos k) (sym (pow-succ' 2 k) ∙ sym (one-mul (2 ^ suc k)) ∙ h))
 
 zero_exp : (s : Bool) (e : ℤ) → T (fits binary64 (fin s zero e)) → e ≡ pos 0
 unfolding fits
 zero_exp s e t = flat e (eqb→eq (up e * down e) 1 t)
 
 same-odd : (m n : ℕ) (e d : ℤ) → m % 2 ≡ 1 → n % 2 ≡ 1 → m * up e * down d ≡ n * up d * down e → (m ≡ n) × (e ≡ d)
-same-odd m n (pos a) (pos b) o p h = let r = odd_pow m n a b o p (sym (mul_one _) ∙ h ∙ mul_one _) in (r.0, ap pos r.1)
+same-odd m n (pos a) (pos b) o p h = let r = odd_pow m n a b o p (sym (mul-one _) ∙ h ∙ mul-one _) in (r.0, ap pos r.1)
 same-odd m n (pos a) (negsuc b) o p h =
-    let r = odd_pow m n (a + suc b) 0 o p (rw pow-add (sym (mul_assoc m (2 ^ a) (2 ^ suc b)) ∙ h ∙ mul_one (n * 1))) in absurd (omega (arith, r.1))
+    let r = odd_pow m n (a + suc b) 0 o p (rw pow-add (sym (mul_assoc m (2 ^ a) (2 ^ suc b)) ∙ h ∙ mul-one (n * 1))) in absurd (omega (arith, r.1))
 same-odd m n (negsuc a) (pos b) o p h =
-    let r = odd_pow n m (b + suc a) 0 p o (rw pow-add (sym (mul_assoc n (2 ^ b) (2 ^ suc a)) ∙ sym h ∙ mul_one (m * 1))) in
+    let r = odd_pow n m (b + suc a) 0 p o (rw pow-add (sym (mul_assoc n (2 ^ b) (2 ^ suc a)) ∙ sym h ∙ mul-one (m * 1))) in
     absurd (omega (arith, r.1))
 same-odd m n (negsuc a) (negsuc b) o p h =
-    let r = odd_pow m n (suc b) (suc a) o p (ap (λ (x : ℕ). x * 2 ^ suc b) (sym (mul_one m)) ∙ h ∙ ap (λ (x : ℕ). x * 2 ^ suc a) (mul_one n)) in
+    let r = odd_pow m n (suc b) (suc a) o p (ap (λ (x : ℕ). x * 2 ^ suc b) (sym (mul-one m)) ∙ h ∙ ap (λ (x : ℕ). x * 2 ^ suc a) (mul-one n)) in
     let e : a ≡ b = omega (arith, r.1) in
     (r.0, ap negsuc e)
 

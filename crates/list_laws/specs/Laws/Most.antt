@@ -3,7 +3,7 @@ use Rattle.std.specs.Prelude.{◌≡◌, refl, ℕ, zero, suc, ◌+◌, ◌≤�
 use Rattle.std.proofs.Common.{ap, ◌∙◌, add-one, le_trans, arith}
 use Rattle.std.proofs.Math.Logic.{dite}
 use Rattle.std.proofs.Math.Decide.{dec_lt}
-use Rattle.std.proofs.Math.Nat.{le-max_left, le-max_right, max_le}
+use Rattle.std.proofs.Math.Nat.{le-max_left, le-max_right, max-le}
 use Rattle.list_laws.specs.Most.{most}
 
 -- none is larger
@@ -18,7 +18,7 @@ most-above f (suc n) i h =
 pub most-least : (f : ℕ → ℕ) (n k : ℕ) → ((i : ℕ) → i < n → f i ≤ k) → most f n ≤ k
 unfolding most
 most-least f zero k h = omega arith
-most-least f (suc n) k h = max_le (most-least f n k (λ i l. h i (omega arith))) (h n (omega arith))
+most-least f (suc n) k h = max-le (most-least f n k (λ i l. h i (omega arith))) (h n (omega arith))
 
 -- rules that agree below n
 pub most_ext : (f g : ℕ → ℕ) (n : ℕ) → ((i : ℕ) → i < n → f i ≡ g i) → most f n ≡ most g n

@@ -1,7 +1,7 @@
 -- Laws of what specs/Part defines.
 use Rattle.std.specs.Prelude.{◌≡◌, refl, ◌⊎◌, set}
 use Rattle.std.proofs.Math.Path.{sym, ap, subst}
-use Rattle.std.proofs.Common.{◌∙◌, inl, inr, add_zero, add-suc, add_assoc, length-drop, take-append-drop, get_or-append-add, ext_get_or}
+use Rattle.std.proofs.Common.{◌∙◌, inl, inr, add-zero, add-suc, add_assoc, length-drop, take-append-drop, get_or-append-add, ext_get_or}
 use mathlib.Core.List.{List, [], ◌∷◌, ◌++◌, append_assoc, append-nil}
 use Prim.Native.Nat.{ℕ, zero, suc, ◌+◌, ◌-◌, ◌≤◌, ◌<◌}
 use Rattle.std.proofs.Math.Numerals.{add-one}
@@ -32,7 +32,7 @@ module _ {A : Type 0} where
 
   tabulate_add : (f : ℕ → A) (m n : ℕ) → tabulate f (m + n) ≡ tabulate f m ++ tabulate (λ i. f (m + i)) n
   unfolding tabulate
-  tabulate_add f m zero = rw (add_zero, append-nil)
+  tabulate_add f m zero = rw (add-zero, append-nil)
   tabulate_add f m (suc n) = rw (add-suc, tabulate_add f m n, append_assoc)
 
   -- ---- part
@@ -108,7 +108,7 @@ module _ {A : Type 0} where
 
   put_nil : (d : List A) (at : ℕ) → put d at [] ≡ d
   unfolding put
-  put_nil d at = rw (add_zero, append-nil) (take-append-drop at d)
+  put_nil d at = rw (add-zero, append-nil) (take-append-drop at d)
 
   -- a store is a put of one element
   set-put : (d : List A) (i : ℕ) (a : A) → i < length d → set d i a ≡ put d i (a ∷ [])

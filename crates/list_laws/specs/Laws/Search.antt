@@ -7,13 +7,13 @@ use Prim.Native.Nat.{ℕ, zero, suc, ◌+◌, ◌≤◌, ◌<◌}
 use Rattle.std.proofs.Math.Decide.{ℕ_discrete}
 use Rattle.list_laws.specs.Search.{some}
 
-or_true : (a : Bool) → (a || true) ≡ true
-or_true true = refl
-or_true false = refl
+or-true : (a : Bool) → (a || true) ≡ true
+or-true true = refl
+or-true false = refl
 
-pub or_false : (a b : Bool) → (a || b) ≡ false → (a ≡ false) × (b ≡ false)
-or_false true b h = absurd (let z : ◌≡◌ {A = ℕ} 0 1 = cc in omega arith)
-or_false false b h = (refl, h)
+pub or-false : (a b : Bool) → (a || b) ≡ false → (a ≡ false) × (b ≡ false)
+or-false true b h = absurd (let z : ◌≡◌ {A = ℕ} 0 1 = cc in omega arith)
+or-false false b h = (refl, h)
 
 module _ (test : ℕ → Bool) where
   pub some_at : (n i : ℕ) → i < n → test i ≡ true → some test n ≡ true
@@ -22,7 +22,7 @@ module _ (test : ℕ → Bool) where
   some_at (suc n) i h e = go (some_at n i) (ℕ_discrete i n)
     where
       go : (i < n → test i ≡ true → some test n ≡ true) → Dec (i ≡ n) → (some test n || test n) ≡ true
-      go ih (yes q) = rw (← q, e) (or_true (some test i))
+      go ih (yes q) = rw (← q, e) (or-true (some test i))
       go ih (no m) = rw (ih (omega arith) e)
 
   pub none-at : (n i : ℕ) → i < n → some test n ≡ false → test i ≡ false
@@ -31,8 +31,8 @@ module _ (test : ℕ → Bool) where
   none-at (suc n) i h e = go (none-at n i) (ℕ_discrete i n)
     where
       go : (i < n → some test n ≡ false → test i ≡ false) → Dec (i ≡ n) → test i ≡ false
-      go ih (yes q) = rw q (or_false (some test n) (test n) e).1
-      go ih (no m) = ih (omega arith) (or_false (some test n) (test n) e).0
+      go ih (yes q) = rw q (or-false (some test n) (test n) e).1
+      go ih (no m) = ih (omega arith) (or-false (some test n) (test n) e).0
 
   pub none_of : (n : ℕ) → ((i : ℕ) → i < n → test i ≡ false) → some test n ≡ false
   unfolding some

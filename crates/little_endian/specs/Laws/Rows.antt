@@ -1,7 +1,7 @@
 -- Bytes that stand at a place: one behind another, rows of them, a number and its field.
 use Rattle.std.specs.Prelude.{◌≡◌, Bool, length, drop, get_or}
 use Rattle.std.proofs.Math.Path.{refl, sym, ap}
-use Rattle.std.proofs.Common.{subst, ◌∙◌, add_zero, take-take, drop_at, drop-drop, drop-cons}
+use Rattle.std.proofs.Common.{subst, ◌∙◌, add-zero, take-take, drop_at, drop-drop, drop-cons}
 use Rattle.std.proofs.Math.Bool.{true, false}
 use mathlib.Core.List.{List, [], ◌∷◌, ◌++◌}
 use Prim.Native.Nat.{ℕ, zero, suc, ◌+◌, ◌*◌, ◌^◌, ◌≤◌, ◌<◌}
@@ -59,7 +59,7 @@ module _ (bytes : List ℕ) where
 
   pub stand_first : (at b : ℕ) (t : List ℕ) → Stand bytes at (b ∷ t) → get_or bytes at 0 ≡ b
   stand_first at b t p =
-      let z : at + 0 ≡ at = add_zero at in
+      let z : at + 0 ≡ at = add-zero at in
       ap (λ (k : ℕ). get_or bytes k 0) (sym z) ∙ sym (part_at bytes at (length (b ∷ t)) 0 0 (omega arith)) ∙ ap (λ (l : List ℕ). get_or l 0 0) p.there
 
   pub stand_rest : (at b : ℕ) (t : List ℕ) → Stand bytes at (b ∷ t) → Stand bytes (at + 1) t

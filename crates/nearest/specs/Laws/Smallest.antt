@@ -1,6 +1,6 @@
 -- A finite value counted in the format's smallest values: m * 2 ^ i of them, where m has no more digits than the format keeps.
 use Rattle.std.specs.Prelude.{◌≡◌, ℕ, zero, suc, ◌+◌, ◌-◌, ◌*◌, ◌%◌, ◌^◌, ◌≤◌, ◌<◌, Bool, ◌&&◌, ℤ, pos, negsuc, T, leb, ltb, eqb, Float}
-use Rattle.std.proofs.Common.{sym, ap, ◌∙◌, zero-mul, one_mul, mul-lt-mul_of_pos_right, lt_of_mul-lt-mul_right, lt_of_not-le, not-le_of_lt, le_of_suc-le-suc, arith, leb→le, ltb→lt, pow-add, pow_pos}
+use Rattle.std.proofs.Common.{sym, ap, ◌∙◌, zero-mul, one-mul, mul-lt-mul_of_pos_right, lt_of_mul-lt-mul_right, lt_of_not-le, not-le_of_lt, le_of_suc-le-suc, arith, leb→le, ltb→lt, pow-add, pow_pos}
 use Rattle.std.proofs.Math.Pow.{pow-lt}
 use Rattle.std.specs.Float.{nan, inf, fin, Format}
 use Rattle.std.specs.Float.Ieee.{prec, emax, low, up, down, fits}
@@ -18,7 +18,7 @@ power : (f : Format) (e : ℤ) → down e ≤ 2 ^ low f → (j : ℕ) × (up e *
 power f (pos k) h = (k + low f, omega (arith, pow-add 2 k (low f)))
 power f (negsuc k) h =
     let l : suc k ≤ low f = le_of_suc-le-suc (lt_of_not-le (λ (g : suc (low f) ≤ suc k). not-le_of_lt (pow-lt g) h)) in
-    (low f - suc k, one_mul (2 ^ low f) ∙ ap (λ (x : ℕ). 2 ^ x) (sym (back (low f) l)) ∙ pow-add 2 (low f - suc k) (suc k))
+    (low f - suc k, one-mul (2 ^ low f) ∙ ap (λ (x : ℕ). 2 ^ x) (sym (back (low f) l)) ∙ pow-add 2 (low f - suc k) (suc k))
   where
     back : (l : ℕ) → suc k ≤ l → l - suc k + suc k ≡ l
     back l h = omega arith

@@ -1,7 +1,7 @@
 -- Laws of what specs/Sound defines.
 use Rattle.std.specs.Prelude.{◌≡◌, refl, true, false, ℕ, zero, suc, ◌*◌, ◌<◌, T, ltb, Float}
-use Rattle.std.proofs.Common.{sym, ◌∙◌, subst, zero-mul, mul_one, mul-pos, arith, lt-ltb}
-use Rattle.std.proofs.Math.Bool.{and_true}
+use Rattle.std.proofs.Common.{sym, ◌∙◌, subst, zero-mul, mul-one, mul-pos, arith, lt-ltb}
+use Rattle.std.proofs.Math.Bool.{and-true}
 use Rattle.std.specs.Float.{nan, inf, fin}
 use Rattle.std.specs.Float.Ieee.{up, down, lt}
 use Rattle.std.specs.Float.Ieee.Fits.{up_pos}
@@ -20,7 +20,7 @@ soundly-is nan = refl
 soundly-is (inf true) = refl
 soundly-is (inf false) = refl
 soundly-is (fin true m e) = refl
-soundly-is (fin false m e) = rw (zero-mul (down e), and_true, mul_one) (scaled m (up e) (up_pos e))
+soundly-is (fin false m e) = rw (zero-mul (down e), and-true, mul-one) (scaled m (up e) (up_pos e))
 
 -- what the bounds of an answer ask of its Z
 pub sound-positive : (z : Float) → soundly z ≡ true → T (positive z)

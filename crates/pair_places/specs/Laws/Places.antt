@@ -2,7 +2,7 @@
 use Rattle.std.specs.Prelude.{◌≡◌, Bool, cond, List, eqb, length, get_or}
 use Rattle.std.proofs.Math.Path.{refl, sym}
 use Rattle.std.proofs.Common.{ap, ◌∙◌}
-use Rattle.std.proofs.Math.Bool.{true, false, or_true}
+use Rattle.std.proofs.Math.Bool.{true, false, or-true}
 use Rattle.std.proofs.Math.Logic.{dite}
 use Prim.Native.Nat.{ℕ, zero, suc, ◌+◌, ◌≤◌, ◌<◌}
 use Rattle.std.proofs.Math.Decide.{dec_lt}
@@ -124,4 +124,4 @@ module _ (A : Arrangement) (plan us vs : List ℕ) (n w : ℕ) (g : Places A pla
     unfolding keeps_forward
     earlier-forward p =
         placed _ _ (forward-kept (earlier us vs i) (earlier-inside us vs n i pairs b))
-        (some_at _ (length us) i b (rw (eq-eqb (earlier us vs i) (earlier us vs i) refl, p) (or_true (eqb (later us vs i) (earlier us vs i)))))
+        (some_at _ (length us) i b (rw (eq-eqb (earlier us vs i) (earlier us vs i) refl, p) (or-true (eqb (later us vs i) (earlier us vs i)))))

@@ -12,7 +12,7 @@ use Rattle.plan_steps.specs.Laws.Listed.{some_ext}
 use Rattle.refusals.specs.Edges.{is_zero, kept_of, dropping}
 use Rattle.refusals.specs.Request.{oversized, some_oversized}
 use Rattle.refusals.specs.Laws.Dropping.{dropping-at, dropping_beside, dropping-length}
-use Rattle.refusals.specs.Laws.Later.{and_true}
+use Rattle.refusals.specs.Laws.Later.{and-true}
 
 differ : {A : Type 0} → false ≡ true → A
 differ e = absurd (subst (λ (b : Bool). T b) (sym e) tt)
@@ -42,7 +42,7 @@ unfolding eq of_bits
 sized nan h = differ h
 sized (inf s) h = differ h
 sized (fin s m e) h =
-    let z : m ≡ 0 = only_zero m e (pos 0) _ (eqb-true _ _ (and_true _ _ h).0) (zero-mul _) in
+    let z : m ≡ 0 = only_zero m e (pos 0) _ (eqb-true _ _ (and-true _ _ h).0) (zero-mul _) in
     rw z (zero_sized s e)
 
 zero_itself : is_zero (of_bits binary64 0) ≡ true

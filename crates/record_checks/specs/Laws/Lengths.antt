@@ -1,6 +1,6 @@
 -- A record's length, without the product that it is.
 use Rattle.std.specs.Prelude.{◌≡◌, refl, Bool, true, false, not, ℕ, ◌+◌, ◌-◌, ◌*◌, ◌/◌, ◌%◌, ◌≤◌, ◌<◌, eqb}
-use Rattle.std.proofs.Common.{sym, ap, ◌∙◌, mul-le-mul, mul-zero, add_zero, arith, eq-eqb, ne_eqb}
+use Rattle.std.proofs.Common.{sym, ap, ◌∙◌, mul-le-mul, mul-zero, add-zero, arith, eq-eqb, ne_eqb}
 use Rattle.std.proofs.Math.Nat.{div-add-mod}
 use Rattle.std.proofs.Math.Decide.{ℕ_discrete}
 use Rattle.std.proofs.Math.Arith.{digits_div, digits_mod}
@@ -44,7 +44,7 @@ module _ (h : Head) (size : ℕ) (l : 32 ≤ size) (p : 0 < chunk_bytes h) where
   whole : (size - 32) % chunk_bytes h ≡ 0 → (size - 32) / chunk_bytes h ≡ chunks_of h → size ≡ record_length h
   whole r q =
       let d : chunk_bytes h * ((size - 32) / chunk_bytes h) + (size - 32) % chunk_bytes h ≡ size - 32 = div-add-mod (size - 32) (chunk_bytes h) in
-      let e : size - 32 ≡ chunk_bytes h * chunks_of h = sym (rw (r, q) at d) ∙ add_zero _ in
+      let e : size - 32 ≡ chunk_bytes h * chunks_of h = sym (rw (r, q) at d) ∙ add-zero _ in
       omega (arith, e, length-is h)
 
   pub other-count : (size - 32) % chunk_bytes h ≡ 0 → not (eqb ((size - 32) / chunk_bytes h) (chunks_of h)) ≡ other_length h size

@@ -3,9 +3,9 @@ use Rattle.std.specs.Prelude.{◌≡◌, refl, Bool, true, false, cond, List, �
 use Rattle.std.proofs.Common.{sym, ap, ◌∙◌, arith, ltb-false}
 use Rattle.limits.specs.declared.Caller.TheVariants.{Desk}
 use Rattle.limits.specs.Limits.{most_samples, most_named}
-use Rattle.list_laws.specs.Laws.Search.{or_false}
+use Rattle.list_laws.specs.Laws.Search.{or-false}
 use Rattle.transfer_matrix.specs.Room as Room
-use Rattle.refusals.specs.Edges.{kept, window_from}
+use Rattle.refusals.specs.Edges.{kept, windowFrom}
 use Rattle.refusals.specs.Key.{Key}
 use Rattle.refusals.specs.Request.{Request, Source, lent, house, sampled, sweep_request, call_request, bad_list, source_number, too_many_chunks, unwritable}
 use Rattle.refusals.specs.Refusal.{checks, refusal, of_room, of_job, of_recording, of_recording_lists, of_sweeps, housed, sourced}
@@ -24,14 +24,14 @@ module _ (A : Room.Arrangement) (n floor : ℕ) (a b : List ℕ) (m : List Float
   pub recording_in_parts : (source : Source) (free start end samples : ℕ) (misfit : Bool) (work : ℕ) (unsound : Bool)
       → refusal (sourced source of_recording) (sweep_request Desk A n floor a b m us vs betas (sampled free start end samples) list count misfit work unsound)
       ≡ or_else (refusal of_job (call_request Desk n floor a b m us vs betas))
-      (or_else (recording_lists source A n (window_from floor a b m) (length (kept a b m)) us vs list count start end samples misfit work) (cond unsound 14 0))
+      (or_else (recording_lists source A n (windowFrom floor a b m) (length (kept a b m)) us vs list count start end samples misfit work) (cond unsound 14 0))
   recording_in_parts source free start end samples misfit work unsound = go source
     where
       r : Request
       r = sweep_request Desk A n floor a b m us vs betas (sampled free start end samples) list count misfit work unsound
 
       go : (s : Source) → refusal (sourced s of_recording) r ≡ or_else (refusal of_job (call_request Desk n floor a b m us vs betas))
-          (or_else (recording_lists s A n (window_from floor a b m) (length (kept a b m)) us vs list count start end samples misfit work) (cond unsound 14 0))
+          (or_else (recording_lists s A n (windowFrom floor a b m) (length (kept a b m)) us vs list count start end samples misfit work) (cond unsound 14 0))
       go lent = behind-room r of_recording_lists refl refl
       go house = behind-room r (housed of_recording_lists) refl refl
 
@@ -44,7 +44,7 @@ pub record Writable (start end samples : ℕ) : Type 0 where
   pub named : samples ≤ most_named
 
 pub ordered_by : (start end samples : ℕ) → unwritable start end samples ≡ false → start ≤ end
-ordered_by start end samples h = ltb-false end start (or_false (ltb end start) (ltb most_named samples) h).0
+ordered_by start end samples h = ltb-false end start (or-false (ltb end start) (ltb most_named samples) h).0
 
 sourced-above : (source : Source) → 0 < source_number source
 sourced-above lent = omega arith
@@ -57,5 +57,5 @@ recording_passed source A n w edges us vs list count start end samples misfit wo
     let t10 = unless (bad_list source list count) (sourced-above source) z in
     let t11 = unless (too_many_chunks start end samples) {k = 11} (omega arith) t10.1 in
     let t26 = unless (unwritable start end samples) {k = 26} (omega arith) t11.1 in
-    let o = or_false (ltb end start) (ltb most_named samples) t26.0 in
+    let o = or-false (ltb end start) (ltb most_named samples) t26.0 in
     (t10.0, record { ordered = ltb-false end start o.0; few = few-samples start end samples t11.0; named = ltb-false most_named samples o.1 }, t26.1)

@@ -11,8 +11,8 @@ use Rattle.std.proofs.lemmas.List.{get_or_at}
 use Rattle.std.proofs.lemmas.Bool.{eqb-false, not-false}
 use Rattle.limits.specs.Limits.{most_vertices, most_edges, most_pairs, most_betas}
 use Rattle.list_laws.specs.Search.{some}
-use Rattle.list_laws.specs.Laws.Search.{or_false, none-at}
-use Rattle.refusals.specs.Edges.{Kept, kept_at, kept_of, kept, is_zero, kept_early, kept_late}
+use Rattle.list_laws.specs.Laws.Search.{or-false, none-at}
+use Rattle.refusals.specs.Edges.{Kept, kept_at, kept_of, kept, is_zero, keptEarly, keptLate}
 use Rattle.refusals.specs.Request.{graph_request, job_request, bad_lists, bad_ends, some_oversized, joined_twice}
 use Rattle.refusals.specs.Key.{Key}
 use Rattle.refusals.specs.Refusal.{refusal, of_raw_graph, of_graph}
@@ -27,10 +27,10 @@ pub record Inside (n : ℕ) (e : Kept) : Type 0 where
 
 -- a vertex count that check 1 passes
 pub low_count : (n : ℕ) → (eqb n 0 || ltb most_vertices n) ≡ false → n ≤ most_vertices
-low_count n h = ltb-false most_vertices n (or_false (eqb n 0) (ltb most_vertices n) h).1
+low_count n h = ltb-false most_vertices n (or-false (eqb n 0) (ltb most_vertices n) h).1
 
 pub some-count : (n : ℕ) → (eqb n 0 || ltb most_vertices n) ≡ false → 1 ≤ n
-some-count n h = pos n (eqb-false n 0 (or_false (eqb n 0) (ltb most_vertices n) h).0)
+some-count n h = pos n (eqb-false n 0 (or-false (eqb n 0) (ltb most_vertices n) h).0)
   where
     pos : (n : ℕ) → (n ≡ 0 → ⊥) → 1 ≤ n
     pos zero f = absurd (f refl)
@@ -51,11 +51,11 @@ module _ (n floor : ℕ) (a b : List ℕ) (m : List Float) (us vs : List ℕ) (b
   pub accepted-lengths : bad_lists (job_request n floor a b m us vs betas) ≡ false
       → Lengths a b m × (length us ≡ length vs) × (length us ≤ most_pairs) × (length betas ≤ most_betas)
   accepted-lengths h =
-      let all = or_false _ _ h in
-      let many = or_false _ _ all.0 in
-      let pairs = or_false _ _ many.0 in
-      let edges = or_false _ _ pairs.0 in
-      let ends = or_false _ _ edges.0 in (
+      let all = or-false _ _ h in
+      let many = or-false _ _ all.0 in
+      let pairs = or-false _ _ many.0 in
+      let edges = or-false _ _ pairs.0 in
+      let ends = or-false _ _ edges.0 in (
         record {
           others = sym (eqb-true _ _ (not-false _ ends.0));
           magnitudes = sym (eqb-true _ _ (not-false _ ends.1));
@@ -80,14 +80,14 @@ module _ (n floor : ℕ) (a b : List ℕ) (m : List Float) (us vs : List ℕ) (b
         edges = passed-at of_raw_graph q h Key.edge_ends refl;
         betas_pass = record {
           few = lists.3;
-          sized = (or_false (some_oversized m) (some_oversized betas) (passed-at of_raw_graph q h Key.sizes refl)).1;
+          sized = (or-false (some_oversized m) (some_oversized betas) (passed-at of_raw_graph q h Key.sizes refl)).1;
           rising = passed-at of_raw_graph q h Key.beta_order refl;
         };
       }
 
   -- the checks that read the lists, then those of the kept edges
   pub graph_in_parts : refusal of_graph (job_request n floor a b m us vs betas)
-      ≡ or_else (refusal of_raw_graph (job_request n floor a b m us vs betas)) (cond (joined_twice (kept_early a b m) (kept_late a b m)) 5 0)
+      ≡ or_else (refusal of_raw_graph (job_request n floor a b m us vs betas)) (cond (joined_twice (keptEarly a b m) (keptLate a b m)) 5 0)
   graph_in_parts = refusal_in_parts of_raw_graph (Key.parallel_edges ∷ []) (job_request n floor a b m us vs betas) refl
 
   -- a graph with betas and pairs that 1 to 5 pass
@@ -112,8 +112,8 @@ accepted n a b m misfit h = (accepted-graph n 0 a b m [] [] [] h).0
 module _ (n : ℕ) (a b : List ℕ) (m : List Float) (ok : some (bad_ends n a b) (length a) ≡ false) where
   kept-at : (i : ℕ) → i < length a → Inside n (kept_at a b m i)
   kept-at i h =
-      let t = or_false _ _ (none-at (bad_ends n a b) (length a) i h ok) in
-      let o = or_false _ _ t.1 in
+      let t = or-false _ _ (none-at (bad_ends n a b) (length a) i h ok) in
+      let o = or-false _ _ t.1 in
       let x : get_or a i 0 < n = leb-false n (get_or a i 0) o.0 in
       let y : get_or b i 0 < n = leb-false n (get_or b i 0) o.1 in
       go (get_or a i 0) (get_or b i 0) (eqb-false _ _ t.0) x y (dec_lt (get_or a i 0) (get_or b i 0))
@@ -141,7 +141,7 @@ module _ (n : ℕ) (a b : List ℕ) (m : List Float) (ok : some (bad_ends n a b)
 
   -- by their columns
   pub kept-inside : (e : ℕ) → e < length (kept a b m)
-      → (get_or (kept_early a b m) e 0 < get_or (kept_late a b m) e 0) × (get_or (kept_late a b m) e 0 < n)
+      → (get_or (keptEarly a b m) e 0 < get_or (keptLate a b m) e 0) × (get_or (keptLate a b m) e 0 < n)
   kept-inside e h =
       let z : Kept = record { early = 0; late = 0; magnitude = nan; place = 0 } in
       let k = kept-each (length a) (omega arith) z e h in

@@ -7,15 +7,15 @@ use Rattle.std.specs.Float.Ieee.Positive.{positive}
 use Rattle.std.proofs.lemmas.Bool.{eqb-false, not-false}
 use Rattle.limits.specs.declared.Caller.{Caller}
 use Rattle.limits.specs.Limits.{most_window}
-use Rattle.list_laws.specs.Laws.Search.{or_false, none-at}
+use Rattle.list_laws.specs.Laws.Search.{or-false, none-at}
 use Rattle.transfer_matrix.specs.Job.{window_of}
 use Rattle.transfer_matrix.specs.Room as Room
-use Rattle.refusals.specs.Edges.{kept, window_from, kept_early, kept_late}
+use Rattle.refusals.specs.Edges.{kept, windowFrom, keptEarly, keptLate}
 use Rattle.refusals.specs.Key.{Key}
 use Rattle.refusals.specs.Request.{Request, Source, lent, house, job_request, call_request, correlation_request, outside, bad_ends, bad_factor_list, passes}
 use Rattle.refusals.specs.Refusal.{checks, refusal, of_graph, of_kept, of_job, of_lists, of_sweeps, of_correlations, housed, sourced}
 use Rattle.refusals.specs.Laws.First.{unless, passed-at}
-use Rattle.refusals.specs.Laws.Later.{and_true, or_else, both-passed, is_in_order, refusal_in_parts, answerable, is_among}
+use Rattle.refusals.specs.Laws.Later.{and-true, or_else, both-passed, is_in_order, refusal_in_parts, answerable, is_among}
 use Rattle.refusals.specs.Accepted.{AcceptedBetas}
 use Rattle.refusals.specs.Laws.Accepted.{accepted-graph}
 use Rattle.refusals.specs.AcceptedJob.{buffers_refusal, lists_refusal, AcceptedJob, AcceptedLists, AcceptedCorrelations}
@@ -38,7 +38,7 @@ module _ (caller : Caller) (n floor : ℕ) (a b : List ℕ) (m : List Float) (us
   pub correlations_in_parts : (source : Source) (A : Room.Arrangement) (list : List Float) (results work : ℕ) (unsound : Bool)
       → refusal (sourced source of_correlations) (correlation_request caller A n floor a b m us vs list results work unsound)
       ≡ or_else (refusal of_job (call_request caller n floor a b m us vs []))
-      (or_else (lists_refusal source A n (window_from floor a b m) (length (kept a b m)) us vs list results work) (cond unsound 14 0))
+      (or_else (lists_refusal source A n (windowFrom floor a b m) (length (kept a b m)) us vs list results work) (cond unsound 14 0))
   correlations_in_parts source A list results work unsound = go source
     where
       r : Request
@@ -46,7 +46,7 @@ module _ (caller : Caller) (n floor : ℕ) (a b : List ℕ) (m : List Float) (us
 
       go : (s : Source) → refusal (sourced s of_correlations) r
           ≡ or_else (refusal of_job (call_request caller n floor a b m us vs []))
-          (or_else (lists_refusal s A n (window_from floor a b m) (length (kept a b m)) us vs list results work) (cond unsound 14 0))
+          (or_else (lists_refusal s A n (windowFrom floor a b m) (length (kept a b m)) us vs list results work) (cond unsound 14 0))
       go lent = behind-job r of_lists refl refl
       go house = behind-job r (housed of_lists) refl refl
 
@@ -62,14 +62,14 @@ module _ (caller : Caller) (n floor : ℕ) (a b : List ℕ) (m : List Float) (us
       let q = call_request caller n floor a b m us vs betas in
       let graph = accepted-graph n floor a b m us vs betas (both-passed _ _ (sym (job_in_parts caller n floor a b m us vs betas) ∙ h)).0 in
       let apart : (i : ℕ) → i < length us → (eqb (get_or us i 0) (get_or vs i 0) ≡ false) × (outside n (get_or us i 0) (get_or vs i 0) ≡ false) = λ i l.
-      or_false _ _ (none-at (bad_ends n us vs) (length us) i l (passed-at of_job q h Key.pair_ends refl)) in
-      let inside : (i : ℕ) → i < length us → (leb n (get_or us i 0) ≡ false) × (leb n (get_or vs i 0) ≡ false) = λ i l. or_false _ _ (apart i l).1 in (
+      or-false _ _ (none-at (bad_ends n us vs) (length us) i l (passed-at of_job q h Key.pair_ends refl)) in
+      let inside : (i : ℕ) → i < length us → (leb n (get_or us i 0) ≡ false) × (leb n (get_or vs i 0) ≡ false) = λ i l. or-false _ _ (apart i l).1 in (
         record {
           graph = graph.0;
           matched = graph.1.matched;
           few-pairs = graph.1.few-pairs;
-          wide = window-wide floor (kept_early a b m) (kept_late a b m);
-          narrow = ltb-false most_window (window_from floor a b m) (passed-at of_job q h Key.window refl);
+          wide = window-wide floor (keptEarly a b m) (keptLate a b m);
+          narrow = ltb-false most_window (windowFrom floor a b m) (passed-at of_job q h Key.window refl);
           near = passed-at of_job q h Key.near_edges refl;
           first-inside = λ i l. leb-false n (get_or us i 0) (inside i l).0;
           second-inside = λ i l. leb-false n (get_or vs i 0) (inside i l).1;
@@ -90,14 +90,14 @@ passes-positive (fin true m e) h = absurd (let z : ◌≡◌ {A = ℕ} 0 1 = cc 
 passes-positive (fin false zero e) h = absurd (none (0 * up (pos 0) * down e) (up e) (down (pos 0)) h)
   where
     none : (x y z : ℕ) → (ltb x (0 * y * z) && true) ≡ true → ⊥
-    none x y z h = omega (arith, ltb-true x (0 * y * z) (and_true (ltb x (0 * y * z)) true h).0, zero-mul y, zero-mul z)
+    none x y z h = omega (arith, ltb-true x (0 * y * z) (and-true (ltb x (0 * y * z)) true h).0, zero-mul y, zero-mul z)
 passes-positive (fin false (suc m) e) h = lt→ltb 0 (suc m) (omega arith)
 
 -- what 10 passes
 pub accepted-factors : (factors : List Float) (count : ℕ) → bad_factor_list factors count ≡ false
     → (length factors ≡ count) × ((e : ℕ) → e < count → passes (get_or factors e nan) ≡ true)
 accepted-factors factors count h =
-    let f = or_false (not (eqb (length factors) count)) _ h in
+    let f = or-false (not (eqb (length factors) count)) _ h in
     let all : length factors ≡ count = eqb-true _ _ (not-false _ f.0) in
     (all, λ e l. not-false _ (none-at (λ i. not (passes (get_or factors i nan))) (length factors) e (omega (arith, all)) f.1))
 

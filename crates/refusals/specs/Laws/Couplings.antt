@@ -1,13 +1,13 @@
 -- The couplings by beta and edge, and 23 of all of them.
 use Rattle.std.specs.Prelude.{◌≡◌, refl, Bool, true, false, not, List, ℕ, ◌+◌, ◌*◌, ◌/◌, ◌%◌, ◌≤◌, ◌<◌, eqb, Float, length, get_or}
-use Rattle.std.proofs.Common.{sym, ap, ◌∙◌, true≢false, add_zero, mul-zero, mul-le-mul_right, mod-eq_of_lt, mod-lt, div-lt_iff_lt-mul, arith, eq-eqb}
+use Rattle.std.proofs.Common.{sym, ap, ◌∙◌, true≢false, add-zero, mul-zero, mul-le-mul_right, mod-eq_of_lt, mod-lt, div-lt_iff_lt-mul, arith, eq-eqb}
 use Rattle.std.proofs.Math.Nat.{mul-add-div_right, mul-add-mod_self_right, div-eq_of_lt}
 use Rattle.std.proofs.Math.Decide.{dec_lt}
 use Rattle.std.specs.Float.{nan, binary64}
 use Rattle.std.specs.Float.Ieee.{mul}
 use Rattle.coupling_grid.specs.Grid.{off_grid}
 use Rattle.list_laws.specs.Search.{some}
-use Rattle.list_laws.specs.Laws.Search.{or_false, none-at, none_of}
+use Rattle.list_laws.specs.Laws.Search.{or-false, none-at, none_of}
 use Rattle.list_laws.specs.Laws.Tabulate.{tabulate-length, tabulate-at}
 use Rattle.refusals.specs.Couplings.{coupling_at, all_couplings}
 use Rattle.refusals.specs.Request.{bad_coupling_list}
@@ -17,7 +17,7 @@ module _ (betas mag : List Float) where
   pub coupling-is : (b e : ℕ) → e < length mag → mul binary64 (get_or betas b nan) (get_or mag e nan) ≡ coupling_at betas mag (b * length mag + e)
   coupling-is b e l =
       let some : 0 < length mag = omega arith in
-      let d : (b * length mag + e) / length mag ≡ b = mul-add-div_right some b e ∙ ap (λ (k : ℕ). b + k) (div-eq_of_lt l) ∙ add_zero b in
+      let d : (b * length mag + e) / length mag ≡ b = mul-add-div_right some b e ∙ ap (λ (k : ℕ). b + k) (div-eq_of_lt l) ∙ add-zero b in
       let m : (b * length mag + e) % length mag ≡ e = mul-add-mod_self_right b (length mag) e ∙ mod-eq_of_lt l in
       rw (d, m)
 
@@ -43,7 +43,7 @@ module _ (betas mag : List Float) where
   products-on h b e p l =
       let k = coupling-inside b e p l in
       ap off_grid (sym (all-at b e p l))
-      ∙ none-at (λ i. off_grid (get_or (all_couplings betas mag) i nan)) (length (all_couplings betas mag)) (b * length mag + e) (omega (arith, all-length)) (or_false (not (eqb (length (all_couplings betas mag)) (length betas * length mag))) _ h).1
+      ∙ none-at (λ i. off_grid (get_or (all_couplings betas mag) i nan)) (length (all_couplings betas mag)) (b * length mag + e) (omega (arith, all-length)) (or-false (not (eqb (length (all_couplings betas mag)) (length betas * length mag))) _ h).1
 
   pub good_rows : ((b : ℕ) → b < length betas → some (off_of b) (length mag) ≡ false) → false ≡ bad
   good_rows h = rw (eq-eqb _ _ all-length) (sym (none_of _ _ (λ k l. at k (omega (arith, all-length)))))

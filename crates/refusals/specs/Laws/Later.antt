@@ -1,7 +1,7 @@
 -- A call that applies its checks in parts, each part after those before it: the graph's checks and one more, or a job's and its lists'.
 use Rattle.std.specs.Prelude.{◌≡◌, refl, Bool, true, false, cond, not, ◌||◌, ◌&&◌, List, [], ◌∷◌, ◌++◌, ℕ, zero, suc, ◌<◌, eqb, Float}
 use Rattle.std.proofs.Common.{sym, ap, ◌∙◌, arith, eq-eqb}
-use Rattle.std.proofs.Math.Bool.{or_true}
+use Rattle.std.proofs.Math.Bool.{or-true}
 use Rattle.list_laws.specs.Search.{some}
 use Rattle.refusals.specs.Key.{Key, same, among}
 use Rattle.refusals.specs.Request.{Request, graph_request, distance_request, outside}
@@ -39,9 +39,9 @@ abbrev pub answerable : {A : Type 0} → List (Check A) → List Key → ℕ →
 answerable [] concerned k = false
 answerable (c ∷ cs) concerned k = (among concerned c.key && eqb c.number k) || answerable cs concerned k
 
-pub and_true : (a b : Bool) → (a && b) ≡ true → (a ≡ true) × (b ≡ true)
-and_true true b h = (refl, h)
-and_true false b h = absurd (let z : ◌≡◌ {A = ℕ} 0 1 = cc in omega arith)
+pub and-true : (a b : Bool) → (a && b) ≡ true → (a ≡ true) × (b ≡ true)
+and-true true b h = (refl, h)
+and-true false b h = absurd (let z : ◌≡◌ {A = ℕ} 0 1 = cc in omega arith)
 
 among-both : (front back : List Key) (k : Key) → among (front ++ back) k ≡ (among front k || among back k)
 among-both [] back k = refl
@@ -72,7 +72,7 @@ module _ {A : Type 0} (concerned : List Key) (r : A) where
           → ((p && eqb c.number (cond (p && t) c.number (first cs concerned r)))
           || answerable cs concerned (cond (p && t) c.number (first cs concerned r))) ≡ true
       go true true h ih = rw (eq-eqb c.number c.number refl)
-      go true false h ih = rw (ih h, or_true (eqb c.number (first cs concerned r)))
+      go true false h ih = rw (ih h, or-true (eqb c.number (first cs concerned r)))
       go false t h ih = ih h
 
 -- the checks of `front`, and where none of them fits those of `back`
@@ -80,7 +80,7 @@ pub in_parts : {A : Type 0} (cs : List (Check A)) (front back : List Key) (r : A
     → first cs (front ++ back) r ≡ or_else (first cs front r) (first cs back r)
 in_parts [] front back r numbered h = refl
 in_parts (c ∷ cs) front back r numbered h =
-    let p = and_true _ (is_in_order cs front back) h in
+    let p = and-true _ (is_in_order cs front back) h in
     rw (among-both front back c.key)
     (go (among front c.key) (among back c.key) (c.fits r) c.number numbered.0 p.0
     (in_parts cs front back r numbered.1 p.1))

@@ -7,7 +7,7 @@ use Rattle.std.specs.Float.{nan, inf, fin, Format, binary32, binary64}
 use Rattle.std.specs.Float.Ieee.{up, down, unlike, round, neg, sum, add, mul}
 use Rattle.std.specs.Float.Ieee.Fits.{up_pos, down_pos}
 use Rattle.std.specs.Float.Ieee.Scale.{round_same}
-use Rattle.rounding.specs.Laws.Commute.{and_true, and_false, sum_commutes, product_commutes}
+use Rattle.rounding.specs.Laws.Commute.{and-true, and-false, sum_commutes, product_commutes}
 use Rattle.rounding.specs.Laws.Negation.{round_neg}
 use Rattle.rounding.specs.Alike.{Alike, same, zeros}
 
@@ -107,13 +107,13 @@ unlike_neg f s t a b c p =
     (λ l. rw (lt-ltb a b l) (alike_is (round_neg f t (b - a) c)))
     (λ l.
     dite (dec_lt b a)
-    (λ m. rw (le-ltb a b (omega arith), lt-ltb b a m, and_true s, and_true (not s)) (alike_is (round_neg f s (a - b) c)))
+    (λ m. rw (le-ltb a b (omega arith), lt-ltb b a m, and-true s, and-true (not s)) (alike_is (round_neg f s (a - b) c)))
     (λ m.
     rw (
       le-ltb a b (omega arith),
       le-ltb b a (omega arith),
-      and_false s,
-      and_false (not s),
+      and-false s,
+      and-false (not s),
       round_neg f false (a - b) c,
       round_nought f true (a - b) c (omega arith) p,
       round_nought f false (a - b) c (omega arith) p,

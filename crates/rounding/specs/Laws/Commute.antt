@@ -6,13 +6,13 @@ use Rattle.std.proofs.Math.Decide.{dec_lt}
 use Rattle.std.specs.Float.{nan, inf, fin, Format}
 use Rattle.std.specs.Float.Ieee.{unlike, up, down, round, add, sum, mul}
 
-pub and_true : (s : Bool) → (s && true) ≡ s
-and_true true = refl
-and_true false = refl
+pub and-true : (s : Bool) → (s && true) ≡ s
+and-true true = refl
+and-true false = refl
 
-pub and_false : (s : Bool) → (s && false) ≡ false
-and_false true = refl
-and_false false = refl
+pub and-false : (s : Bool) → (s && false) ≡ false
+and-false true = refl
+and-false false = refl
 
 -- numbers of unlike signs
 unlike_comm : (f : Format) (s t : Bool) (a b c : ℕ)
@@ -20,11 +20,11 @@ unlike_comm : (f : Format) (s t : Bool) (a b c : ℕ)
     ≡ cond (ltb b a) (round f s (a - b) c) (round f (t && ltb a b) (b - a) c)
 unlike_comm f s t a b c =
     dite (dec_lt a b)
-    (λ l. rw (lt-ltb a b l, le-ltb b a (omega arith), and_true t))
+    (λ l. rw (lt-ltb a b l, le-ltb b a (omega arith), and-true t))
     (λ l.
     dite (dec_lt b a)
-    (λ m. rw (lt-ltb b a m, le-ltb a b (omega arith), and_true s))
-    (λ m. let e : a ≡ b = omega arith in rw (le-ltb a b (omega arith), le-ltb b a (omega arith), and_false s, and_false t, e)))
+    (λ m. rw (lt-ltb b a m, le-ltb a b (omega arith), and-true s))
+    (λ m. let e : a ≡ b = omega arith in rw (le-ltb a b (omega arith), le-ltb b a (omega arith), and-false s, and-false t, e)))
 
 sum_comm : (f : Format) (s : Bool) (a : ℕ) (t : Bool) (b c : ℕ) → sum f s a t b c ≡ sum f t b s a c
 unfolding sum

@@ -1,5 +1,5 @@
 -- Laws of what specs/Powers defines.
-use Rattle.std.proofs.Common.{◌∙◌, subst, le_trans, le_of_eq, mul_one}
+use Rattle.std.proofs.Common.{◌∙◌, subst, le_trans, le_of_eq, mul-one}
 use Rattle.std.specs.Prelude.{ℕ, ◌*◌, ◌^◌, ◌≤◌, ◌<◌, T, Float}
 use Rattle.std.specs.Float.{Format, binary32, binary64}
 use Rattle.std.specs.Float.Ieee.{prec, mul, div, fits}
@@ -62,7 +62,7 @@ chained_total f q s k n l h = record {
 pub chained_run : (f : Format) (c : ℕ → Float) (m : ℕ) → m ≤ 2 ^ prec f → Each m (λ j. Under (c j) unit)
     → Chained f (total f (λ j. fourth f (c j)) m) (total f (λ j. square f (c j)) m) m
 chained_run f c m l h =
-    let e = tally_const 1 m ∙ mul_one m in
+    let e = tally_const 1 m ∙ mul-one m in
     subst (λ (n : ℕ). Chained f (total f (λ j. fourth f (c j)) m) (total f (λ j. square f (c j)) m) n) e
     (chained_total f (λ j. fourth f (c j)) (λ j. square f (c j)) (λ _. 1) m (le_trans (le_of_eq e) l) (λ j b. chained_one f (h j b)))
 

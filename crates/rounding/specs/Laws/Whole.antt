@@ -1,6 +1,6 @@
 -- Laws of what specs/Whole defines.
 use Rattle.std.specs.Prelude.{◌≡◌, refl, ℕ, zero, suc, ◌+◌, ◌-◌, ◌*◌, ◌%◌, ◌^◌, ◌≤◌, ◌<◌, Bool, false, ◌&&◌, ℤ, pos, negsuc, T, leb, ltb, eqb, Float}
-use Rattle.std.proofs.Common.{sym, ap, ◌∙◌, subst, le_of_eq, not-le_of_lt, lt_of_not-le, le_of_suc-le-suc, zero-mul, one_mul, mul-pos, mul-lt-mul_of_pos_right, lt_of_mul-lt-mul_right, arith, leb→le, ltb→lt, pow-add, pow_pos}
+use Rattle.std.proofs.Common.{sym, ap, ◌∙◌, subst, le_of_eq, not-le_of_lt, lt_of_not-le, le_of_suc-le-suc, zero-mul, one-mul, mul-pos, mul-lt-mul_of_pos_right, lt_of_mul-lt-mul_right, arith, leb→le, ltb→lt, pow-add, pow_pos}
 use Rattle.std.proofs.Math.Pow.{pow-lt}
 use Rattle.std.specs.Float.{nan, inf, fin, Format, binary32, binary64}
 use Rattle.std.specs.Float.Ieee.{prec, emax, low, up, down, round, add, mul, fits}
@@ -24,7 +24,7 @@ scaled : (f : Format) (e : ℤ) → down e ≤ 2 ^ low f → (j : ℕ) × (up e 
 scaled f (pos k) h = (k + low f, omega (arith, pow-add 2 k (low f)))
 scaled f (negsuc k) h =
     let l : suc k ≤ low f = le_of_suc-le-suc (lt_of_not-le (λ (g : suc (low f) ≤ suc k). not-le_of_lt (pow-lt g) h)) in
-    (low f - suc k, one_mul (2 ^ low f) ∙ ap (λ (x : ℕ). 2 ^ x) (sym (back k (low f) l)) ∙ pow-add 2 (low f - suc k) (suc k))
+    (low f - suc k, one-mul (2 ^ low f) ∙ ap (λ (x : ℕ). 2 ^ x) (sym (back k (low f) l)) ∙ pow-add 2 (low f - suc k) (suc k))
 
 held : (f : Format) (m : ℕ) (e : ℤ) → m < 2 ^ prec f → down e ≤ 2 ^ low f → m * up e < 2 ^ suc (emax f) * down e
     → HasValue (round f false (m * up e) (down e)) false (m * up e) (down e)
@@ -65,7 +65,7 @@ unit_mul : (f : Format) (x : Float) → T (fits f x) → T (not_minus x) → Und
 unit_mul f x h p = record {
   sign = p;
   size = λ (k : T (finite x)).
-      let same = round_same f false (1 * num x) (1 * den x) (num x) (den x) (mul-pos (pow_pos 0) (den_pos x)) (den_pos x) (simp one_mul) in
+      let same = round_same f false (1 * num x) (1 * den x) (num x) (den x) (mul-pos (pow_pos 0) (den_pos x)) (den_pos x) (simp one-mul) in
       let is = mul_abs f unit x tt k ∙ same in
       within-abs (mul f unit x) x
       (value-within (abs (mul f unit x)) x (subst (λ (z : Float). HasValue z false (num x) (den x)) (sym is) (round_held f x h k)));

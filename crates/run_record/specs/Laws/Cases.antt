@@ -4,7 +4,7 @@ use Rattle.std.proofs.Common.{sym, ap, ◌∙◌, zero-mul, div-lt_iff_lt-mul, m
 use Rattle.std.proofs.Math.Decide.{dec_lt}
 use borrow.Author.Tests.{lt-ltb, le-ltb, eq-eqb, ne_eqb, eqb-true, eqb-false, ltb-false, not-false}
 use Rattle.limits.specs.Limits.{most_betas, most_pairs, most_samples, most_named}
-use Rattle.list_laws.specs.Laws.Search.{or_false}
+use Rattle.list_laws.specs.Laws.Search.{or-false}
 use Rattle.little_endian.specs.Words.{Bytes, word_at}
 use Rattle.little_endian.specs.Laws.Words.{word-at-below}
 use Rattle.refusals.specs.Request.{too_many_chunks}
@@ -87,9 +87,9 @@ pub record Good (h : Head) : Type 0 where
 pub good_head : (h : Head) → bad_head h ≡ false → Good h
 unfolding bad_head
 good_head h e =
-    let x = or_false _ (ltb most_samples (chunks_of h * h.samples)) e in
-    let y = or_false _ (ltb h.end h.start) x.0 in
-    let z = or_false (ltb most_betas h.betas) (ltb most_pairs h.pairs) y.0 in
+    let x = or-false _ (ltb most_samples (chunks_of h * h.samples)) e in
+    let y = or-false _ (ltb h.end h.start) x.0 in
+    let z = or-false (ltb most_betas h.betas) (ltb most_pairs h.pairs) y.0 in
     record { betas = ltb-false _ _ z.0; pairs = ltb-false _ _ z.1; range = ltb-false _ _ y.1; samples = ltb-false _ _ x.1 }
 
 pub head_good : (h : Head) → Good h → bad_head h ≡ false
@@ -169,10 +169,10 @@ pub record Passed (bytes : List ℕ) : Type 0 where
 pub passed : (bytes : List ℕ) → bad_record bytes ≡ false → Passed bytes
 unfolding bad_record
 passed bytes e =
-    let x₄ = or_false _ (bad_rows bytes (head_of bytes)) e in
-    let x₃ = or_false _ (not (eqb (length bytes) (record_length (head_of bytes)))) x₄.0 in
-    let x₂ = or_false _ (bad_head (head_of bytes)) x₃.0 in
-    let x₁ = or_false (ltb (length bytes) 32) (not (eqb (word_at bytes 0 1) 17)) x₂.0 in
+    let x₄ = or-false _ (bad_rows bytes (head_of bytes)) e in
+    let x₃ = or-false _ (not (eqb (length bytes) (record_length (head_of bytes)))) x₄.0 in
+    let x₂ = or-false _ (bad_head (head_of bytes)) x₃.0 in
+    let x₁ = or-false (ltb (length bytes) 32) (not (eqb (word_at bytes 0 1) 17)) x₂.0 in
     record {
       long = ltb-false _ _ x₁.0;
       kind = eqb-true _ _ (not-false _ x₁.1);

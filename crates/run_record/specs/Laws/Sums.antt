@@ -47,9 +47,9 @@ minus_zero_is n h = go (is_nan (of_bits binary64 n)) refl
         let z : nan ≡ of_bits binary64 n = is-nan (of_bits binary64 n) (subst T (sym e) tt) in
         ap is_minus_zero (sym z) ∙ nan_plain ∙ sym (ne_eqb n 0x8000_0000_0000_0000 (λ q. let f : false ≡ true = sym minus-is-number ∙ ap (λ (k : ℕ). is_nan (of_bits binary64 k)) (sym q) ∙ e in absurd (subst T (sym f) tt)))
 
-or_true : (a : Bool) → true ≡ (a || true)
-or_true true = refl
-or_true false = refl
+or-true : (a : Bool) → true ≡ (a || true)
+or-true true = refl
+or-true false = refl
 
 or_none : (a : Bool) → a ≡ (a || false || false)
 or_none true = refl
@@ -66,7 +66,7 @@ module _ (samples squares fourths : ℕ) (p : squares < 2 ^ 64) (q : fourths < 2
 
   pub minus-fourths : fourths ≡ 0x8000_0000_0000_0000 → true ≡ bad_sums samples (of_bits binary64 squares) (of_bits binary64 fourths)
   unfolding bad_sums
-  minus-fourths e = rw (minus_zero_is fourths q, eq-eqb fourths 0x8000_0000_0000_0000 e) (or_true (not (is_in_order (number samples) (of_bits binary64 squares) (of_bits binary64 fourths)) || is_minus_zero (of_bits binary64 squares)))
+  minus-fourths e = rw (minus_zero_is fourths q, eq-eqb fourths 0x8000_0000_0000_0000 e) (or-true (not (is_in_order (number samples) (of_bits binary64 squares) (of_bits binary64 fourths)) || is_minus_zero (of_bits binary64 squares)))
 
   pub ordered_or_bad : (squares ≡ 0x8000_0000_0000_0000 → ⊥) → (fourths ≡ 0x8000_0000_0000_0000 → ⊥)
       → not (is_in_order (number samples) (of_bits binary64 squares) (of_bits binary64 fourths)) ≡ bad_sums samples (of_bits binary64 squares) (of_bits binary64 fourths)

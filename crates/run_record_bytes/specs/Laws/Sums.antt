@@ -5,14 +5,14 @@ use Rattle.std.proofs.lemmas.Bool.{not-false}
 use Rattle.std.specs.Float.{nan, inf, fin, binary64}
 use Rattle.std.specs.Float.Ieee.{is_nan, le, lt, eq, of_bits, to_bits, fits}
 use Rattle.std.specs.Float.Ieee.Bits.{to_bits-of_bits, of_bits-fits, to_bits-lt, of_bits-to_bits}
-use Rattle.list_laws.specs.Laws.Search.{or_false}
+use Rattle.list_laws.specs.Laws.Search.{or-false}
 use Rattle.estimate.specs.Estimates.{number, is_in_order, +0·0}
 use Rattle.run_record.specs.Reading.{is_minus_zero, bad_sums}
 use Rattle.run_record_bytes.specs.Described.{Sums}
 
-and_true : (a b : Bool) → (a && b) ≡ true → (a ≡ true) × (b ≡ true)
-and_true true b h = (refl, h)
-and_true false b h = absurd (subst T (sym h) tt)
+and-true : (a b : Bool) → (a && b) ≡ true → (a ≡ true) × (b ≡ true)
+and-true true b h = (refl, h)
+and-true false b h = absurd (subst T (sym h) tt)
 
 -- nothing is at most a NaN
 no_nan_above : (x y : Float) → le x y ≡ true → T (not (is_nan y))
@@ -28,14 +28,14 @@ module _ (samples : ℕ) (squares fourths : Float) where
       → (is_in_order (number samples) squares fourths ≡ true) × (is_minus_zero squares ≡ false) × (is_minus_zero fourths ≡ false)
   unfolding bad_sums
   told e =
-      let x = or_false (not (is_in_order (number samples) squares fourths) || is_minus_zero squares) (is_minus_zero fourths) e in
-      let y = or_false (not (is_in_order (number samples) squares fourths)) (is_minus_zero squares) x.0 in
+      let x = or-false (not (is_in_order (number samples) squares fourths) || is_minus_zero squares) (is_minus_zero fourths) e in
+      let y = or-false (not (is_in_order (number samples) squares fourths)) (is_minus_zero squares) x.0 in
       (not-false _ y.0, y.1, x.1)
 
   pub in_order_parts : is_in_order (number samples) squares fourths ≡ true → (le +0·0 fourths ≡ true) × (le fourths squares ≡ true) × (le squares (number samples) ≡ true)
   in_order_parts e =
-      let x = and_true (le +0·0 fourths && le fourths squares) (le squares (number samples)) e in
-      let y = and_true (le +0·0 fourths) (le fourths squares) x.0 in
+      let x = and-true (le +0·0 fourths && le fourths squares) (le squares (number samples)) e in
+      let y = and-true (le +0·0 fourths) (le fourths squares) x.0 in
       (y.0, y.1, x.1)
 
   pub sums_good : Sums samples squares fourths → bad_sums samples squares fourths ≡ false

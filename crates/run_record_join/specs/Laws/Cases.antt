@@ -55,9 +55,9 @@ module _ (g h : Head) where
                 ne_eqb g.end h.start e,
               )
 
-and_true : (a b : Bool) → (a && b) ≡ true → (a ≡ true) × (b ≡ true)
-and_true true b h = (refl, h)
-and_true false b h = absurd (subst T (sym h) tt)
+and-true : (a b : Bool) → (a && b) ≡ true → (a ≡ true) × (b ≡ true)
+and-true true b h = (refl, h)
+and-true false b h = absurd (subst T (sym h) tt)
 
 -- what two heads have that are not apart
 pub record Together (g h : Head) : Type 0 where
@@ -70,10 +70,10 @@ pub record Together (g h : Head) : Type 0 where
 pub together : (g h : Head) → apart g h ≡ false → Together g h
 unfolding apart
 together g h e =
-    let x₄ = and_true _ (follows g h || follows h g) (not-false _ e) in
-    let x₃ = and_true _ (eqb g.pairs h.pairs) x₄.0 in
-    let x₂ = and_true _ (eqb g.betas h.betas) x₃.0 in
-    let x₁ = and_true (eqb g.seed h.seed) (eqb g.samples h.samples) x₂.0 in
+    let x₄ = and-true _ (follows g h || follows h g) (not-false _ e) in
+    let x₃ = and-true _ (eqb g.pairs h.pairs) x₄.0 in
+    let x₂ = and-true _ (eqb g.betas h.betas) x₃.0 in
+    let x₁ = and-true (eqb g.seed h.seed) (eqb g.samples h.samples) x₂.0 in
     record {
       seed = eqb-true _ _ x₁.0;
       samples = eqb-true _ _ x₁.1;
@@ -118,16 +118,16 @@ module _ (a b : List ℕ) (joined : ℕ) where
 
 -- ---- a call
 
-or_true : (a b : Bool) → b ≡ true → (a || b) ≡ true
-or_true true b e = refl
-or_true false b e = e
+or-true : (a b : Bool) → b ≡ true → (a || b) ≡ true
+or-true true b e = refl
+or-true false b e = e
 
 module _ (one two joined : List ℕ) where
   pub first-broken : bad_record one ≡ true → Joined one two 26 joined joined
   first-broken e = record { answer = rw e; bytes = rw e }
 
   pub second-broken : bad_record two ≡ true → Joined one two 26 joined joined
-  second-broken e = let o = or_true (bad_record one) (bad_record two) e in record { answer = rw o; bytes = rw o }
+  second-broken e = let o = or-true (bad_record one) (bad_record two) e in record { answer = rw o; bytes = rw o }
 
   module _ (p : bad_record one ≡ false) (q : bad_record two ≡ false) where
     pub set_apart : apart (head_of one) (head_of two) ≡ true → Joined one two 27 joined joined

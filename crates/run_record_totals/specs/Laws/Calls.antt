@@ -2,7 +2,7 @@
 use Rattle.std.specs.Prelude.{◌≡◌, true, false, not, List, ℕ, eqb, Float, length}
 use Rattle.std.proofs.Common.{eqb-true}
 use Rattle.std.proofs.lemmas.Bool.{not-false}
-use Rattle.list_laws.specs.Laws.Search.{or_false}
+use Rattle.list_laws.specs.Laws.Search.{or-false}
 use Rattle.refusals.specs.AcceptedTotals.{misfits}
 use Rattle.refusals.specs.declared.Answer.TheVariants.{Number, Refused}
 use Rattle.run_record.specs.Records.{per_chunk}
@@ -12,7 +12,7 @@ use Rattle.run_record_totals.specs.Totals.{total_squares, total_fourths, record_
 -- lists that do not misfit have the length that is wanted
 pub both_fit : (wanted squares fourths : ℕ) → misfits wanted squares fourths ≡ false → (squares ≡ wanted) × (fourths ≡ wanted)
 both_fit wanted squares fourths e =
-    let x = or_false (not (eqb squares wanted)) (not (eqb fourths wanted)) e in
+    let x = or-false (not (eqb squares wanted)) (not (eqb fourths wanted)) e in
     (eqb-true _ _ (not-false _ x.0), eqb-true _ _ (not-false _ x.1))
 
 module _ (bytes : List ℕ) (squares fourths : List Float) where

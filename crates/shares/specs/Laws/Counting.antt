@@ -3,10 +3,10 @@ use Rattle.std.specs.Prelude.{◌≡◌, Bool, ◌||◌}
 use Rattle.std.proofs.Math.Path.{refl}
 use Rattle.std.proofs.Math.Bool.{true, false, cond}
 use Prim.Native.Nat.{ℕ, zero, suc, ◌+◌, ◌≤◌, ◌<◌}
-use Rattle.std.proofs.Common.{add_zero, add-suc, add-one, arith}
+use Rattle.std.proofs.Common.{add-zero, add-suc, add-one, arith}
 use Rattle.list_laws.specs.Count.{count}
 use Rattle.list_laws.specs.Search.{some}
-use Rattle.list_laws.specs.Laws.Search.{or_false}
+use Rattle.list_laws.specs.Laws.Search.{or-false}
 use Rattle.list_laws.specs.Laws.Count.{count_most}
 
 module _ (test : ℕ → Bool) where
@@ -20,7 +20,7 @@ module _ (test : ℕ → Bool) where
 
   pub count_run : (m n : ℕ) → count test (m + n) ≡ count test m + count (λ i. test (m + i)) n
   unfolding count
-  count_run m zero = rw (add_zero m) (omega arith)
+  count_run m zero = rw (add-zero m) (omega arith)
   count_run m (suc n) = rw (add-suc, count_run m n) (omega arith)
 
 -- where one of three tests passes at each index, their counts add up to all
@@ -44,7 +44,7 @@ module _ (test : ℕ → Bool) where
   none-counted : (n : ℕ) → some test n ≡ false → count test n ≡ 0
   unfolding count some
   none-counted zero h = refl
-  none-counted (suc n) h = let (p, q) = or_false (some test n) (test n) h in rw (none-counted n p, q)
+  none-counted (suc n) h = let (p, q) = or-false (some test n) (test n) h in rw (none-counted n p, q)
 
   pub count-some : (n : ℕ) → (count test n ≡ 0 → ⊥) → some test n ≡ true
   count-some n h = go (some test n) (none-counted n)

@@ -6,7 +6,7 @@ use Rattle.std.proofs.Common.{add-one, eqb-true, ltb-false}
 use native.Mathlib.Omega.{arith}
 use Rattle.std.proofs.lemmas.Bool.{eqb-false, not-false}
 use Rattle.list_laws.specs.Search.{some}
-use Rattle.list_laws.specs.Laws.Search.{or_false, none-at}
+use Rattle.list_laws.specs.Laws.Search.{or-false, none-at}
 use Rattle.shares.specs.Shares.{most_lists, most_entries, bad_length, start_of, bad_lists}
 
 module _ (lengths : List ℕ) where
@@ -20,7 +20,7 @@ module _ (lengths : List ℕ) where
 
 pub good_length : (n : ℕ) → bad_length n ≡ false → (0 < n) × (n ≤ most_entries)
 good_length n h =
-    let (p, q) = or_false (eqb n 0) (ltb most_entries n) h in
+    let (p, q) = or-false (eqb n 0) (ltb most_entries n) h in
     let z = eqb-false n 0 p in
     (omega arith, ltb-false most_entries n q)
 
@@ -43,9 +43,9 @@ module _ (lengths : List ℕ) where
         let none = eqb (length lengths) 0 in
         let many = ltb most_lists (length lengths) in
         let wrong = some (λ k. bad_length (get_or lengths k 0)) (length lengths) in
-        let (r, d) = or_false (none || many || wrong) (not (eqb (start_of lengths (length lengths)) lent)) g in
-        let (q, c) = or_false (none || many) wrong r in
-        let (a, b) = or_false none many q in
+        let (r, d) = or-false (none || many || wrong) (not (eqb (start_of lengths (length lengths)) lent)) g in
+        let (q, c) = or-false (none || many) wrong r in
+        let (a, b) = or-false none many q in
         (eqb-false (length lengths) 0 a, ltb-false most_lists (length lengths) b, c, eqb-true (start_of lengths (length lengths)) lent (not-false _ d))
 
     each : (k : ℕ) → k < length lengths → (0 < get_or lengths k 0) × (get_or lengths k 0 ≤ most_entries)

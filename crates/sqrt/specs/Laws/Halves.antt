@@ -1,6 +1,6 @@
 -- A root in halves of the last place that is kept, and that the definition's numbers are such.
 use Rattle.std.specs.Prelude.{◌≡◌, ℕ, zero, suc, ◌+◌, ◌-◌, ◌*◌, ◌/◌, ◌%◌, ◌^◌, ◌≤◌, ◌<◌, Bool, true, false, not, T, leb}
-use Rattle.std.proofs.Common.{sym, ap, ◌∙◌, inl, inr, le_trans, le_of_eq, lt_of_lt_of_le, lt_of_not-le, lt_irrefl, eq-or-lt_of_le, pow-suc, mul_one, one_mul, mul-pos, mul_assoc, mul-le-mul_left, mul-le-mul_right, le-div_iff_mul-le, div-lt_iff_lt-mul, arith, leb→le, lit≤, pow-add, pow_pos, pow_mono}
+use Rattle.std.proofs.Common.{sym, ap, ◌∙◌, inl, inr, le_trans, le_of_eq, lt_of_lt_of_le, lt_of_not-le, lt_irrefl, eq-or-lt_of_le, pow-suc, mul-one, one-mul, mul-pos, mul_assoc, mul-le-mul_left, mul-le-mul_right, le-div_iff_mul-le, div-lt_iff_lt-mul, arith, leb→le, lit≤, pow-add, pow_pos, pow_mono}
 use Rattle.std.proofs.Math.Nat.{eq_of_mul-eq-mul_right}
 use Rattle.std.proofs.Math.Dec.{nleb→lt}
 use Rattle.std.specs.Float.{Format, binary32, binary64}
@@ -38,11 +38,11 @@ no_square : (p h m a b : ℕ) → h % 2 ≡ 1 → p ≤ h → m < p → h * h * 
 no_square p h m a b o l s e = go (leb a b) (leb→le a b) (nleb→lt a b)
   where
     even : (d : ℕ) → h * h ≡ m * 2 ^ d → ⊥
-    even zero q = too_long p h m l s (le_of_eq (q ∙ mul_one m))
+    even zero q = too_long p h m l s (le_of_eq (q ∙ mul-one m))
     even (suc d) q = odd_no h (m * 2 ^ d) o (q ∙ ap (λ (z : ℕ). m * z) (pow-suc 2 d) ∙ sym (mul_assoc m (2 ^ d) 2))
 
     at-most : (x y z : ℕ) → 0 < y → x * y ≡ z → x ≤ z
-    at-most x y z Y q = le_trans (le_of_eq (sym (mul_one x))) (le_trans (mul-le-mul_left x Y) (le_of_eq q))
+    at-most x y z Y q = le_trans (le_of_eq (sym (mul-one x))) (le_trans (mul-le-mul_left x Y) (le_of_eq q))
 
     go : (t : Bool) → (T t → a ≤ b) → (T (not t) → b < a) → ⊥
     go true g k = even (b - a) (eq_of_mul-eq-mul_right (2 ^ a) (pow_pos a) (h * h) (m * 2 ^ (b - a)) (e ∙ shifted m a b (g tt)))
@@ -77,7 +77,7 @@ module _ (f : Format) (m i : ℕ) (M : 0 < m) (S : m < 2 ^ prec f) where
   large : 2 ^ suc (suc (low f)) ≤ s
   large =
       let p = 2 ^ (i + suc (suc (low f))) in
-      le_trans (pow_mono (omega arith)) (le_trans (le_of_eq (sym (one_mul p))) (le_trans (mul-le-mul_right p M) (le_of_eq (sym s-is))))
+      le_trans (pow_mono (omega arith)) (le_trans (le_of_eq (sym (one-mul p))) (le_trans (mul-le-mul_right p M) (le_of_eq (sym s-is))))
 
   long-enough : suc (suc (low f)) < size s
   long-enough = lt_of_not-le (λ (g : size s ≤ suc (suc (low f))). lt_irrefl s (lt_of_lt_of_le (size-lt s) (le_trans (pow_mono g) large)))

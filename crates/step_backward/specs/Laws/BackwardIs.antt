@@ -4,7 +4,7 @@ use Rattle.std.proofs.Math.Path.{refl}
 use Rattle.std.proofs.Common.{◌∙◌}
 use Rattle.std.proofs.Math.Logic.{dite}
 use Rattle.std.proofs.Math.Decide.{dec_lt}
-use Rattle.std.proofs.Math.Nat.{add_zero}
+use Rattle.std.proofs.Math.Nat.{add-zero}
 use native.Mathlib.Omega.{arith}
 use Rattle.std.specs.Float.{nan}
 use Rattle.list_laws.specs.Tabulate.{tabulate}
@@ -80,7 +80,7 @@ module _ (s : Step Float) (sc : Float) (t : Tables) (a : Tabled s sc t) (w : ℕ
   unfolding backward_rule mix
   few-entry wide short j b =
       let p = pattern_zero t.bits t.count in
-      let zero : src + 0 ≡ src = add_zero src in
+      let zero : src + 0 ≡ src = add-zero src in
       dite (dec_lt w 2)
       (λ l.
       let e : w ≡ 1 = omega arith in

@@ -1,7 +1,7 @@
 -- A part that a loop fills from both ends towards the middle: the laws that such a loop and its caller ask for.
 use Rattle.std.specs.Prelude.{◌≡◌, refl, ℕ, ◌+◌, ◌*◌, ◌-◌, ◌≤◌, ◌<◌, get_or, set}
 use Rattle.std.proofs.Math.Path.{ap}
-use Rattle.std.proofs.Common.{◌∙◌, add_zero}
+use Rattle.std.proofs.Common.{◌∙◌, add-zero}
 use mathlib.Core.List.{List}
 use native.Mathlib.Omega.{arith}
 use Rattle.std.proofs.Math.ListN.{length}
@@ -21,7 +21,7 @@ module _ {A : Type 0} where
   store : (d : List A) (at : ℕ) (a : A) → at < length d → set d at a ≡ put d at (tabulate (λ _. a) 1)
   store d at a h =
       ap (λ (l : List A). set l at a) (fill_none d at (λ _. a))
-      ∙ rw (add_zero at) at (fill_one d at (λ _. a) 0 a (omega arith) refl)
+      ∙ rw (add-zero at) at (fill_one d at (λ _. a) 0 a (omega arith) refl)
 
   -- a run of a rule before another
   before : (d : List A) (at : ℕ) (f g h : ℕ → A) (m n : ℕ) → at + m + n ≤ length d → ((i : ℕ) → i < m → f i ≡ h i) → ((i : ℕ) → i < n → g i ≡ h (m + i))

@@ -1,7 +1,7 @@
 -- The forward rule over the tables is the rule of the laws of halves.
 use Rattle.std.specs.Prelude.{◌≡◌, List, ℕ, ◌+◌, ◌-◌, ◌/◌, ◌^◌, ◌≤◌, ◌<◌, get_or, Float}
 use Rattle.std.proofs.Common.{ap, ◌∙◌}
-use Rattle.std.proofs.Math.Nat.{add_zero}
+use Rattle.std.proofs.Math.Nat.{add-zero}
 use native.Mathlib.Omega.{arith}
 use Rattle.std.specs.Float.{nan}
 use Rattle.list_laws.specs.Tabulate.{tabulate}
@@ -50,7 +50,7 @@ module _ (s : Step Float) (sc : Float) (t : Tables) (a : Tabled s sc t) (w : ℕ
   few-entry sem sep p q l j b =
       let k : j / 2 ≡ 0 = omega arith in
       let i : src + (half - 1 - 0) ≡ src + half - 1 = omega arith in
-      rw (p, q, k, pattern_zero t.bits t.count, add_zero src, i)
+      rw (p, q, k, pattern_zero t.bits t.count, add-zero src, i)
 
   pub few-is : (sem sep : Float) → sem ≡ sign t.em → sep ≡ sign t.ep → half ≤ 2 → tabulate (few sem sep) half ≡ tabulate whole half
   few-is sem sep p q l = rw (tabulate_ext (few sem sep) made half (few-entry sem sep p q l)) forward-is

@@ -2,14 +2,14 @@
 use Rattle.std.specs.Prelude.{◌≡◌, refl, false, ◌||◌, ℕ, zero, suc, ◌+◌, ◌*◌, ◌/◌, ◌%◌, ◌≤◌, ◌<◌, eqb, ltb}
 use Rattle.std.proofs.Common.{mod-lt, div-lt_iff_lt-mul, mul_comm, mul-le-mul_right, mul-le-mul_left, arith, ltb-false}
 use Rattle.std.proofs.lemmas.Bool.{eqb-false}
-use Rattle.list_laws.specs.Laws.Search.{or_false}
+use Rattle.list_laws.specs.Laws.Search.{or-false}
 use Rattle.strip.specs.declared.strip.Strip.{Strip}
 use Rattle.strip.specs.Sides.{Sides, Site}
 
 pub sides_passed : (w l : ℕ) → (eqb w 0 || eqb l 0 || ltb 1024 (w * l)) ≡ false → Sides w l
 sides_passed w l h =
-    let p = or_false _ _ h in
-    let q = or_false _ _ p.0 in
+    let p = or-false _ _ h in
+    let q = or-false _ _ p.0 in
     record {
       wide = pos w (eqb-false _ _ q.0);
       long = pos l (eqb-false _ _ q.1);

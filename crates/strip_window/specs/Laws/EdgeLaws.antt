@@ -10,7 +10,7 @@ use Rattle.std.proofs.Math.ListN.{get_or-append, get_or-map}
 use Rattle.list_laws.specs.Search.{some}
 use Rattle.list_laws.specs.Laws.Search.{none_of}
 use Rattle.refusals.specs.Request.{joined_twice, same_ends}
-use Rattle.strip.specs.Laws.Tests.{and_true}
+use Rattle.strip.specs.Laws.Tests.{and-true}
 use Rattle.strip.specs.Vertices.{vertex}
 use Rattle.strip_bonds.specs.Edges.{Edge, edge, given, brick, rises, falls, has_next, across, wrap, along, rising, falling, rules, added, edges_below, edges, early_ends, late_ends}
 use Rattle.strip.specs.Requests.{odd_cylinder}
@@ -77,16 +77,16 @@ module _ (s : Strip) (S : Sides s.w s.l) (o : odd_cylinder s ≡ false) (x y : �
   unfolding across
   across_sorted T =
       sorted_given T (ltb (y + 1) s.w && brick s.kind x y) (edge (vertex s.w x y) (vertex s.w x (y + 1)))
-      (λ t. across-sound s S x y row column (ltb-true (y + 1) s.w (and_true (ltb (y + 1) s.w) (brick s.kind x y) t).0))
+      (λ t. across-sound s S x y row column (ltb-true (y + 1) s.w (and-true (ltb (y + 1) s.w) (brick s.kind x y) t).0))
 
   wrap_sorted : Sorted s (5 * vertex s.w x y + 1) es → Sorted s (5 * vertex s.w x y + 1 + 1) (es ++ wrap s x y)
   unfolding wrap
   wrap_sorted T =
       sorted_given T (s.periodic && eqb (y + 1) s.w && ltb 2 s.w && brick s.kind x y) (edge (vertex s.w x 0) (vertex s.w x y))
       (λ t.
-      let a = and_true (s.periodic && eqb (y + 1) s.w && ltb 2 s.w) (brick s.kind x y) t in
-      let b = and_true (s.periodic && eqb (y + 1) s.w) (ltb 2 s.w) a.0 in
-      let c = and_true s.periodic (eqb (y + 1) s.w) b.0 in
+      let a = and-true (s.periodic && eqb (y + 1) s.w && ltb 2 s.w) (brick s.kind x y) t in
+      let b = and-true (s.periodic && eqb (y + 1) s.w) (ltb 2 s.w) a.0 in
+      let c = and-true s.periodic (eqb (y + 1) s.w) b.0 in
       wrap-sound s S x y row column c.0 (eqb-true (y + 1) s.w c.1) (ltb-true 2 s.w b.1) a.1 o)
 
   along_sorted : Sorted s (5 * vertex s.w x y + 2) es → Sorted s (5 * vertex s.w x y + 2 + 1) (es ++ along s x y)
@@ -100,8 +100,8 @@ module _ (s : Strip) (S : Sides s.w s.l) (o : odd_cylinder s ≡ false) (x y : �
   rising_sorted T =
       sorted_given T (rises s && ltb (x + 1) s.l && has_next s y) (edge (vertex s.w x y) (vertex s.w (x + 1) ((y + 1) % s.w)))
       (λ t.
-      let a = and_true (rises s && ltb (x + 1) s.l) (has_next s y) t in
-      let b = and_true (rises s) (ltb (x + 1) s.l) a.0 in
+      let a = and-true (rises s && ltb (x + 1) s.l) (has_next s y) t in
+      let b = and-true (rises s) (ltb (x + 1) s.l) a.0 in
       rising-sound s S x y row column b.0 (ltb-true (x + 1) s.l b.1) a.1)
 
   falling_sorted : Sorted s (5 * vertex s.w x y + 4) es → Sorted s (5 * vertex s.w x y + 4 + 1) (es ++ falling s x y)
@@ -109,8 +109,8 @@ module _ (s : Strip) (S : Sides s.w s.l) (o : odd_cylinder s ≡ false) (x y : �
   falling_sorted T =
       sorted_given T (falls s && ltb (x + 1) s.l && has_next s y) (edge (vertex s.w x ((y + 1) % s.w)) (vertex s.w (x + 1) y))
       (λ t.
-      let a = and_true (falls s && ltb (x + 1) s.l) (has_next s y) t in
-      let b = and_true (falls s) (ltb (x + 1) s.l) a.0 in
+      let a = and-true (falls s && ltb (x + 1) s.l) (has_next s y) t in
+      let b = and-true (falls s) (ltb (x + 1) s.l) a.0 in
       falling-sound s S x y row column b.0 (ltb-true (x + 1) s.l b.1) a.1)
 
 -- ---- all sites
@@ -171,7 +171,7 @@ module _ (s : Strip) (S : Sides s.w s.l) (o : odd_cylinder s ≡ false) where
           go : (t : Bool) → same_ends (early_ends (edges s)) (late_ends (edges s)) j i ≡ t → t ≡ false
           go false q = refl
           go true q =
-              let a = and_true (eqb (get_or (early_ends (edges s)) i 0) (get_or (early_ends (edges s)) j 0)) (eqb (get_or (late_ends (edges s)) i 0) (get_or (late_ends (edges s)) j 0)) q in
+              let a = and-true (eqb (get_or (early_ends (edges s)) i 0) (get_or (early_ends (edges s)) j 0)) (eqb (get_or (late_ends (edges s)) i 0) (get_or (late_ends (edges s)) j 0)) q in
               let p : (get_or (edges s) i none).early ≡ (get_or (edges s) j none).early = sym (early-at i) ∙ eqb-true _ _ a.0 ∙ early-at j in
               let r : (get_or (edges s) i none).late ≡ (get_or (edges s) j none).late = sym (late-at i) ∙ eqb-true _ _ a.1 ∙ late-at j in
               let k : key s (get_or (edges s) i none) ≡ key s (get_or (edges s) j none) = rw (p, r) in

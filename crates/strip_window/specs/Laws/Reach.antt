@@ -10,7 +10,7 @@ use Rattle.std.proofs.Math.Dec.{ltb}
 use borrow.Author.Tests.{eq-eqb, ne_eqb, lt-ltb, le-ltb, eqb-true, ltb-true, ltb-false}
 use Rattle.strip.specs.Kinds.{is_honey, is_tri, is_eight}
 use Rattle.strip.specs.Vertices.{vertex}
-use Rattle.strip.specs.Laws.Tests.{and_true}
+use Rattle.strip.specs.Laws.Tests.{and-true}
 use Rattle.strip_bonds.specs.Edges.{Edge, edge, brick, rises, falls, has_next}
 use Rattle.strip.specs.Requests.{odd_cylinder}
 use Rattle.strip.specs.Sides.{Sides}
@@ -190,7 +190,7 @@ module _ (s : Strip) (S : Sides s.w s.l) (x y : ℕ) (row : y < s.w) (column : x
 
   -- the last vertex across has a next one only round a cylinder wider than 2
   round : has_next s y ≡ true → s.w ≤ y + 1 → (s.periodic ≡ true) × (2 < s.w)
-  round h l = let a = and_true s.periodic (ltb 2 s.w) (rw (le-ltb (y + 1) s.w l) at h) in (a.0, ltb-true 2 s.w a.1)
+  round h l = let a = and-true s.periodic (ltb 2 s.w) (rw (le-ltb (y + 1) s.w l) at h) in (a.0, ltb-true 2 s.w a.1)
 
   pub rising-sound : rises s ≡ true → x + 1 < s.l → has_next s y ≡ true
       → Sound s (5 * vertex s.w x y + 3) (edge (vertex s.w x y) (vertex s.w (x + 1) ((y + 1) % s.w)))

@@ -1,6 +1,6 @@
 -- Searches and sums over all configurations, chunk by chunk.
 use Rattle.std.specs.Prelude.{◌≡◌, refl, Bool, true, false, ◌||◌, List, ℕ, zero, suc, ◌+◌, ◌*◌, ◌^◌, ◌≤◌, Float}
-use Rattle.std.proofs.Common.{sym, ap, ◌∙◌, add_zero, zero-add, add-suc, suc-mul, zero-mul, pow_mono, arith}
+use Rattle.std.proofs.Common.{sym, ap, ◌∙◌, add-zero, zero-add, add-suc, suc-mul, zero-mul, pow_mono, arith}
 use Rattle.std.proofs.Math.Nat.{sub-zero}
 use Rattle.list_laws.specs.Search.{some}
 use Rattle.list_laws.specs.Tabulate.{tabulate}
@@ -21,7 +21,7 @@ or_none false = refl
 
 some_add : (U : ℕ → Bool) (m n : ℕ) → some U (m + n) ≡ (some U m || some (λ j. U (m + j)) n)
 unfolding some
-some_add U m zero = rw add_zero (sym (or_none (some U m)))
+some_add U m zero = rw add-zero (sym (or_none (some U m)))
 some_add U m (suc n) = rw (add-suc, some_add U m n) (or_assoc (some U m) (some (λ j. U (m + j)) n) (U (m + n)))
 
 -- what is found block by block

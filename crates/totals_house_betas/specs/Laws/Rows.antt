@@ -1,6 +1,6 @@
 -- The totals of one beta are a row of those of all.
 use Rattle.std.specs.Prelude.{◌≡◌, List, ℕ, ◌+◌, ◌*◌, ◌/◌, ◌%◌, ◌<◌, Float, length}
-use Rattle.std.proofs.Common.{ap, ◌∙◌, add_zero, mod-eq_of_lt, div-lt_iff_lt-mul, arith}
+use Rattle.std.proofs.Common.{ap, ◌∙◌, add-zero, mod-eq_of_lt, div-lt_iff_lt-mul, arith}
 use Rattle.std.proofs.Math.Nat.{mul-add-div_right, mul-add-mod_self_right, div-eq_of_lt}
 use Rattle.transfer_matrix.specs.Job.{Job}
 use Rattle.totals_configuration.specs.Powers.{correlation_at}
@@ -8,7 +8,7 @@ use Rattle.totals_house_betas.specs.Betas.{alone}
 
 -- number i of row b of so many columns
 pub row_of : (b i columns : ℕ) → i < columns → (b * columns + i) / columns ≡ b
-row_of b i columns l = mul-add-div_right (omega arith) b i ∙ ap (λ (k : ℕ). b + k) (div-eq_of_lt l) ∙ add_zero b
+row_of b i columns l = mul-add-div_right (omega arith) b i ∙ ap (λ (k : ℕ). b + k) (div-eq_of_lt l) ∙ add-zero b
 
 pub column-of : (b i columns : ℕ) → i < columns → (b * columns + i) % columns ≡ i
 column-of b i columns l = mul-add-mod_self_right b columns i ∙ mod-eq_of_lt l

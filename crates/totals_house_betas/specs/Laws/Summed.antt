@@ -1,6 +1,6 @@
 -- The first betas on their way: each was sound, and its row is written.
 use Rattle.std.specs.Prelude.{◌≡◌, refl, Bool, true, false, not, List, ℕ, ◌+◌, ◌*◌, ◌/◌, ◌%◌, ◌≤◌, ◌<◌, Float, length}
-use Rattle.std.proofs.Common.{sym, ap, ◌∙◌, zero-mul, one_mul, zero-add, arith}
+use Rattle.std.proofs.Common.{sym, ap, ◌∙◌, zero-mul, one-mul, zero-add, arith}
 use Rattle.std.proofs.Math.Path.{fun_ext}
 use Rattle.std.proofs.Math.Decide.{ℕ_discrete}
 use Rattle.list_laws.specs.Part.{put}
@@ -35,7 +35,7 @@ unsound-is false h = h
 -- the factors of one beta are enough for a job with one beta
 pub factors-of-one : (factors mag m betas : ℕ) → betas ≡ 1 → mag ≡ m → factors ≡ 2 * mag → mag ≤ 4096 → EnoughFactors factors m betas
 factors-of-one factors mag m betas e q f l =
-    let z : betas * m ≡ m = rw (e, one_mul) in
+    let z : betas * m ≡ m = rw (e, one-mul) in
     record { enough = omega arith; few = omega arith }
 
 -- rows of so many columns, from the front of a list
@@ -91,7 +91,7 @@ module _ (J : ℕ → ℕ → ℕ → Job Float) (us vs : List ℕ) (k : Chunks)
       → b * length us + length us ≤ length squares₀ → b * length us + length us ≤ length fourths₀
       → squares' ≡ put squares (b * length us) s → fourths' ≡ put fourths (b * length us) f → Summed (b + 1) squares₀ squares' fourths₀ fourths'
   summed-more b squares₀ squares squares' s fourths₀ fourths fourths' f one e g now p q fits fits' u v =
-      let m : one * length us ≡ length us = rw (e, one_mul) in
+      let m : one * length us ≡ length us = rw (e, one-mul) in
       record {
         sound = one_more SoundAt b g.sound now;
         squared = rows_more (total_at (square ieee)) (length us) squares₀ b squares squares' s _ g.squared (p ∙ ap (tabulate _) m) fits (row_is (square ieee) b) u;
@@ -153,7 +153,7 @@ module _ (J : ℕ → ℕ → Job Float) (us vs : List ℕ) (all : ℕ) where
       → s ≡ tabulate (λ k. correlation_at (alone (J (k % all)) b) us vs (k / all)) (one * length us * all) → b * (length us * all') + length us * all' ≤ length stored₀
       → stored' ≡ put stored (b * (length us * all')) s → StoredRows (b + 1) stored₀ stored'
   stored_more b stored₀ stored stored' s one all' e some q g now p fits u =
-      let m : one * length us * all ≡ length us * all = rw (e, one_mul) in
+      let m : one * length us * all ≡ length us * all = rw (e, one-mul) in
       record {
         sound = one_more SoundAll b g.sound now;
         filled = rows_more stored_at (length us * all) stored₀ b stored stored' s _ g.filled (p ∙ ap (tabulate _) m) (rw q at fits) (λ i l. stored_row J us vs all b i some l)

@@ -3,7 +3,7 @@ use Rattle.std.specs.Prelude.{◌≡◌, refl, Bool, true, false, cond, not, Lis
 use Rattle.std.proofs.Common.{sym, subst, ◌∙◌, mul-zero}
 use Rattle.std.proofs.Math.Path.{ap}
 use Prim.Native.Nat.{ℕ, zero, suc, ◌+◌, ◌-◌, ◌*◌, ◌≤◌, ◌<◌}
-use Rattle.std.proofs.Math.Nat.{add_zero}
+use Rattle.std.proofs.Math.Nat.{add-zero}
 use native.Mathlib.Omega.{arith}
 use Rattle.std.specs.Float.{nan}
 use Rattle.list_laws.specs.Front.{over}
@@ -52,7 +52,7 @@ module _ (n w : ℕ) (early late : List ℕ) (factors : List Float) (manner : Ma
   unfolding some
   alone-bad c =
       let one : h.start + c + 1 - (h.start + c) ≡ suc zero = omega arith in
-      let z : h.start + c + 0 ≡ h.start + c = add_zero _ in
+      let z : h.start + c + 0 ≡ h.start + c = add-zero _ in
       ap (some (λ i. some (λ j. unsound_betas (job_sampled n w early late factors manner h.seed (h.start + c + i) j) us vs h.betas) h.samples)) one
       ∙ ap (λ (i : ℕ). some (λ j. unsound_betas (job_sampled n w early late factors manner h.seed i j) us vs h.betas) h.samples) z
 

@@ -1,6 +1,6 @@
 -- Laws of what specs/Stored defines.
 use Rattle.std.specs.Prelude.{◌≡◌, Bool, false, List, ℕ, ◌+◌, ◌*◌, ◌/◌, ◌%◌, ◌≤◌, ◌<◌, Float, length, get_or, set}
-use Rattle.std.proofs.Common.{sym, ap, ◌∙◌, mul-le-mul_right, mul-le-mul_left, mul_one, mod-eq_of_lt, add_zero, div-lt_iff_lt-mul, mod-lt, div-add-mod', arith, get_or-set_same, get_or-set_other}
+use Rattle.std.proofs.Common.{sym, ap, ◌∙◌, mul-le-mul_right, mul-le-mul_left, mul-one, mod-eq_of_lt, add-zero, div-lt_iff_lt-mul, mod-lt, div-add-mod', arith, get_or-set_same, get_or-set_other}
 use Rattle.std.proofs.Math.Decide.{dec_lt}
 use Rattle.std.proofs.Math.Nat.{mul-add-div_right, mul-add-mod_self_right, div-eq_of_lt}
 use Rattle.std.specs.Float.{nan}
@@ -18,7 +18,7 @@ use Rattle.totals_stored.specs.Stored.{Stored}
 place-number : (all k y : ℕ) → y < all → (k * all + y) / all ≡ k
 place-number all k y l =
     let some : 0 < all = omega arith in
-    mul-add-div_right some k y ∙ ap (λ (j : ℕ). k + j) (div-eq_of_lt l) ∙ add_zero k
+    mul-add-div_right some k y ∙ ap (λ (j : ℕ). k + j) (div-eq_of_lt l) ∙ add-zero k
 
 place-configuration : (all k y : ℕ) → y < all → (k * all + y) % all ≡ y
 place-configuration all k y l = mul-add-mod_self_right k all y ∙ mod-eq_of_lt l
@@ -28,7 +28,7 @@ pub place_inside : (all m q x : ℕ) → q < m → x < all → q * all + x < m *
 place_inside all m q x l k = let h : (q + 1) * all ≤ m * all = mul-le-mul_right all (omega arith) in omega arith
 
 pub number_small : (all q x : ℕ) → x < all → q ≤ q * all + x
-number_small all q x k = let h : q * 1 ≤ q * all = mul-le-mul_left q (omega arith) in omega (arith, mul_one q)
+number_small all q x k = let h : q * 1 ≤ q * all = mul-le-mul_left q (omega arith) in omega (arith, mul-one q)
 
 module _ (value : ℕ → ℕ → Float) (all n : ℕ) where
   pub stored-none : (stored : List Float) → Stored value all n 0 0 stored

@@ -1,6 +1,6 @@
 -- What one store into a list of parents changes: a parent, and the number of links.
 use Rattle.std.specs.Prelude.{◌≡◌, List, [], ◌∷◌, ℕ, zero, suc, ◌+◌, ◌<◌, length, set}
-use Rattle.std.proofs.Common.{add_zero, zero-add, not-suc-le-zero, le_of_suc-le-suc, arith, length-set, get_or-set_same, get_or-set_other, eq-eqb, ne_eqb}
+use Rattle.std.proofs.Common.{add-zero, zero-add, not-suc-le-zero, le_of_suc-le-suc, arith, length-set, get_or-set_same, get_or-set_other, eq-eqb, ne_eqb}
 use Rattle.std.proofs.Math.Decide.{ℕ_discrete}
 use Rattle.union_find.specs.Forest.{parent, link, links}
 use Rattle.union_find.specs.Laws.Climb.{Own}
@@ -23,7 +23,7 @@ module _ (p : List ℕ) (x z : ℕ) where
 links-set : (p : List ℕ) (v x z : ℕ) → x < length p → links v (set p x z) + link (v + x) (parent p x) ≡ links v p + link (v + x) z
 unfolding links
 links-set [] v x z h = absurd (not-suc-le-zero h)
-links-set (y ∷ p) v zero z h = rw add_zero (omega arith)
+links-set (y ∷ p) v zero z h = rw add-zero (omega arith)
 links-set (y ∷ p) v (suc x) z h =
     let ih : links (suc v) (set p x z) + link (suc v + x) (parent p x) ≡ links (suc v) p + link (suc v + x) z =
     links-set p (suc v) x z (le_of_suc-le-suc h) in

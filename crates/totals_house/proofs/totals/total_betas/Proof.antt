@@ -2,7 +2,7 @@
 use mathlib.Core.Path.{◌≡◌, refl, sym, ◌∙◌, subst}
 use mathlib.Core.List.{List}
 use Prim.Native.Nat.{◌+◌, ◌-◌, ◌*◌, ◌≤◌}
-use native.Mathlib.Nat.{one_mul}
+use native.Mathlib.Nat.{one-mul}
 use native.Mathlib.Omega.{arith}
 use lib.Ieee.{Float}
 use lib.ListN.{length}
@@ -78,7 +78,7 @@ chunked-totals-requires c κs =
     let np = length c.before.before.before.before.before.before.before.before.before.before.before.before.before.before.before.before.before.before.before.before.before.before.before.before.before.before.before.before.before.before.before.before.args.us.now in
     let h = part_of l.b (length c.before.before.before.before.before.before.before.before.before.before.before.before.before.before.before.before.before.before.before.before.before.before.before.before.before.before.before.before.before.before.before.before.args.betas.now) np c.before.before.before.before.before.before.before.before.before.before.before.before.before.before.loop-test.true in
     let k : l.b * np + np - l.b * np ≡ np = omega arith in
-    let m : c.before.before.before.before.before.before.before.before.before.before.before.before.before.before.before.before.before.before.before.before.before.before.before.before.before.before.before.before.before.before.before.before.args.shape.betas * np ≡ np = rw (p.1, one_mul) in (
+    let m : c.before.before.before.before.before.before.before.before.before.before.before.before.before.before.before.before.before.before.before.before.before.before.before.before.before.before.before.before.before.before.before.before.args.shape.betas * np ≡ np = rw (p.1, one-mul) in (
       stage_with p.0 refl i.rooms i.results,
       factors-of-one _ _ _ _ p.1 p.3 (c.before.before.before.before.before.before.before.before.before.before.lay-beta.auto.1.1.1.0 ∙ i.laid ∙ p.5) p.4,
       record { matched = i.marks ∙ p.2.matched; bits_fit = p.2.bits_fit; fits = p.2.fits },

@@ -3,7 +3,7 @@ use mathlib.Core.Path.{◌≡◌, refl, sym, ap, ◌∙◌, subst}
 use mathlib.Core.Bool.{true, false}
 use mathlib.Core.List.{List}
 use Prim.Native.Nat.{ℕ, ◌+◌, ◌-◌, ◌*◌, ◌^◌, ◌≤◌, ◌<◌}
-use native.Mathlib.Nat.{one_mul, mul-le-mul}
+use native.Mathlib.Nat.{one-mul, mul-le-mul}
 use native.Mathlib.Omega.{arith}
 use lib.Ieee.{Float}
 use lib.ListN.{length}
@@ -85,7 +85,7 @@ row-length : (c : tie.In-loop invariant-loop decreases-loop)
     → let np = length c.before.before.before.before.before.before.before.before.before.before.before.before.before.before.before.before.args.us.now * c.before.before.pow2.result in c.before.loop.b * np + np - c.before.loop.b * np ≡ c.before.before.before.before.before.before.before.before.before.before.before.before.before.before.before.before.args.shape.betas * length c.before.before.before.before.before.before.before.before.before.before.before.before.before.before.before.before.args.us.now * 2 ^ c.before.before.before.before.before.before.before.before.before.before.before.before.before.before.before.before.args.free
 row-length c =
     let R = c.before.before.pow2.result in
-    let m : c.before.before.before.before.before.before.before.before.before.before.before.before.before.before.before.before.args.shape.betas * length c.before.before.before.before.before.before.before.before.before.before.before.before.before.before.before.before.args.us.now ≡ length c.before.before.before.before.before.before.before.before.before.before.before.before.before.before.before.before.args.us.now = rw (c.before.before.before.before.before.before.before.before.before.before.before.before.before.before.before.before.requires.1, one_mul) in
+    let m : c.before.before.before.before.before.before.before.before.before.before.before.before.before.before.before.before.args.shape.betas * length c.before.before.before.before.before.before.before.before.before.before.before.before.before.before.before.before.args.us.now ≡ length c.before.before.before.before.before.before.before.before.before.before.before.before.before.before.before.before.args.us.now = rw (c.before.before.before.before.before.before.before.before.before.before.before.before.before.before.before.before.requires.1, one-mul) in
     let k : c.before.loop.b * (length c.before.before.before.before.before.before.before.before.before.before.before.before.before.before.before.before.args.us.now * R) + length c.before.before.before.before.before.before.before.before.before.before.before.before.before.before.before.before.args.us.now * R - c.before.loop.b * (length c.before.before.before.before.before.before.before.before.before.before.before.before.before.before.before.before.args.us.now * R) ≡ length c.before.before.before.before.before.before.before.before.before.before.before.before.before.before.before.before.args.us.now * R = omega arith in
     k ∙ ap (λ i. length c.before.before.before.before.before.before.before.before.before.before.before.before.before.before.before.before.args.us.now * i) c.before.before.pow2.ensures ∙ ap (λ i. i * 2 ^ c.before.before.before.before.before.before.before.before.before.before.before.before.before.before.before.before.args.free) (sym m)
 

@@ -2,7 +2,7 @@ use mathlib.Core.Path.{◌≡◌, refl, ◌∙◌}
 use Prim.Native.Nat.{◌+◌, ◌-◌, ◌*◌, ◌<◌}
 use native.Mathlib.Omega.{arith}
 use lib.ListN.{length, length-set}
-use native.Mathlib.Nat.{add_zero, add_assoc}
+use native.Mathlib.Nat.{add-zero, add_assoc}
 use Rattle.totals_stored.specs.Laws.Stored.{Placing, place_inside, number_small, stored_more}
 use borrow.Author.Rules.{rules}
 use Rattle.totals_stored.proofs.configuration.store_results.Statement.{statement}
@@ -15,7 +15,7 @@ abbrev decreases-loop : tie.decreases-loop
 decreases-loop stored₀ all x first c p₀ stored p = length c - p
 
 loop-holds : tie.Need-loop-init invariant-loop decreases-loop
-loop-holds c = record { below = omega arith; long = refl; so_far = λ value n same g. rw (add_zero c.args.first) g }
+loop-holds c = record { below = omega arith; long = refl; so_far = λ value n same g. rw (add-zero c.args.first) g }
 
 add-stored : tie.Need-overflow-add-stored invariant-loop decreases-loop
 add-stored c =
