@@ -18,7 +18,7 @@ use Rattle.transfer_matrix.specs.Sweep.{Z, answer}
 use Rattle.exactness.specs.Exact.{rational, at_values}
 use Rattle.exactness.specs.Textbook.{textbook}
 use Rattle.refusals.specs.AcceptedJob.{AcceptedJob}
-use Rattle.refusals.specs.Edges.{kept, windowFrom, keptEarly, keptLate}
+use Rattle.refusals.specs.Edges.{kept, window_from, kept_early, kept_late}
 use Rattle.accuracy.specs.Apart.{Apart}
 use Rattle.accuracy.specs.Close.{Close}
 use Rattle.accuracy.specs.Stated.{within_powers, roundings_of, error_bound}
@@ -60,13 +60,13 @@ known (suc k) n w near factors x e = let apart = ap is_within e in absurd (omega
 
 -- the most near edges of a vertex of a call's graph
 abbrev pub near_of : (n floor : ℕ) → (a b : List ℕ) → List Float → ℕ
-near_of n floor a b m = most_near n (windowFrom floor a b m) (numbered (keptEarly a b m) (keptLate a b m))
+near_of n floor a b m = most_near n (window_from floor a b m) (numbered (kept_early a b m) (kept_late a b m))
 
 -- the factors are near one, and the bound is the definition's
 pub bound_known : (n floor : ℕ) (a b : List ℕ) (m betas factors : List Float) (signed : Bool) (x : Float) → error_bound_of n floor a b m betas factors signed ≡ Within x
-    → (near_one (most_bits (windowFrom floor a b m) (near_of n floor a b m)) factors ≡ true) × (x ≡ error_bound n (windowFrom floor a b m) (near_of n floor a b m))
+    → (near_one (most_bits (window_from floor a b m) (near_of n floor a b m)) factors ≡ true) × (x ≡ error_bound n (window_from floor a b m) (near_of n floor a b m))
 bound_known n floor a b m betas factors signed x e =
-    known (refusal of_error_bound (error_bound_request n floor a b m betas factors (factor_count signed (length betas) (length (kept a b m))))) n (windowFrom floor a b m)
+    known (refusal of_error_bound (error_bound_request n floor a b m betas factors (factor_count signed (length betas) (length (kept a b m))))) n (window_from floor a b m)
     (near_of n floor a b m) factors x e
 
 -- ---- a job of kept edges, whose factors are near one
@@ -74,13 +74,13 @@ bound_known n floor a b m betas factors signed x e =
 module _ (n floor : ℕ) (a b : List ℕ) (m : List Float) (us vs : List ℕ) (manner : Manner) (ok : AcceptedJob n floor a b m us vs) (factor : ℕ → Float)
     (sound : (e : ℕ) → e < length (kept a b m) → T (positive (factor e))) where
   abbrev early : List ℕ
-  early = keptEarly a b m
+  early = kept_early a b m
 
   abbrev late : List ℕ
-  late = keptLate a b m
+  late = kept_late a b m
 
   abbrev window : ℕ
-  window = windowFrom floor a b m
+  window = window_from floor a b m
 
   abbrev near : ℕ
   near = near_of n floor a b m
@@ -114,7 +114,7 @@ module _ (n floor : ℕ) (a b : List ℕ) (m : List Float) (us vs : List ℕ) (m
 
 -- few enough for the laws of totals
 pub roundings-short : (n floor : ℕ) (a b : List ℕ) (m : List Float) (us vs : List ℕ) → AcceptedJob n floor a b m us vs
-    → roundings_of n (windowFrom floor a b m) (near_of n floor a b m) ≤ 2 ^ 26
+    → roundings_of n (window_from floor a b m) (near_of n floor a b m) ≤ 2 ^ 26
 roundings-short n floor a b m us vs ok =
-    le_trans (roundings-few n (windowFrom floor a b m) (near_of n floor a b m) ok.graph.few-vertices ok.narrow
-    (near-four n (windowFrom floor a b m) (numbered (keptEarly a b m) (keptLate a b m)) ok.near)) (lit≤ tt)
+    le_trans (roundings-few n (window_from floor a b m) (near_of n floor a b m) ok.graph.few-vertices ok.narrow
+    (near-four n (window_from floor a b m) (numbered (kept_early a b m) (kept_late a b m)) ok.near)) (lit≤ tt)

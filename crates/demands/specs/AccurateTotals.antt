@@ -22,7 +22,7 @@ use Rattle.exactness.specs.Textbook.{textbook}
 use Rattle.bounds.specs.Bounds.{correlation-under}
 use Rattle.refusals.specs.Laws.AcceptedJob.{passes-positive}
 use Rattle.refusals.specs.AcceptedTotals.{AcceptedTotals}
-use Rattle.refusals.specs.Edges.{kept, windowFrom}
+use Rattle.refusals.specs.Edges.{kept, window_from}
 use Rattle.refusals.specs.Request.{signed_factors}
 use Rattle.accuracy.specs.Apart.{Apart}
 use Rattle.accuracy.specs.Close.{Close}
@@ -48,7 +48,7 @@ exactly J us vs i = textbook rational (at_values J) (get_or us i 0) (get_or vs i
 -- ---- how many roundings a correlation takes, in a call for this graph
 
 abbrev pub roundings : (n floor : ℕ) → (a b : List ℕ) → List Float → ℕ
-roundings n floor a b m = roundings_of n (windowFrom floor a b m) (near_of n floor a b m)
+roundings n floor a b m = roundings_of n (window_from floor a b m) (near_of n floor a b m)
 
 module _ (n floor : ℕ) (a b : List ℕ) (m : List Float) (us vs : List ℕ) (betas factors : List Float) (manner : Manner) (misfit : Bool) (work : ℕ)
     {A : Room.Arrangement} (ok : AcceptedTotals A n floor a b m us vs betas factors misfit work) (bound : Float) (answered : error_bound_of n floor a b m betas factors true ≡ Within bound) where
@@ -75,7 +75,7 @@ module _ (n floor : ℕ) (a b : List ℕ) (m : List Float) (us vs : List ℕ) (b
         (exactly (signed_job n floor a b m factors manner minus beta) us vs i) oneℚ
     unfolding configured
     signed-close sound i l =
-        let w = windowFrom floor a b m in
+        let w = window_from floor a b m in
         let near = near_of n floor a b m in
         let told = bound_known n floor a b m betas factors true bound answered in
         let count = edges_are in

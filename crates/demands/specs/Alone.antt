@@ -15,7 +15,7 @@ use Rattle.transfer_matrix.specs.Room.{earlier, later}
 use Rattle.transfer_matrix.specs.Rounded.{ieee}
 use Rattle.transfer_matrix.specs.Sweep as S
 use Rattle.transfer_matrix.specs.Totals.{square, fourth, enumerated, sampled}
-use Rattle.refusals.specs.Edges.{windowFrom}
+use Rattle.refusals.specs.Edges.{window_from}
 use Rattle.totals_configuration.specs.Powers.{correlation_at}
 use Rattle.totals_configuration.specs.Laws.Powers.{pair-numbered}
 use Rattle.entry_correlations.specs.Correlations.{manner_of, job_given}
@@ -90,7 +90,7 @@ module _ (n floor : ℕ) (a b : List ℕ) (m factors : List Float) (manner : Man
   pub job_in_use : job_given n floor a b m factors_in_use manner ≡ signed_job n floor a b m factors manner minus beta
   unfolding edges_with configured
   job_in_use =
-      ap (λ es. record { last = n - 1; window = windowFrom floor a b m; edges = es; manner = manner_of manner })
+      ap (λ es. record { last = n - 1; window = window_from floor a b m; edges = es; manner = manner_of manner })
       (tabulate_ext _ _ (length (early a b m))
       (λ e l. rw (tabulate-at (λ i. get_or factors (lent_at (length (early a b m)) beta i (minus i)) nan) (length (early a b m)) e nan l)))
 

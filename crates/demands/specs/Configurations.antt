@@ -13,7 +13,7 @@ use Rattle.refusals.specs.declared.Answer.{Answer}
 use Rattle.refusals.specs.declared.Answer.TheVariants.{Number, Refused}
 use Rattle.refusals.specs.AcceptedTotals.{AcceptedTotals}
 use Rattle.refusals.specs.Laws.AcceptedTotals.{accepted_enumeration}
-use Rattle.refusals.specs.Edges.{kept, windowFrom, keptEarly, keptLate}
+use Rattle.refusals.specs.Edges.{kept, window_from, kept_early, kept_late}
 use Rattle.refusals.specs.Key.{Key}
 use Rattle.refusals.specs.Laws.First.{passed-at}
 use Rattle.refusals.specs.Refusal.{refusal, of_enumeration}
@@ -57,10 +57,10 @@ module _ (betas np k : ℕ) (l : k < betas * np) where
 -- The kept edges' ends, and how many of them are free.
 module _ (a b : List ℕ) (m : List Float) where
   abbrev pub early : List ℕ
-  early = keptEarly a b m
+  early = kept_early a b m
 
   abbrev pub late : List ℕ
-  late = keptLate a b m
+  late = kept_late a b m
 
   abbrev pub free : ℕ
   free = free_count early late
@@ -68,15 +68,15 @@ module _ (a b : List ℕ) (m : List Float) where
 module _ (n floor : ℕ) (a b : List ℕ) (m factors : List Float) (manner : Manner) where
   -- The job at a beta, by the sign of each edge,
   abbrev pub signed_job : (ℕ → Bool) → ℕ → Job Float
-  signed_job = job_signed n (windowFrom floor a b m) (early a b m) (late a b m) factors (manner_of manner)
+  signed_job = job_signed n (window_from floor a b m) (early a b m) (late a b m) factors (manner_of manner)
 
   -- of a configuration,
   abbrev pub configuration : ℕ → ℕ → Job Float
-  configuration = job_enumerated n (windowFrom floor a b m) (early a b m) (late a b m) factors (manner_of manner)
+  configuration = job_enumerated n (window_from floor a b m) (early a b m) (late a b m) factors (manner_of manner)
 
   -- and of a chunk's sample.
   abbrev pub drawn_configuration : (seed chunk sample : ℕ) → ℕ → Job Float
-  drawn_configuration = job_sampled n (windowFrom floor a b m) (early a b m) (late a b m) factors (manner_of manner)
+  drawn_configuration = job_sampled n (window_from floor a b m) (early a b m) (late a b m) factors (manner_of manner)
 
 module _ (n floor : ℕ) (a b : List ℕ) (m : List Float) (us vs : List ℕ) (betas factors : List Float) (manner : Manner) (misfit : Bool) (work : ℕ) where
   -- a job whose sums are sound, of a call that the checks pass
@@ -98,7 +98,7 @@ module _ (n floor : ℕ) (a b : List ℕ) (m : List Float) (us vs : List ℕ) (b
   job = configuration n floor a b m factors manner
 
   abbrev bad : Bool
-  bad = unsound_enumeration n (windowFrom floor a b m) (early a b m) (late a b m) factors (manner_of manner) us vs (length betas)
+  bad = unsound_enumeration n (window_from floor a b m) (early a b m) (late a b m) factors (manner_of manner) us vs (length betas)
 
   module _ (caller : Caller) (A : Room.Arrangement) (most : ℕ)
       (accepted : refusal of_enumeration (enumeration_request caller A n floor a b m us vs betas factors (free a b m) most misfit work bad) ≡ 0) where

@@ -16,7 +16,7 @@ use Rattle.exactness.specs.Textbook.{textbook}
 use Rattle.accuracy.specs.Apart.{Apart}
 use Rattle.refusals.specs.AcceptedJob.{AcceptedCorrelations}
 use Rattle.refusals.specs.Laws.AcceptedJob.{accepted_correlations, passes-positive}
-use Rattle.refusals.specs.Edges.{kept, keptEarly}
+use Rattle.refusals.specs.Edges.{kept, kept_early}
 use Rattle.refusals.specs.Key.{Key}
 use Rattle.refusals.specs.Laws.First.{passed-at}
 use Rattle.refusals.specs.Refusal.{of_correlations}
@@ -85,7 +85,7 @@ module _ {n floor : ℕ} {a b : List ℕ} {m : List Float} {us vs : List ℕ} {f
       let w = job.window in
       let near = near_of n floor a b m in
       let told = bound_known n floor a b m [] factors false bound answer in
-      let edges : length (keptEarly a b m) ≡ length (kept a b m) = length-map (kept a b m) (λ x. x.early) in
+      let edges : length (kept_early a b m) ≡ length (kept a b m) = length-map (kept a b m) (λ x. x.early) in
       let positive-at : (e : ℕ) → e < length (kept a b m) → T (positive (get_or factors e nan)) = λ e k. passes-positive (get_or factors e nan) (f.factors_pass e k) in
       rw (result-is i l, told.1)
       (close-within n floor a b m us vs (manner_of manner) facts.job (λ e. get_or factors e nan) positive-at

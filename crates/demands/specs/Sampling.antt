@@ -27,7 +27,7 @@ use Rattle.refusals.specs.Accepted.{Rising}
 use Rattle.refusals.specs.Laws.Rising.{rising}
 use Rattle.refusals.specs.AcceptedTotals.{AcceptedTotals, misfits}
 use Rattle.refusals.specs.Laws.AcceptedTotals.{accepted_sampling}
-use Rattle.refusals.specs.Edges.{windowFrom}
+use Rattle.refusals.specs.Edges.{window_from}
 use Rattle.refusals.specs.Key.{Key}
 use Rattle.refusals.specs.Laws.First.{passed-at}
 use Rattle.refusals.specs.Refusal.{of_sampling}
@@ -57,7 +57,7 @@ module _ {n floor : ℕ} {a b : List ℕ} {m : List Float} {us vs : List ℕ} {b
   drawn = C.drawn_configuration n floor a b m factors manner seed
 
   abbrev bad : Bool
-  bad = unsound_sampling n (windowFrom floor a b m) (C.early a b m) (C.late a b m) factors (manner_of manner) us vs (length betas) seed from to samples
+  bad = unsound_sampling n (window_from floor a b m) (C.early a b m) (C.late a b m) factors (manner_of manner) us vs (length betas) seed from to samples
 
   abbrev misfit : Bool
   misfit = misfits (length betas * length us) (length squares) (length fourths)

@@ -10,7 +10,7 @@ use Rattle.limits.specs.Limits.{tester_window, tester_free}
 use Rattle.refusals.specs.Answers.{answered}
 use Rattle.refusals.specs.declared.Answer.{Answer}
 use Rattle.refusals.specs.declared.Answer.TheVariants.{Number, Refused}
-use Rattle.refusals.specs.Edges.{windowFrom}
+use Rattle.refusals.specs.Edges.{window_from}
 use Rattle.refusals.specs.Key.{Key, among}
 use Rattle.refusals.specs.Laws.First.{passed-at}
 use Rattle.refusals.specs.Laws.Tester.{at_desk, as_at_desk, desk_not_22}
@@ -79,9 +79,9 @@ module _ (source : Source) (n floor : ℕ) (a b : List ℕ) (m : List Float) (us
 
   -- and the window of an accepted call is within the limit.
   pub results_tester_window : {results' work' : List Float} → CorrelatedBy source n floor a b m us vs list manner arrangement Tester 0 results results' work work'
-      → windowFrom floor a b m ≤ tester_window
+      → window_from floor a b m ≤ tester_window
   results_tester_window t =
-      ltb-false tester_window (windowFrom floor a b m) (passed-at asked (request Tester) (sym t.answer) Key.tester_window (asks_window source))
+      ltb-false tester_window (window_from floor a b m) (passed-at asked (request Tester) (sym t.answer) Key.tester_window (asks_window source))
 
 -- ---- totals, by the refusals of two calls that are given the same but for the caller
 
@@ -128,10 +128,10 @@ module _ (n floor : ℕ) (a b : List ℕ) (m : List Float) (us vs : List ℕ) (b
 
     pub totals_tester_limits : {count : ℕ} {squares' fourths' work' : List Float}
         → Enumerated n floor a b m us vs betas factors manner arrangement Tester (Number count) squares squares' fourths fourths' work work'
-        → (windowFrom floor a b m ≤ tester_window) × (free a b m ≤ tester_free)
+        → (window_from floor a b m ≤ tester_window) × (free a b m ≤ tester_free)
     totals_tester_limits t =
         let z = (accepted-number _ _ _ t.call.answer).0 in (
-          ltb-false tester_window (windowFrom floor a b m) (passed-at of_enumeration (counting Tester) z Key.tester_window refl),
+          ltb-false tester_window (window_from floor a b m) (passed-at of_enumeration (counting Tester) z Key.tester_window refl),
           ltb-false tester_free (free a b m) (passed-at of_enumeration (counting Tester) z Key.tester_free refl),
         )
 
@@ -154,10 +154,10 @@ module _ (n floor : ℕ) (a b : List ℕ) (m : List Float) (us vs : List ℕ) (b
 
     pub stored_tester_limits : {count : ℕ} {stored' work' : List Float}
         → EnumeratedEach n floor a b m us vs betas factors manner arrangement Tester (Number count) stored stored' work work'
-        → (windowFrom floor a b m ≤ tester_window) × (free a b m ≤ tester_free)
+        → (window_from floor a b m ≤ tester_window) × (free a b m ≤ tester_free)
     stored_tester_limits t =
         let z = (accepted-number _ _ _ t.call.answer).0 in (
-          ltb-false tester_window (windowFrom floor a b m) (passed-at of_enumeration (storing Tester) z Key.tester_window refl),
+          ltb-false tester_window (window_from floor a b m) (passed-at of_enumeration (storing Tester) z Key.tester_window refl),
           ltb-false tester_free (free a b m) (passed-at of_enumeration (storing Tester) z Key.tester_free refl),
         )
 
@@ -181,9 +181,9 @@ module _ (n floor : ℕ) (a b : List ℕ) (m : List Float) (us vs : List ℕ) (b
 
     pub samples_tester_window : {count : ℕ} {squares' fourths' work' : List Float}
         → Sampled n floor a b m us vs betas factors manner arrangement Tester seed from to samples (Number count) squares squares' fourths fourths' work work'
-        → windowFrom floor a b m ≤ tester_window
+        → window_from floor a b m ≤ tester_window
     samples_tester_window t =
-        ltb-false tester_window (windowFrom floor a b m)
+        ltb-false tester_window (window_from floor a b m)
         (passed-at of_sampling (drawing Tester) (accepted-number _ _ _ t.call.answer).0 Key.tester_window refl)
 
 -- ---- the house calls for totals
@@ -197,9 +197,9 @@ module _ (n floor : ℕ) (a b : List ℕ) (m : List Float) (us vs : List ℕ) (b
       house_enumeration_request caller (arrangement_of arrangement) n floor a b m us vs betas (free a b m) most misfit work (unsound_all house_desk)
 
   within_limits : (most : ℕ) (misfit : Bool) (work : ℕ) → refusal (housed of_enumeration) (house_enumerating most misfit work Tester) ≡ 0
-      → (windowFrom floor a b m ≤ tester_window) × (free a b m ≤ tester_free)
+      → (window_from floor a b m ≤ tester_window) × (free a b m ≤ tester_free)
   within_limits most misfit work z = (
-    ltb-false tester_window (windowFrom floor a b m) (passed-at (housed of_enumeration) (house_enumerating most misfit work Tester) z Key.tester_window refl),
+    ltb-false tester_window (window_from floor a b m) (passed-at (housed of_enumeration) (house_enumerating most misfit work Tester) z Key.tester_window refl),
     ltb-false tester_free (free a b m) (passed-at (housed of_enumeration) (house_enumerating most misfit work Tester) z Key.tester_free refl),
   )
 
@@ -221,7 +221,7 @@ module _ (n floor : ℕ) (a b : List ℕ) (m : List Float) (us vs : List ℕ) (b
 
     pub house_totals_tester_limits : {count : ℕ} {squares' fourths' work' : List Float}
         → HouseEnumerated n floor a b m us vs betas manner arrangement Tester (Number count) squares squares' fourths fourths' work work'
-        → (windowFrom floor a b m ≤ tester_window) × (free a b m ≤ tester_free)
+        → (window_from floor a b m ≤ tester_window) × (free a b m ≤ tester_free)
     house_totals_tester_limits t = within_limits most_counted (misfits (length betas * length us) (length squares) (length fourths)) (length work) (accepted-number _ _ _ t.call.answer).0
 
   -- ---- `house_exhaustive_c`
@@ -241,7 +241,7 @@ module _ (n floor : ℕ) (a b : List ℕ) (m : List Float) (us vs : List ℕ) (b
 
     pub house_stored_tester_limits : {count : ℕ} {stored' work' : List Float}
         → HouseEnumeratedEach n floor a b m us vs betas manner arrangement Tester (Number count) stored stored' work work'
-        → (windowFrom floor a b m ≤ tester_window) × (free a b m ≤ tester_free)
+        → (window_from floor a b m ≤ tester_window) × (free a b m ≤ tester_free)
     house_stored_tester_limits t = within_limits most_stored (misfit_stored house_desk (length stored)) (length work) (accepted-number _ _ _ t.call.answer).0
 
   -- ---- `house_sample`
@@ -264,7 +264,7 @@ module _ (n floor : ℕ) (a b : List ℕ) (m : List Float) (us vs : List ℕ) (b
 
     pub house_samples_tester_window : {count : ℕ} {squares' fourths' work' : List Float}
         → HouseSampled n floor a b m us vs betas manner arrangement Tester seed from to samples (Number count) squares squares' fourths fourths' work work'
-        → windowFrom floor a b m ≤ tester_window
+        → window_from floor a b m ≤ tester_window
     house_samples_tester_window t =
-        ltb-false tester_window (windowFrom floor a b m)
+        ltb-false tester_window (window_from floor a b m)
         (passed-at (housed of_sampling) (house_drawing Tester) (accepted-number _ _ _ t.call.answer).0 Key.tester_window refl)

@@ -13,7 +13,7 @@ use Rattle.transfer_matrix.specs.Room as Room
 use Rattle.plan_layout.specs.declared.Arrangement.{Arrangement}
 use Rattle.plan_layout.specs.Arrangements.{arrangement_of}
 use Rattle.transfer_matrix.specs.Sweep as S
-use Rattle.refusals.specs.Edges.{kept, windowFrom, keptEarly, keptLate}
+use Rattle.refusals.specs.Edges.{kept, window_from, kept_early, kept_late}
 use Rattle.refusals.specs.Request.{Source, lent, house, call_request, correlation_request}
 use Rattle.refusals.specs.Refusal.{checks, refusal, of_job, of_lists, of_correlations, housed, sourced}
 use Rattle.refusals.specs.Laws.Later.{or_else, is_among}
@@ -40,7 +40,7 @@ module _ (source : Source) (n floor : ℕ) (a b : List ℕ) (m : List Float) (us
   early-refusal = refusal of_job (call_request caller n floor a b m us vs [])
 
   abbrev lists-refusal : ℕ
-  lists-refusal = lists_refusal source A n (windowFrom floor a b m) (length (kept a b m)) us vs list (length results) (length work)
+  lists-refusal = lists_refusal source A n (window_from floor a b m) (length (kept a b m)) us vs list (length results) (length work)
 
   whole : refusal (sourced source of_correlations) (correlation_request caller A n floor a b m us vs list (length results) (length work) (unsound job us vs))
       ≡ or_else early-refusal (or_else lists-refusal (cond (unsound job us vs) 14 0))
@@ -60,7 +60,7 @@ module _ (source : Source) (n floor : ℕ) (a b : List ℕ) (m : List Float) (us
       go zero p = absurd (z p)
       go (suc k) p = p
 
-  lists_not_14 : (s : Source) → lists_refusal s A n (windowFrom floor a b m) (length (kept a b m)) us vs list (length results) (length work) ≡ 14 → ⊥
+  lists_not_14 : (s : Source) → lists_refusal s A n (window_from floor a b m) (length (kept a b m)) us vs list (length results) (length work) ≡ 14 → ⊥
   lists_not_14 lent =
       not_14 of_lists _ refl (is_among of_lists (correlation_request caller A n floor a b m us vs list (length results) (length work) false) checks)
   lists_not_14 house =
@@ -111,7 +111,7 @@ module _ (source : Source) (n floor : ℕ) (a b : List ℕ) (m : List Float) (us
 module _ {n floor : ℕ} {a b : List ℕ} {m : List Float} {us vs : List ℕ} {k w : ℕ} {early early' late late' : List ℕ} {mag mag' : List Float}
     (g : ReadyJob n floor a b m us vs k w early early' late late' mag mag') where
   pub lists_of : (source : Source) (A B : Room.Arrangement) → A ≡ B → (list : List Float) (results work : ℕ)
-      → lists_refusal source A n w k us vs list results work ≡ lists_refusal source B n (windowFrom floor a b m) (length (kept a b m)) us vs list results work
+      → lists_refusal source A n w k us vs list results work ≡ lists_refusal source B n (window_from floor a b m) (length (kept a b m)) us vs list results work
   lists_of source A B e list results work = rw (e, g.window, g.written.edges)
 
   pub passed-of : (A : Room.Arrangement) (factors : List Float) (results work : ℕ) → lists_refusal lent A n w k us vs factors results work ≡ 0
@@ -126,11 +126,11 @@ module _ {n floor : ℕ} {a b : List ℕ} {m : List Float} {us vs : List ℕ} {k
       → JobFinished (job_of nan n w (take k early') (take k late') factors (cond each per_element block)) A n (length (take k early')) us vs sound results work work'
       → JobFinished (job_given n floor a b m factors manner) B n (length (kept a b m)) us vs sound results work work'
   finished_of A B eA factors manner each sound results work work' e f =
-      let p : JobFinished (job_of nan n w (keptEarly a b m) (keptLate a b m) factors (cond each per_element block))
-      A n (length (keptEarly a b m)) us vs sound results work work' = rw (← front-early g.written, ← front-late g.written) f in
-      let q = subst (λ (v : ℕ). JobFinished (job_of nan n v (keptEarly a b m) (keptLate a b m) factors (cond each per_element block))
-      A n (length (keptEarly a b m)) us vs sound results work work') g.window p in
-      let s = subst (λ (c : ℕ). JobFinished (job_of nan n (windowFrom floor a b m) (keptEarly a b m) (keptLate a b m) factors (cond each per_element block))
+      let p : JobFinished (job_of nan n w (kept_early a b m) (kept_late a b m) factors (cond each per_element block))
+      A n (length (kept_early a b m)) us vs sound results work work' = rw (← front-early g.written, ← front-late g.written) f in
+      let q = subst (λ (v : ℕ). JobFinished (job_of nan n v (kept_early a b m) (kept_late a b m) factors (cond each per_element block))
+      A n (length (kept_early a b m)) us vs sound results work work') g.window p in
+      let s = subst (λ (c : ℕ). JobFinished (job_of nan n (window_from floor a b m) (kept_early a b m) (kept_late a b m) factors (cond each per_element block))
       A n c us vs sound results work work') (edge_count g) q in
-      rw (← eA) (subst (λ (x : Job.Manner). JobFinished (job_of nan n (windowFrom floor a b m) (keptEarly a b m) (keptLate a b m) factors x)
+      rw (← eA) (subst (λ (x : Job.Manner). JobFinished (job_of nan n (window_from floor a b m) (kept_early a b m) (kept_late a b m) factors x)
       A n (length (kept a b m)) us vs sound results work work') e s)

@@ -9,7 +9,7 @@ use Rattle.transfer_matrix.specs.Configuration.{job_of}
 use Rattle.transfer_matrix.specs.Room.{room}
 use Rattle.transfer_matrix.specs.Rounded.{ieee}
 use Rattle.transfer_matrix.specs.Sweep as S
-use Rattle.refusals.specs.Edges.{kept, windowFrom, keptEarly, keptLate}
+use Rattle.refusals.specs.Edges.{kept, window_from, kept_early, kept_late}
 use Rattle.refusals.specs.Request.{Source, lent, house, correlation_request}
 use Rattle.refusals.specs.Refusal.{refusal, of_correlations, sourced}
 use Rattle.house_factors.specs.Factors.{single_factors}
@@ -28,7 +28,7 @@ manner_of PerElement = per_element
 -- The job of a call: the kept edges, the window with the caller's floor, one factor for each kept edge, and the manner.
 abbrev pub job_given : (n floor : ℕ) → (a b : List ℕ) → (m factors : List Float) → Manner → Job Float
 job_given n floor a b m factors manner =
-    job_of nan n (windowFrom floor a b m) (keptEarly a b m) (keptLate a b m) factors (manner_of manner)
+    job_of nan n (window_from floor a b m) (kept_early a b m) (kept_late a b m) factors (manner_of manner)
 
 -- What a call leaves in the results: the answers where it is accepted, +0.0 throughout where it is refused for 14, else what was there.
 unfoldable pub settled : ℕ → List Float → List Float → List Float
@@ -50,7 +50,7 @@ pub record CorrelatedBy (source : Source) (n floor : ℕ) (a b : List ℕ) (m : 
       (correlation_request caller (arrangement_of arrangement) n floor a b m us vs list (length results) (length work)
       (unsound (job_given n floor a b m (factors_from source list) manner) us vs))
   pub answers : results' ≡ settled r (S.answers ieee (job_given n floor a b m (factors_from source list) manner) us vs) results
-  pub memory : work' ≡ cleared r (room (arrangement_of arrangement) n (windowFrom floor a b m) (length (kept a b m)) us vs) work
+  pub memory : work' ≡ cleared r (room (arrangement_of arrangement) n (window_from floor a b m) (length (kept a b m)) us vs) work
 
 -- That of `correlations`, which lends factors, and of `house_correlations`, which lends couplings.
 abbrev pub Correlated : (n floor : ℕ) (a b : List ℕ) (m : List Float) (us vs : List ℕ) (factors : List Float) (manner : Manner)

@@ -8,7 +8,7 @@ use Rattle.list_laws.specs.Most.{most}
 use Rattle.transfer_matrix.specs.Configuration.{numbered}
 use Rattle.transfer_matrix.specs.Job.{Edge, back_edges}
 use Rattle.transfer_matrix.specs.Room.{keep_all}
-use Rattle.refusals.specs.Edges.{kept, windowFrom, keptEarly, keptLate}
+use Rattle.refusals.specs.Edges.{kept, window_from, kept_early, kept_late}
 use Rattle.refusals.specs.Request.{Request, sweep_request, single, signed_factors}
 use Rattle.refusals.specs.Key.{Key}
 use Rattle.refusals.specs.Refusal.{refusal, of_graph}
@@ -60,6 +60,6 @@ factor_count signed betas edges = cond signed (signed_factors betas edges) edges
 -- What `error_bound` answers, with no beta, and `totals_error_bound`, whose factors are signed.
 abbrev pub error_bound_of : (n floor : ℕ) → (a b : List ℕ) → (m betas factors : List Float) → (signed : Bool) → ErrorBound
 error_bound_of n floor a b m betas factors signed =
-    let w = windowFrom floor a b m in
+    let w = window_from floor a b m in
     bound_of (refusal of_error_bound (error_bound_request n floor a b m betas factors (factor_count signed (length betas) (length (kept a b m))))) n w
-    (most_near n w (numbered (keptEarly a b m) (keptLate a b m))) factors
+    (most_near n w (numbered (kept_early a b m) (kept_late a b m))) factors

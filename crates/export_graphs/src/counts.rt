@@ -1,7 +1,7 @@
 // What one number says of a graph: its window, its components and its free edges.
 ghost use Rattle.std.specs.Prelude.{◌≡◌, false};
 ghost use Rattle.forest.specs.Components.{component_count};
-ghost use Rattle.refusals.specs.Edges.{windowFrom, keptEarly, keptLate};
+ghost use Rattle.refusals.specs.Edges.{window_from, kept_early, kept_late};
 ghost use Rattle.refusals.specs.Request.{graph_request};
 ghost use Rattle.refusals.specs.Refusal.{refusal, of_graph};
 ghost use Rattle.refusals.specs.Answers.{left};
@@ -21,7 +21,7 @@ pub extern "C" fn copperhook_window(
     window: &mut usize,
 ) -> usize
     ensures value { result ≡ refusal of_graph (graph_request n a.now b.now m.now false) }
-    ensures window_after { window.new ≡ left result (windowFrom floor a.now b.now m.now) window.old }
+    ensures window_after { window.new ≡ left result (window_from floor a.now b.now m.now) window.old }
 {
     let answer = graph::window(n, a, b, m, floor);
     tell_number(answer, window)
@@ -39,10 +39,10 @@ pub extern "C" fn copperhook_n_components(
 ) -> usize
     ensures value { result ≡ refusal of_graph (graph_request n a.now b.now m.now false) }
     ensures count_after { count.new ≡ left result
-        (component_count n (keptEarly a.now b.now m.now)
-        (keptLate a.now b.now m.now)) count.old }
-    ensures component_marks { ComponentMarks result n (keptEarly a.now b.now m.now)
-        (keptLate a.now b.now m.now) marks.old marks.new }
+        (component_count n (kept_early a.now b.now m.now)
+        (kept_late a.now b.now m.now)) count.old }
+    ensures component_marks { ComponentMarks result n (kept_early a.now b.now m.now)
+        (kept_late a.now b.now m.now) marks.old marks.new }
 {
     let answer = graph::n_components(n, a, b, m, marks);
     tell_number(answer, count)
@@ -59,8 +59,8 @@ pub extern "C" fn copperhook_cyclomatic(
 ) -> usize
     ensures value { result ≡ refusal of_graph (graph_request n a.now b.now m.now false) }
     ensures free_after { free.new ≡ left result
-        (free_count (keptEarly a.now b.now m.now)
-        (keptLate a.now b.now m.now)) free.old }
+        (free_count (kept_early a.now b.now m.now)
+        (kept_late a.now b.now m.now)) free.old }
 {
     let answer = graph::cyclomatic(n, a, b, m);
     tell_number(answer, free)

@@ -1,6 +1,6 @@
 // The distance of two vertices, and whether there is one.
 ghost use Rattle.std.specs.Prelude.{◌≡◌};
-ghost use Rattle.refusals.specs.Edges.{keptEarly, keptLate};
+ghost use Rattle.refusals.specs.Edges.{kept_early, kept_late};
 ghost use Rattle.refusals.specs.Request.{distance_request};
 ghost use Rattle.refusals.specs.Refusal.{refusal, of_distance};
 ghost use Rattle.export_graphs.specs.Distances.{Told};
@@ -21,7 +21,7 @@ pub extern "C" fn copperhook_distance(
     edges: &mut usize,
 ) -> usize
     ensures { Told (refusal of_distance (distance_request n a.now b.now m.now u v))
-        (keptEarly a.now b.now m.now) (keptLate a.now b.now m.now)
+        (kept_early a.now b.now m.now) (kept_late a.now b.now m.now)
         u v result joined.old joined.new edges.old edges.new }
 {
     let answer = graph::distance(n, a, b, m, u, v);

@@ -6,7 +6,7 @@ use Prim.Native.Nat.{ℕ}
 use native.Mathlib.Omega.{arith}
 use lib.Ieee.{Float}
 use lib.ListN.{length, take}
-use Rattle.refusals.specs.Edges.{kept, keptEarly, keptLate}
+use Rattle.refusals.specs.Edges.{kept, kept_early, kept_late}
 use Rattle.refusals.specs.Request.{distance_request, outside}
 use Rattle.refusals.specs.Refusal.{refusal, of_distance}
 use Rattle.refusals.specs.Laws.Later.{then-pair, refused-before, refused_here, refused_not}
@@ -21,12 +21,12 @@ pub use Rattle.kept_edges.specs.Laws.Buffers.{buffers-before, buffers_here, buff
 
 module _ {a b : List ℕ} {m : List Float} {k : ℕ} {early early' late late' : List ℕ} {mag mag' : List Float}
     (W : Written a b m (length a) k early early' late late' mag mag') where
-  pub forest-kept : {n : ℕ} {t : List ℕ} → ForestBits n (take k early') (take k late') t → ForestBits n (keptEarly a b m) (keptLate a b m) t
+  pub forest-kept : {n : ℕ} {t : List ℕ} → ForestBits n (take k early') (take k late') t → ForestBits n (kept_early a b m) (kept_late a b m) t
   forest-kept {n} {t} s = subst₂ (λ x y. ForestBits n x y t) (front-early W) (front-late W) s
 
   pub distance-kept : (u v : ℕ) (r r' : Reach) → r ≡ r' → Distance (take k early') (take k late') u v r
-      → Distance (keptEarly a b m) (keptLate a b m) u v r'
-  distance-kept u v r r' e d = subst (Distance (keptEarly a b m) (keptLate a b m) u v) e (subst₂ (λ x y. Distance x y u v r) (front-early W) (front-late W) d)
+      → Distance (kept_early a b m) (kept_late a b m) u v r'
+  distance-kept u v r r' e d = subst (Distance (kept_early a b m) (kept_late a b m) u v) e (subst₂ (λ x y. Distance x y u v r) (front-early W) (front-late W) d)
 
 -- ---- the graph was checked, and r was answered
 module _ {n : ℕ} {a b : List ℕ} {m : List Float} {r k : ℕ} {early early' late late' : List ℕ} {mag mag' : List Float}

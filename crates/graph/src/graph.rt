@@ -2,7 +2,7 @@
 ghost use Rattle.std.specs.Prelude.{◌≡◌, false, not, eqb, length, ◌≤◌};
 ghost use Rattle.limits.specs.Limits.{most_edges};
 ghost use Rattle.transfer_matrix.specs.Job.{window_of};
-ghost use Rattle.refusals.specs.Edges.{kept, keptEarly, keptLate};
+ghost use Rattle.refusals.specs.Edges.{kept, kept_early, kept_late};
 ghost use Rattle.refusals.specs.Request.{graph_request, distance_request};
 ghost use Rattle.refusals.specs.Refusal.{refusal, of_graph, of_graph_with_buffers, of_distance};
 ghost use Rattle.refusals.specs.Answers.{answered, left};
@@ -47,7 +47,7 @@ fn measure_kept(measure: Measure, n: usize, early: &[usize], late: &[usize]) -> 
 
 fn measured(measure: Measure, n: usize, a: &[usize], b: &[usize], m: &[f64]) -> Answer
     ensures { result ≡ answered (refusal of_graph (graph_request n a.now b.now m.now false))
-        (measure_of measure n (keptEarly a.now b.now m.now) (keptLate a.now b.now m.now)) }
+        (measure_of measure n (kept_early a.now b.now m.now) (kept_late a.now b.now m.now)) }
 {
     let mut early = [0usize; EDGES];
     let mut late = [0usize; EDGES];
@@ -64,7 +64,7 @@ fn measured(measure: Measure, n: usize, a: &[usize], b: &[usize], m: &[f64]) -> 
 // The largest of 1, the caller's floor and the longest kept edge; a window above 24 is answered.
 pub fn window(n: usize, a: &[usize], b: &[usize], m: &[f64], floor: usize) -> Answer
     ensures { result ≡ answered (refusal of_graph (graph_request n a.now b.now m.now false))
-        (window_of floor (keptEarly a.now b.now m.now) (keptLate a.now b.now m.now)) }
+        (window_of floor (kept_early a.now b.now m.now) (kept_late a.now b.now m.now)) }
 {
     measured(Measure::Window(floor), n, a, b, m)
 }
@@ -72,9 +72,9 @@ pub fn window(n: usize, a: &[usize], b: &[usize], m: &[f64], floor: usize) -> An
 // How many components the graph has, and a mark for the lowest vertex of each: vertex v is bit v mod 64 of word v / 64.
 pub fn n_components(n: usize, a: &[usize], b: &[usize], m: &[f64], marks: &mut [u64; 16]) -> Answer
     ensures value { result ≡ answered (refusal of_graph (graph_request n a.now b.now m.now false))
-        (component_count n (keptEarly a.now b.now m.now) (keptLate a.now b.now m.now)) }
+        (component_count n (kept_early a.now b.now m.now) (kept_late a.now b.now m.now)) }
     ensures component_marks { ComponentMarks (refusal of_graph (graph_request n a.now b.now m.now false))
-        n (keptEarly a.now b.now m.now) (keptLate a.now b.now m.now)
+        n (kept_early a.now b.now m.now) (kept_late a.now b.now m.now)
         marks.old marks.new }
 {
     let mut early = [0usize; EDGES];
@@ -95,7 +95,7 @@ pub fn n_components(n: usize, a: &[usize], b: &[usize], m: &[f64], marks: &mut [
 // How many edges are free: kept edges and components, less the vertices.
 pub fn cyclomatic(n: usize, a: &[usize], b: &[usize], m: &[f64]) -> Answer
     ensures { result ≡ answered (refusal of_graph (graph_request n a.now b.now m.now false))
-        (free_count (keptEarly a.now b.now m.now) (keptLate a.now b.now m.now)) }
+        (free_count (kept_early a.now b.now m.now) (kept_late a.now b.now m.now)) }
 {
     measured(Measure::Free, n, a, b, m)
 }
@@ -104,8 +104,8 @@ pub fn cyclomatic(n: usize, a: &[usize], b: &[usize], m: &[f64]) -> Answer
 // edges joins its ends. Returns the refusal's number, 0 for accepted.
 pub fn spanning_forest(n: usize, a: &[usize], b: &[usize], m: &[f64], bits: &mut [usize]) -> usize
     ensures { (result ≡ refusal of_graph_with_buffers (graph_request n a.now b.now m.now (not (eqb (length bits.old) (length (kept a.now b.now m.now))))))
-        × (bits.new ≡ left result (bits_of (keptEarly a.now b.now m.now) (keptLate a.now b.now m.now)) bits.old)
-        × (result ≡ 0 → ForestBits n (keptEarly a.now b.now m.now) (keptLate a.now b.now m.now) bits.new) }
+        × (bits.new ≡ left result (bits_of (kept_early a.now b.now m.now) (kept_late a.now b.now m.now)) bits.old)
+        × (result ≡ 0 → ForestBits n (kept_early a.now b.now m.now) (kept_late a.now b.now m.now) bits.new) }
 {
     let mut early = [0usize; EDGES];
     let mut late = [0usize; EDGES];
@@ -126,7 +126,7 @@ pub fn spanning_forest(n: usize, a: &[usize], b: &[usize], m: &[f64], bits: &mut
 // Names each vertex's component by one of its vertices. Returns the refusal's number, 0 for accepted.
 pub fn components(n: usize, a: &[usize], b: &[usize], m: &[f64], out: &mut [usize]) -> usize
     ensures { (result ≡ refusal of_graph_with_buffers (graph_request n a.now b.now m.now (not (eqb (length out.old) n))))
-        × (out.new ≡ left result (component_names n (keptEarly a.now b.now m.now) (keptLate a.now b.now m.now)) out.old) }
+        × (out.new ≡ left result (component_names n (kept_early a.now b.now m.now) (kept_late a.now b.now m.now)) out.old) }
 {
     let mut early = [0usize; EDGES];
     let mut late = [0usize; EDGES];
@@ -147,7 +147,7 @@ pub fn components(n: usize, a: &[usize], b: &[usize], m: &[f64], out: &mut [usiz
 // The least number of kept edges on a walk from u to v; equal ends are allowed.
 pub fn distance(n: usize, a: &[usize], b: &[usize], m: &[f64], u: usize, v: usize) -> Reached
     ensures { Distanced (refusal of_distance (distance_request n a.now b.now m.now u v))
-        (keptEarly a.now b.now m.now) (keptLate a.now b.now m.now) u v result }
+        (kept_early a.now b.now m.now) (kept_late a.now b.now m.now) u v result }
 {
     let mut early = [0usize; EDGES];
     let mut late = [0usize; EDGES];

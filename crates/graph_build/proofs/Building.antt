@@ -8,7 +8,7 @@ use lib.Ieee.{Float}
 use lib.ListN.{length, get_or, take}
 use Rattle.limits.specs.Limits.{most_vertices, most_edges}
 use Rattle.list_laws.specs.Search.{some}
-use Rattle.refusals.specs.Edges.{kept, keptEarly, keptLate}
+use Rattle.refusals.specs.Edges.{kept, kept_early, kept_late}
 use Rattle.refusals.specs.Request.{job_request, bad_ends, joined_twice}
 use Rattle.refusals.specs.Refusal.{refusal, of_graph}
 use Rattle.refusals.specs.Laws.First.{told}
@@ -36,10 +36,10 @@ module _ {a b : List ℕ} {m : List Float} {k : ℕ} {early early' late late' : 
 
 -- ---- the graph's lists were checked, and r was answered
 module _ {n : ℕ} {a b : List ℕ} {m : List Float} {us vs : List ℕ} {betas : List Float} {r : ℕ} (R : CheckedRaw n a b m us vs betas r) where
-  whole : refusal of_graph (job_request n 0 a b m us vs betas) ≡ or_else r (cond (joined_twice (keptEarly a b m) (keptLate a b m)) 5 0)
+  whole : refusal of_graph (job_request n 0 a b m us vs betas) ≡ or_else r (cond (joined_twice (kept_early a b m) (kept_late a b m)) 5 0)
   whole =
       graph_in_parts n 0 a b m us vs betas
-      ∙ ap (λ (k : ℕ). or_else k (cond (joined_twice (keptEarly a b m) (keptLate a b m)) 5 0)) (sym R.refusal)
+      ∙ ap (λ (k : ℕ). or_else k (cond (joined_twice (kept_early a b m) (kept_late a b m)) 5 0)) (sym R.refusal)
 
   pub raw-accepted : r ≡ 0 → AcceptedRaw n a b m us vs betas
   raw-accepted z = accepted-raw n 0 a b m us vs betas (sym R.refusal ∙ z)
@@ -62,11 +62,11 @@ module _ {n : ℕ} {a b : List ℕ} {m : List Float} {us vs : List ℕ} {betas :
       → CheckedGraph n a b m us vs betas q k early early' late late' mag mag'
   raw-refused (e, k) nz = refused_with (λ z. nz (sym e ∙ z)) k (e ∙ go r nz ∙ sym whole)
     where
-      go : (x : ℕ) → (x ≡ 0 → ⊥) → x ≡ or_else x (cond (joined_twice (keptEarly a b m) (keptLate a b m)) 5 0)
+      go : (x : ℕ) → (x ≡ 0 → ⊥) → x ≡ or_else x (cond (joined_twice (kept_early a b m) (kept_late a b m)) 5 0)
       go zero f = absurd (f refl)
       go (suc x) f = refl
 
-  after : r ≡ 0 → (t : Bool) → joined_twice (keptEarly a b m) (keptLate a b m) ≡ t
+  after : r ≡ 0 → (t : Bool) → joined_twice (kept_early a b m) (kept_late a b m) ≡ t
       → cond t 5 0 ≡ refusal of_graph (job_request n 0 a b m us vs betas)
   after z t e = sym (whole ∙ rw (z, e))
 

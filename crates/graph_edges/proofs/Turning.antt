@@ -18,7 +18,7 @@ use Rattle.list_laws.specs.Tabulate.{tabulate}
 use Rattle.list_laws.specs.Laws.Tabulate.{tabulate_suc, tabulate-length, tabulated}
 use Rattle.list_laws.specs.Front.{over}
 use Rattle.list_laws.specs.Laws.Front.{over-more, over-behind, over-front, over-over}
-use Rattle.refusals.specs.Edges.{Kept, kept, early_ends, late_ends, places, keptEarly, keptLate}
+use Rattle.refusals.specs.Edges.{Kept, kept, early_ends, late_ends, places, kept_early, kept_late}
 use Rattle.kept_edges.specs.Keep.{Written}
 use Rattle.graph_edges.specs.Graphs.{Set, Turned, turned, rotate}
 use Rattle.graph_edges.specs.declared.Graph.{Graph}
@@ -103,7 +103,7 @@ turned-kept {n} {a} {b} {m} {k = k} {early₀ = early₀} {early = early} {late�
 
 -- no edge changes its length
 pub window-turned : (n floor : ℕ) (a b : List ℕ) (m : List Float) → some (bad_ends n a b) (length a) ≡ false
-    → window_of floor (keptEarly a b m) (keptLate a b m)
+    → window_of floor (kept_early a b m) (kept_late a b m)
     ≡ window_of floor (early_ends (rotate n (kept a b m))) (late_ends (rotate n (kept a b m)))
 unfolding window_of longest
 window-turned n floor a b m ok = ap (λ k. max 1 (max floor k)) (lengths ∙ sym (ap₂ span (map-map _ _ es) (map-map _ _ es)))
@@ -160,7 +160,7 @@ refused-turned (suc j) p S = record { answer = sym p ∙ S.answer; earlies = S.e
 -- an accepted one was not refused, and its edges were written
 pub record Given (K n floor : ℕ) (g : Graph) (a b : List ℕ) (m : List Float) (early early' late late' : List ℕ) (mag mag' : List Float) (raw raw' : List ℕ) : Type 0 where
   pub accepted : K ≡ 0
-  pub graph : g ≡ record { n = n; win = window_of floor (keptEarly a b m) (keptLate a b m); edges = length (kept a b m) }
+  pub graph : g ≡ record { n = n; win = window_of floor (kept_early a b m) (kept_late a b m); edges = length (kept a b m) }
   pub written : Written a b m (length a) g.edges early early' late late' mag mag'
   pub raws : raw' ≡ over (places (kept a b m)) raw
 

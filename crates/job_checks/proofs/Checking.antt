@@ -16,7 +16,7 @@ use Rattle.transfer_matrix.specs.Room.{Arrangement, room}
 use Rattle.refusals.specs.declared.Answer.TheVariants.{Number}
 use Rattle.refusals.specs.Answers.{answered}
 use Rattle.refusals.specs.Laws.Answers.{number_is}
-use Rattle.refusals.specs.Edges.{kept, windowFrom, keptEarly, keptLate}
+use Rattle.refusals.specs.Edges.{kept, window_from, kept_early, kept_late}
 use Rattle.refusals.specs.Request.{call_request, room_request}
 use Rattle.refusals.specs.Refusal.{refusal, of_room, of_job}
 use Rattle.refusals.specs.Laws.Later.{or_else}
@@ -68,7 +68,7 @@ kept-passed {caller} {n} {early = early} {late} {us} {vs} p h = record {
 module _ (caller : Caller) (n floor : ℕ) (a b : List ℕ) (m : List Float) (us vs : List ℕ) (betas : List Float) {r k : ℕ} {early early' late late' : List ℕ}
     {mag mag' : List Float} (G : CheckedGraph n a b m us vs betas r k early early' late late' mag mag') where
   abbrev later : ℕ
-  later = kept_refusal caller n (windowFrom floor a b m) (keptEarly a b m) (keptLate a b m) us vs
+  later = kept_refusal caller n (window_from floor a b m) (kept_early a b m) (kept_late a b m) us vs
 
   job_is : refusal of_job (call_request caller n floor a b m us vs betas) ≡ or_else r later
   job_is = job_in_parts caller n floor a b m us vs betas ∙ ap (λ (k : ℕ). or_else k later) (sym G.refusal)
@@ -101,7 +101,7 @@ module _ (caller : Caller) (n floor : ℕ) (a b : List ℕ) (m : List Float) (us
               few-edges = omega (arith, all, few W job.graph.lists);
               window = window;
               edges = edges-of n floor _ _ w (kept-edges n a b m job.graph) window (omega (arith, window, job.narrow));
-              near = subst (λ x. too_many_near n x (numbered (keptEarly a b m) (keptLate a b m)) ≡ false) (sym window) job.near;
+              near = subst (λ x. too_many_near n x (numbered (kept_early a b m) (kept_late a b m)) ≡ false) (sym window) job.near;
               pairs = record { matched = job.matched; first = job.first-inside; second = job.second-inside };
               passed = job;
             };
@@ -112,7 +112,7 @@ module _ (caller : Caller) (n floor : ℕ) (a b : List ℕ) (m : List Float) (us
 
 pub room-answered : {n floor q k w : ℕ} {a b : List ℕ} {m : List Float} {us vs early early' late late' : List ℕ} {mag mag' : List Float}
     → CheckedJob Desk n floor a b m us vs [] q k w early early' late late' mag mag' → q ≡ 0 → (A B : Arrangement) → A ≡ B → (r : ℕ) → r ≡ room A n w k us vs
-    → Number r ≡ answered (refusal of_room (room_request n floor a b m us vs)) (room B n (windowFrom floor a b m) (length (kept a b m)) us vs)
+    → Number r ≡ answered (refusal of_room (room_request n floor a b m us vs)) (room B n (window_from floor a b m) (length (kept a b m)) us vs)
 room-answered {n} {us = us} {vs} checked z A B same r e =
     let job = checked.ready z in
     number_is _ _ _ _ checked.refusal z (rw same at e ∙ ap₂ (λ (x y : ℕ). room B n x y us vs) job.window job.written.edges)

@@ -6,7 +6,7 @@ use Rattle.limits.specs.Limits.{most_edges, most_window, tester_window}
 use Rattle.list_laws.specs.Search.{some}
 use Rattle.transfer_matrix.specs.Job.{window_of, too_many_near}
 use Rattle.transfer_matrix.specs.Configuration.{numbered}
-use Rattle.refusals.specs.Edges.{kept, windowFrom, keptEarly, keptLate}
+use Rattle.refusals.specs.Edges.{kept, window_from, kept_early, kept_late}
 use Rattle.refusals.specs.Request.{call_request, bad_ends}
 use Rattle.refusals.specs.Refusal as Refusal
 use Rattle.refusals.specs.Refusal.{of_job}
@@ -33,9 +33,9 @@ pub record ReadyJob (n floor : ℕ) (a b : List ℕ) (m : List Float) (us vs : L
     (mag mag' : List Float) : Type 0 where
   pub written : Written a b m (length a) k early early' late late' mag mag'
   pub few-edges : k ≤ most_edges
-  pub window : w ≡ windowFrom floor a b m
-  pub edges : Edges (keptEarly a b m) (keptLate a b m) n w
-  pub near : too_many_near n w (numbered (keptEarly a b m) (keptLate a b m)) ≡ false
+  pub window : w ≡ window_from floor a b m
+  pub edges : Edges (kept_early a b m) (kept_late a b m) n w
+  pub near : too_many_near n w (numbered (kept_early a b m) (kept_late a b m)) ≡ false
   pub pairs : Pairs us vs n
   pub passed : AcceptedJob n floor a b m us vs
 

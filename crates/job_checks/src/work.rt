@@ -1,7 +1,7 @@
 // The work memory that a caller is to lend.
 ghost use Rattle.std.specs.Prelude.{◌≡◌, length};
 ghost use Rattle.transfer_matrix.specs.Room.{room as room_of};
-ghost use Rattle.refusals.specs.Edges.{kept, windowFrom};
+ghost use Rattle.refusals.specs.Edges.{kept, window_from};
 ghost use Rattle.refusals.specs.Request.{room_request};
 ghost use Rattle.refusals.specs.Refusal.{refusal, of_room};
 ghost use Rattle.refusals.specs.Answers.{answered};
@@ -25,7 +25,7 @@ pub fn room(
 ) -> Answer
     ensures { result ≡ answered
         (refusal of_room (room_request n floor a.now b.now m.now us.now vs.now))
-        (room_of (arrangement_of arrangement) n (windowFrom floor a.now b.now m.now)
+        (room_of (arrangement_of arrangement) n (window_from floor a.now b.now m.now)
         (length (kept a.now b.now m.now)) us.now vs.now) }
 {
     let mut early = [0usize; EDGES];

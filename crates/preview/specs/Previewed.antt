@@ -2,7 +2,7 @@
 use Rattle.std.specs.Prelude.{List, ℕ, zero, suc, Float, length}
 use Rattle.transfer_matrix.specs.Room as Room
 use Rattle.forest.specs.FreeEdges.{free_count}
-use Rattle.refusals.specs.Edges.{kept, keptEarly, keptLate, windowFrom, dropping}
+use Rattle.refusals.specs.Edges.{kept, kept_early, kept_late, window_from, dropping}
 use Rattle.refusals.specs.Request.{job_request, preview_request}
 use Rattle.refusals.specs.Refusal.{refusal, of_room, of_preview}
 use Rattle.preview.specs.declared.answer.Figures.{Figures}
@@ -12,9 +12,9 @@ use Rattle.preview.specs.declared.answer.Preview.TheVariants.{Costs, Refused}
 -- The window, the free edges and the room of a job, in the arrangement asked for.
 abbrev pub figures_of : Room.Arrangement → (n floor : ℕ) → (a b : List ℕ) → List Float → (us vs : List ℕ) → Figures
 figures_of A n floor a b m us vs = record {
-  window = windowFrom floor a b m;
-  free = free_count (keptEarly a b m) (keptLate a b m);
-  room = Room.room A n (windowFrom floor a b m) (length (kept a b m)) us vs;
+  window = window_from floor a b m;
+  free = free_count (kept_early a b m) (kept_late a b m);
+  room = Room.room A n (window_from floor a b m) (length (kept a b m)) us vs;
 }
 
 -- the figures, or the refusal

@@ -4,7 +4,7 @@ use Rattle.std.specs.Float.{nan}
 use Rattle.std.specs.Float.Ieee.{lt}
 use Rattle.limits.specs.Limits.{most_vertices, most_edges, most_betas}
 use Rattle.list_laws.specs.Search.{some}
-use Rattle.refusals.specs.Edges.{keptEarly, keptLate}
+use Rattle.refusals.specs.Edges.{kept_early, kept_late}
 use Rattle.refusals.specs.Request.{bad_ends, some_oversized, unordered, joined_twice}
 
 -- edges that check 2 passes
@@ -29,4 +29,4 @@ pub record Accepted (n : ℕ) (a b : List ℕ) (m : List Float) : Type 0 where
   pub few-vertices : n ≤ most_vertices
   pub lists : Lengths a b m
   pub edges : some (bad_ends n a b) (length a) ≡ false
-  pub apart : joined_twice (keptEarly a b m) (keptLate a b m) ≡ false
+  pub apart : joined_twice (kept_early a b m) (kept_late a b m) ≡ false

@@ -5,7 +5,7 @@ use Rattle.limits.specs.Limits.{most_pairs, most_window}
 use Rattle.transfer_matrix.specs.Job.{too_many_near}
 use Rattle.transfer_matrix.specs.Configuration.{numbered}
 use Rattle.transfer_matrix.specs.Room as Room
-use Rattle.refusals.specs.Edges.{kept, windowFrom, keptEarly, keptLate}
+use Rattle.refusals.specs.Edges.{kept, window_from, kept_early, kept_late}
 use Rattle.refusals.specs.Request.{Source, bad_list, source_number, passes}
 use Rattle.refusals.specs.Refusal.{checks}
 use Rattle.refusals.specs.Accepted.{Accepted}
@@ -27,9 +27,9 @@ pub record AcceptedJob (n floor : ℕ) (a b : List ℕ) (m : List Float) (us vs 
   pub graph : Accepted n a b m
   pub matched : length us ≡ length vs
   pub few-pairs : length us ≤ most_pairs
-  pub wide : 1 ≤ windowFrom floor a b m
-  pub narrow : windowFrom floor a b m ≤ most_window
-  pub near : too_many_near n (windowFrom floor a b m) (numbered (keptEarly a b m) (keptLate a b m)) ≡ false
+  pub wide : 1 ≤ window_from floor a b m
+  pub narrow : window_from floor a b m ≤ most_window
+  pub near : too_many_near n (window_from floor a b m) (numbered (kept_early a b m) (kept_late a b m)) ≡ false
   pub first-inside : (i : ℕ) → i < length us → get_or us i 0 < n
   pub second-inside : (i : ℕ) → i < length us → get_or vs i 0 < n
   pub ends-apart : (i : ℕ) → i < length us → get_or us i 0 ≡ get_or vs i 0 → ⊥
@@ -47,4 +47,4 @@ pub record AcceptedLists (arrangement : Room.Arrangement) (n w edges : ℕ) (us 
 pub record AcceptedCorrelations (arrangement : Room.Arrangement) (n floor : ℕ) (a b : List ℕ) (m : List Float) (us vs : List ℕ) (factors : List Float) (results work : ℕ)
     : Type 0 where
   pub job : AcceptedJob n floor a b m us vs
-  pub lists : AcceptedLists arrangement n (windowFrom floor a b m) (length (kept a b m)) us vs factors results work
+  pub lists : AcceptedLists arrangement n (window_from floor a b m) (length (kept a b m)) us vs factors results work

@@ -5,7 +5,7 @@ use Rattle.limits.specs.declared.Caller.{Caller}
 use Rattle.limits.specs.Callers.{over_limit}
 use Rattle.limits.specs.Limits.{tester_free}
 use Rattle.transfer_matrix.specs.Room as Room
-use Rattle.refusals.specs.Edges.{kept, windowFrom}
+use Rattle.refusals.specs.Edges.{kept, window_from}
 use Rattle.refusals.specs.Request.{signed_factors}
 use Rattle.refusals.specs.Request.{Source, bad_list, source_number, passes, too_many_chunks}
 use Rattle.refusals.specs.Accepted.{AcceptedBetas}
@@ -41,4 +41,4 @@ pub record AcceptedTotals (arrangement : Room.Arrangement) (n floor : ℕ) (a b 
   pub factor-count : length factors ≡ signed_factors (length betas) (length (kept a b m))
   pub factors_pass : (e : ℕ) → e < signed_factors (length betas) (length (kept a b m)) → passes (get_or factors e nan) ≡ true
   pub fitting : misfit ≡ false
-  pub enough : Room.room arrangement n (windowFrom floor a b m) (length (kept a b m)) us vs ≤ work
+  pub enough : Room.room arrangement n (window_from floor a b m) (length (kept a b m)) us vs ≤ work

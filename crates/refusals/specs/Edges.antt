@@ -44,15 +44,15 @@ abbrev pub places : List Kept → List ℕ
 places es = map (λ e. e.place) es
 
 -- The columns of the edges that three raw lists keep: earlier ends, later ends, magnitudes.
-abbrev pub keptEarly : List ℕ → List ℕ → List Float → List ℕ
-keptEarly a b m = early_ends (kept a b m)
+abbrev pub kept_early : List ℕ → List ℕ → List Float → List ℕ
+kept_early a b m = early_ends (kept a b m)
 
-abbrev pub keptLate : List ℕ → List ℕ → List Float → List ℕ
-keptLate a b m = late_ends (kept a b m)
+abbrev pub kept_late : List ℕ → List ℕ → List Float → List ℕ
+kept_late a b m = late_ends (kept a b m)
 
 abbrev pub kept_magnitudes : List ℕ → List ℕ → List Float → List Float
 kept_magnitudes a b m = magnitudes (kept a b m)
 
 -- Their window, by the caller's floor.
-abbrev pub windowFrom : ℕ → List ℕ → List ℕ → List Float → ℕ
-windowFrom floor a b m = window_of floor (keptEarly a b m) (keptLate a b m)
+abbrev pub window_from : ℕ → List ℕ → List ℕ → List Float → ℕ
+window_from floor a b m = window_of floor (kept_early a b m) (kept_late a b m)

@@ -12,7 +12,7 @@ use Rattle.list_laws.specs.Search.{some}
 use Rattle.transfer_matrix.specs.Job.{too_many_near}
 use Rattle.transfer_matrix.specs.Configuration.{numbered}
 use Rattle.transfer_matrix.specs.Room as Room
-use Rattle.refusals.specs.Edges.{Kept, kept, early_ends, late_ends, windowFrom, kept_magnitudes}
+use Rattle.refusals.specs.Edges.{Kept, kept, early_ends, late_ends, window_from, kept_magnitudes}
 use Rattle.refusals.specs.Couplings.{all_couplings}
 
 -- Which signs of the free edges a call goes through: all of them, or chunks of drawn ones.
@@ -268,7 +268,7 @@ parallel_edges r = joined_twice (early_ends (kept_in r)) (late_ends (kept_in r))
 
 -- 6. The window is above its limit, which is 24.
 abbrev pub window_in : Request → ℕ
-window_in r = windowFrom r.floor r.ones r.others r.magnitudes
+window_in r = window_from r.floor r.ones r.others r.magnitudes
 
 abbrev pub wide_window : (most : ℕ) → Request → Bool
 wide_window most r = ltb most (window_in r)

@@ -15,7 +15,7 @@ use Rattle.std.proofs.lemmas.Bool.{lt-leb}
 use Rattle.limits.specs.Limits.{most_vertices, most_edges, most_pairs, most_betas, most_window}
 use Rattle.list_laws.specs.Laws.Search.{start, none_of}
 use Rattle.transfer_matrix.specs.Job as Job
-use Rattle.refusals.specs.Edges.{Kept, kept_at, kept_of, is_zero, keptEarly, keptLate}
+use Rattle.refusals.specs.Edges.{Kept, kept_at, kept_of, is_zero, kept_early, kept_late}
 use Rattle.refusals.specs.Key.{Key, among}
 use Rattle.refusals.specs.Laws.First.{here, past}
 use Rattle.refusals.specs.Refusal.{refusal, of_graph, of_room}
@@ -117,12 +117,12 @@ module _ {s : Strip} {r : Request} (S : Sides s.w s.l) (o : odd_cylinder s ≡ f
   none_zero : (i : ℕ) → i < length (edges s) → is_zero (get_or m i nan) ≡ false
   none_zero i h = rw (unit-at (edges s) i h) one_kept
 
-  kept-early : keptEarly a b m ≡ a
+  kept-early : kept_early a b m ≡ a
   kept-early =
       column-all a b m a (λ k. k.early) (λ i h. none_zero i (omega (arith, a-length)))
       (λ i h. min-eq_left (omega (arith, (ends-inside s S o i (omega (arith, a-length))).0)))
 
-  kept-late : keptLate a b m ≡ b
+  kept-late : kept_late a b m ≡ b
   kept-late =
       let same : length a ≡ length b = a-length ∙ sym b-length in
       rw same

@@ -4,7 +4,7 @@ use Rattle.limits.specs.declared.Caller.{Caller}
 use Rattle.transfer_matrix.specs.Room.{room}
 use Rattle.plan_layout.specs.declared.Arrangement.{Arrangement}
 use Rattle.plan_layout.specs.Arrangements.{arrangement_of}
-use Rattle.refusals.specs.Edges.{kept, windowFrom, keptEarly, keptLate}
+use Rattle.refusals.specs.Edges.{kept, window_from, kept_early, kept_late}
 use Rattle.forest.specs.FreeEdges.{free_count}
 use Rattle.entry_correlations.specs.declared.Manner.{Manner}
 
@@ -27,16 +27,16 @@ pub record Given : Type 0 where
 module _ (g : Given) where
   -- The kept edges' ends, the free edges among them, the window and the room.
   abbrev pub early : List ℕ
-  early = keptEarly g.a g.b g.m
+  early = kept_early g.a g.b g.m
 
   abbrev pub late : List ℕ
-  late = keptLate g.a g.b g.m
+  late = kept_late g.a g.b g.m
 
   abbrev pub free : ℕ
   free = free_count early late
 
   abbrev pub window : ℕ
-  window = windowFrom g.floor g.a g.b g.m
+  window = window_from g.floor g.a g.b g.m
 
   abbrev pub end : ℕ
   end = room (arrangement_of g.arrangement) g.n window (length (kept g.a g.b g.m)) g.us g.vs

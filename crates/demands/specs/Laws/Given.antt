@@ -12,7 +12,7 @@ use Rattle.list_laws.specs.Laws.Most.{most-above}
 use Rattle.transfer_matrix.specs.Job.{Edge, Manner, Job, longest, window_of}
 use Rattle.transfer_matrix.specs.Configuration.{lent_at, edges_with, configured}
 use Rattle.transfer_matrix.specs.Checked.{Kept, Checked}
-use Rattle.refusals.specs.Edges.{kept, windowFrom, keptEarly, keptLate}
+use Rattle.refusals.specs.Edges.{kept, window_from, kept_early, kept_late}
 use Rattle.refusals.specs.Request.{same_ends, joined_twice, signed_factors}
 use Rattle.refusals.specs.Laws.Accepted.{kept-inside}
 use Rattle.refusals.specs.AcceptedJob.{AcceptedJob, AcceptedCorrelations}
@@ -41,13 +41,13 @@ ends-differ early late h i j a b p q =
 module _ (n floor : ℕ) (a b : List ℕ) (m : List Float) (us vs : List ℕ) (manner : Manner) (ok : AcceptedJob n floor a b m us vs) (factor : ℕ → Float)
     (sound : (e : ℕ) → e < length (kept a b m) → T (positive (factor e))) where
   abbrev early : List ℕ
-  early = keptEarly a b m
+  early = kept_early a b m
 
   abbrev late : List ℕ
-  late = keptLate a b m
+  late = kept_late a b m
 
   abbrev pub job_made : Job Float
-  job_made = record { last = n - 1; window = windowFrom floor a b m; edges = edges_with early late factor; manner = manner }
+  job_made = record { last = n - 1; window = window_from floor a b m; edges = edges_with early late factor; manner = manner }
 
   abbrev edge_at : ℕ → Edge Float
   edge_at e = record { early = get_or early e 0; late = get_or late e 0; factor = factor e }
@@ -86,11 +86,11 @@ module _ (n floor : ℕ) (a b : List ℕ) (m : List Float) (us vs : List ℕ) (b
       sign_small false = omega arith
 
   pub checked-signed : (minus : ℕ → Bool) (beta : ℕ) → beta < length betas
-      → Checked (λ x. T (positive x)) (job_signed n (windowFrom floor a b m) (keptEarly a b m) (keptLate a b m) factors (manner_of manner) minus beta)
+      → Checked (λ x. T (positive x)) (job_signed n (window_from floor a b m) (kept_early a b m) (kept_late a b m) factors (manner_of manner) minus beta)
   unfolding configured
   checked-signed minus beta l =
-      let c : length (keptEarly a b m) ≡ length (kept a b m) = length-map (kept a b m) (λ x. x.early) in
+      let c : length (kept_early a b m) ≡ length (kept a b m) = length-map (kept a b m) (λ x. x.early) in
       checked-made n floor a b m us vs (manner_of manner) ok.job
-      (λ e. get_or factors (lent_at (length (keptEarly a b m)) beta e (minus e)) nan)
-      (λ e k. passes-positive _ (ok.factors_pass (lent_at (length (keptEarly a b m)) beta e (minus e))
+      (λ e. get_or factors (lent_at (length (kept_early a b m)) beta e (minus e)) nan)
+      (λ e k. passes-positive _ (ok.factors_pass (lent_at (length (kept_early a b m)) beta e (minus e))
       (rw c (lent-inside (length (kept a b m)) beta e (minus e) k l))))

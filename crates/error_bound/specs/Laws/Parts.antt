@@ -4,7 +4,7 @@ use Rattle.std.proofs.Common.{sym, ap, ◌∙◌}
 use Rattle.list_laws.specs.Search.{some}
 use Rattle.list_laws.specs.Laws.Search.{start}
 use Rattle.transfer_matrix.specs.Configuration.{numbered}
-use Rattle.refusals.specs.Edges.{kept, windowFrom, keptEarly, keptLate}
+use Rattle.refusals.specs.Edges.{kept, window_from, kept_early, kept_late}
 use Rattle.refusals.specs.Key.{Key}
 use Rattle.refusals.specs.Request.{Request, job_request, bad_ends, bad_factor_list}
 use Rattle.refusals.specs.Refusal.{refusal, of_room}
@@ -57,17 +57,17 @@ module _ (t : Bool) (n w near : ℕ) (factors : List Float) where
 -- ---- both: what the second part answers of the kept edges in other words
 module _ (n floor : ℕ) (a b : List ℕ) (m betas factors : List Float) (signed : Bool) where
   abbrev early : List ℕ
-  early = keptEarly a b m
+  early = kept_early a b m
 
   abbrev late : List ℕ
-  late = keptLate a b m
+  late = kept_late a b m
 
   pub answered : {r w k count : ℕ} {x : ErrorBound} {early' late' : List ℕ} → r ≡ refusal of_room (job_request n floor a b m [] [] betas) → r ≡ 0
-      → w ≡ windowFrom floor a b m → k ≡ length (kept a b m) → count ≡ factor_count signed (length betas) k → early' ≡ early → late' ≡ late
+      → w ≡ window_from floor a b m → k ≡ length (kept a b m) → count ≡ factor_count signed (length betas) k → early' ≡ early → late' ≡ late
       → x ≡ bound_of (cond (bad_factor_list factors count) 10 0) n w (most_near n w (numbered early' late')) factors
       → x ≡ error_bound_of n floor a b m betas factors signed
   answered {r} {w} {k} {count} e z window edges counted p q is =
-      is ∙ rw (window, p, q, counted, edges) (ap (λ (j : ℕ). bound_of j n (windowFrom floor a b m) (most_near n (windowFrom floor a b m) (numbered early late)) factors)
+      is ∙ rw (window, p, q, counted, edges) (ap (λ (j : ℕ). bound_of j n (window_from floor a b m) (most_near n (window_from floor a b m) (numbered early late)) factors)
       (sym (second-part n floor a b m betas factors (factor_count signed (length betas) (length (kept a b m))) r e z)))
 
   pub refused : {r : ℕ} → r ≡ refusal of_room (job_request n floor a b m [] [] betas) → (r ≡ 0 → ⊥) → Refused r ≡ error_bound_of n floor a b m betas factors signed

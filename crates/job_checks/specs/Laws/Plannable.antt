@@ -3,7 +3,7 @@ use Rattle.std.specs.Prelude.{◌≡◌, List, ℕ, ◌≤◌, Float, length, ta
 use Rattle.std.proofs.Common.{sym, ◌∙◌, arith}
 use Rattle.std.proofs.lemmas.List.{length-map}
 use Rattle.transfer_matrix.specs.Room.{Arrangement, room}
-use Rattle.refusals.specs.Edges.{kept, keptEarly}
+use Rattle.refusals.specs.Edges.{kept, kept_early}
 use Rattle.kept_edges.specs.Laws.Fronts.{front-early, front-late}
 use Rattle.plan_layout.specs.Plannable.{Plannable}
 use Rattle.job_checks.specs.Checked.{ReadyJob}
@@ -11,7 +11,7 @@ use Rattle.job_checks.specs.Checked.{ReadyJob}
 module _ {n floor : ℕ} {a b : List ℕ} {m : List Float} {us vs : List ℕ} {k w : ℕ} {early early' late late' : List ℕ} {mag mag' : List Float}
     (g : ReadyJob n floor a b m us vs k w early early' late late' mag mag') where
   -- as many ends as kept edges
-  pub edge_count : length (keptEarly a b m) ≡ length (kept a b m)
+  pub edge_count : length (kept_early a b m) ≡ length (kept a b m)
   edge_count = length-map (kept a b m) (λ x. x.early)
 
   -- the fronts of the lists are the kept edges

@@ -11,7 +11,7 @@ use Rattle.list_laws.specs.Laws.Search.{or-false, none-at}
 use Rattle.list_laws.specs.Laws.Tabulate.{tabulate-length, tabulate-at, tabulated}
 use Rattle.transfer_matrix.specs.Job.{window_of}
 use Rattle.refusals.specs.Key.{Key}
-use Rattle.refusals.specs.Edges.{keptEarly, keptLate}
+use Rattle.refusals.specs.Edges.{kept_early, kept_late}
 use Rattle.refusals.specs.Request.{call_request, bad_ends, outside, limit, oversized, some_oversized}
 use Rattle.refusals.specs.Refusal.{refusal, of_job}
 use Rattle.refusals.specs.AcceptedJob.{AcceptedJob}
@@ -99,7 +99,7 @@ module _ (n floor : ℕ) (a b : List ℕ) (m : List Float) (us vs : List ℕ) (b
   job = (accepted_with Desk n floor a b m us vs betas passed).0
 
   low-floor : floor ≤ 24
-  low-floor = omega (arith, job.narrow, floor-low floor (keptEarly a b m) (keptLate a b m))
+  low-floor = omega (arith, job.narrow, floor-low floor (kept_early a b m) (kept_late a b m))
 
   inside : (i : ℕ) → i < length a → (get_or a i 0 < n) × (get_or b i 0 < n)
   inside i h =

@@ -4,7 +4,7 @@ use Rattle.std.proofs.Common.{sym, ◌∙◌, ap₂, subst₂, arith, length-tak
 use Rattle.std.proofs.lemmas.List.{length-map}
 use Rattle.limits.specs.Limits.{most_edges}
 use Rattle.list_laws.specs.Front.{over}
-use Rattle.refusals.specs.Edges.{Kept, kept, keptEarly, keptLate, kept_magnitudes}
+use Rattle.refusals.specs.Edges.{Kept, kept, kept_early, kept_late, kept_magnitudes}
 use Rattle.refusals.specs.Accepted.{Lengths, Accepted}
 use Rattle.refusals.specs.Laws.Accepted.{AcceptedRaw, accepted-graph, kept-inside, kept-most}
 use Rattle.kept_edges.specs.Keep.{Written, CheckedGraph, KeptEdges}
@@ -15,10 +15,10 @@ front-is f es l l₀ k p q = rw q (take_at (map f es) (drop (length (map f es)) 
 
 module _ {a b : List ℕ} {m : List Float} {k : ℕ} {early early' late late' : List ℕ} {mag mag' : List Float}
     (W : Written a b m (length a) k early early' late late' mag mag') where
-  pub front-early : take k early' ≡ keptEarly a b m
+  pub front-early : take k early' ≡ kept_early a b m
   front-early = front-is (λ e. e.early) (kept a b m) early' early k W.edges W.earlies
 
-  pub front-late : take k late' ≡ keptLate a b m
+  pub front-late : take k late' ≡ kept_late a b m
   front-late = front-is (λ e. e.late) (kept a b m) late' late k W.edges W.lates
 
   pub front_mag : take k mag' ≡ kept_magnitudes a b m
@@ -51,18 +51,18 @@ module _ {a b : List ℕ} {m : List Float} {k : ℕ} {early early' late late' : 
 
   -- what holds of the fronts holds of the kept edges
   pub of-kept : {A : Type 0} (f : List ℕ → List ℕ → A) {x : A} → x ≡ f (take k early') (take k late')
-      → x ≡ f (keptEarly a b m) (keptLate a b m)
+      → x ≡ f (kept_early a b m) (kept_late a b m)
   of-kept f e = e ∙ ap₂ f front-early front-late
 
 -- ---- a graph that was accepted
 
 -- its kept edges
-pub kept-edges : (n : ℕ) (a b : List ℕ) (m : List Float) → Accepted n a b m → KeptEdges n (keptEarly a b m) (keptLate a b m)
+pub kept-edges : (n : ℕ) (a b : List ℕ) (m : List Float) → Accepted n a b m → KeptEdges n (kept_early a b m) (kept_late a b m)
 kept-edges n a b m ok =
     let p = length-map (kept a b m) (λ e. e.early) in
     let q = length-map (kept a b m) (λ e. e.late) in
-    let at : (e : ℕ) → e < length (keptEarly a b m)
-    → (get_or (keptEarly a b m) e 0 < get_or (keptLate a b m) e 0) × (get_or (keptLate a b m) e 0 < n) = λ e l.
+    let at : (e : ℕ) → e < length (kept_early a b m)
+    → (get_or (kept_early a b m) e 0 < get_or (kept_late a b m) e 0) × (get_or (kept_late a b m) e 0 < n) = λ e l.
     kept-inside n a b m ok.edges e (omega (arith, p)) in
     record { few = ok.few-vertices; ordered = record { lengths = q ∙ sym p; ends = λ e l. (at e l).0 }; inside = λ e l. (at e l).1 }
 

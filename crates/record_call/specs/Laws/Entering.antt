@@ -6,7 +6,7 @@ use Rattle.transfer_matrix.specs.Job as Job
 use Rattle.transfer_matrix.specs.Room.{Arrangement}
 use Rattle.house_factors.specs.Factors.{paired_factors}
 use Rattle.refusals.specs.Couplings.{all_couplings}
-use Rattle.refusals.specs.Edges.{kept, windowFrom, keptEarly, keptLate, kept_magnitudes}
+use Rattle.refusals.specs.Edges.{kept, window_from, kept_early, kept_late, kept_magnitudes}
 use Rattle.refusals.specs.Request.{Source, lent, house, source_number, bad_list, too_many_chunks, unwritable, signed_factors}
 use Rattle.refusals.specs.Laws.First.{unless}
 use Rattle.refusals.specs.AcceptedTotals.{sampling_lists}
@@ -46,12 +46,12 @@ module _ {n floor : ℕ} {a b : List ℕ} {m : List Float} {us vs : List ℕ} {k
     (g : ReadyJob n floor a b m us vs k w early early' late late' mag mag') where
   listed : (source : Source) (A B : Arrangement) → A ≡ B → (list list' : List Float) → list ≡ list' → (count count' : ℕ) → count ≡ count'
       → (from to samples : ℕ) (misfit : Bool) (work r : ℕ) → r ≡ recording_lists source A n w k us vs list count from to samples misfit work
-      → r ≡ recording_lists source B n (windowFrom floor a b m) (length (kept a b m)) us vs list' count' from to samples misfit work
+      → r ≡ recording_lists source B n (window_from floor a b m) (length (kept a b m)) us vs list' count' from to samples misfit work
   listed source A B eA list list' eL count count' eC from to samples misfit work r h = rw (eA, g.window, g.written.edges, eL, eC) at h
 
   pub lent-listed : (A B : Arrangement) → A ≡ B → (betas : ℕ) (factors : List Float) (from to samples : ℕ) (misfit : Bool) (work r : ℕ)
       → r ≡ recording_lists lent A n w k us vs factors (signed_factors betas k) from to samples misfit work
-      → r ≡ recording_lists lent B n (windowFrom floor a b m) (length (kept a b m)) us vs factors (signed_factors betas (length (kept a b m))) from to samples misfit work
+      → r ≡ recording_lists lent B n (window_from floor a b m) (length (kept a b m)) us vs factors (signed_factors betas (length (kept a b m))) from to samples misfit work
   lent-listed A B eA betas factors from to samples misfit work r h =
       listed lent A B eA factors factors refl _ _ (ap (signed_factors betas) g.written.edges) from to samples misfit work r h
 
@@ -65,7 +65,7 @@ module _ {n floor : ℕ} {a b : List ℕ} {m : List Float} {us vs : List ℕ} {k
 
   pub house-listed : (betas : List Float) (A B : Arrangement) → A ≡ B → (from to samples : ℕ) (misfit : Bool) (work r : ℕ)
       → r ≡ recording_lists house A n w (length (take k mag')) us vs (all_couplings betas (take k mag')) (length betas * length (take k mag')) from to samples misfit work
-      → r ≡ recording_lists house B n (windowFrom floor a b m) (length (kept a b m)) us vs (all_couplings betas (kept_magnitudes a b m))
+      → r ≡ recording_lists house B n (window_from floor a b m) (length (kept a b m)) us vs (all_couplings betas (kept_magnitudes a b m))
       (length betas * length (kept_magnitudes a b m)) from to samples misfit work
   house-listed betas A B eA from to samples misfit work r h =
       listed house A B eA _ _ (ap (all_couplings betas) (front_mag g.written)) _ _ (ap (λ (l : List Float). length betas * length l) (front_mag g.written)) from to samples misfit work r
@@ -87,20 +87,20 @@ module _ {n floor : ℕ} {a b : List ℕ} {m : List Float} {us vs : List ℕ} {k
   module _ (h : Head) {sound : Bool} {bytes : List ℕ} {work work' : List Float} {manner manner' : Job.Manner} (e : manner ≡ manner') {A B : Arrangement} (eA : A ≡ B) where
     pub record_kept : (factors : List Float)
         → RecordIs n w (take k early') (take k late') factors manner us vs h A (length (take k early')) sound bytes work work'
-        → RecordIs n (windowFrom floor a b m) (keptEarly a b m) (keptLate a b m) factors manner' us vs h B (length (kept a b m)) sound bytes work work'
+        → RecordIs n (window_from floor a b m) (kept_early a b m) (kept_late a b m) factors manner' us vs h B (length (kept a b m)) sound bytes work work'
     record_kept factors f =
-        let E = keptEarly a b m in
-        let L = keptLate a b m in
+        let E = kept_early a b m in
+        let L = kept_late a b m in
         let p = subst (λ (x : List ℕ). RecordIs n w x (take k late') factors manner us vs h A (length x) sound bytes work work') (front-early g.written) f in
         let q = subst (λ (x : List ℕ). RecordIs n w E x factors manner us vs h A (length E) sound bytes work work') (front-late g.written) p in
         let s = subst (λ (v : ℕ). RecordIs n v E L factors manner us vs h A (length E) sound bytes work work') g.window q in
-        let t = subst (λ (c : ℕ). RecordIs n (windowFrom floor a b m) E L factors manner us vs h A c sound bytes work work') (edge_count g) s in
-        let u = subst (λ (x : Job.Manner). RecordIs n (windowFrom floor a b m) E L factors x us vs h A (length (kept a b m)) sound bytes work work') e t in
-        subst (λ (x : Arrangement). RecordIs n (windowFrom floor a b m) E L factors manner' us vs h x (length (kept a b m)) sound bytes work work') eA u
+        let t = subst (λ (c : ℕ). RecordIs n (window_from floor a b m) E L factors manner us vs h A c sound bytes work work') (edge_count g) s in
+        let u = subst (λ (x : Job.Manner). RecordIs n (window_from floor a b m) E L factors x us vs h A (length (kept a b m)) sound bytes work work') e t in
+        subst (λ (x : Arrangement). RecordIs n (window_from floor a b m) E L factors manner' us vs h x (length (kept a b m)) sound bytes work work') eA u
 
     pub record_housed : (betas : List Float)
         → RecordIs n w (take k early') (take k late') (paired_factors (all_couplings betas (take k mag'))) manner us vs h A (length (take k early')) sound bytes work work'
-        → RecordIs n (windowFrom floor a b m) (keptEarly a b m) (keptLate a b m) (paired_factors (all_couplings betas (kept_magnitudes a b m))) manner' us vs h B
+        → RecordIs n (window_from floor a b m) (kept_early a b m) (kept_late a b m) (paired_factors (all_couplings betas (kept_magnitudes a b m))) manner' us vs h B
         (length (kept a b m)) sound bytes work work'
     record_housed betas f =
         record_kept (paired_factors (all_couplings betas (kept_magnitudes a b m)))

@@ -5,7 +5,7 @@ use Rattle.limits.specs.declared.Caller.TheVariants.{Desk}
 use Rattle.limits.specs.Limits.{most_samples, most_named}
 use Rattle.list_laws.specs.Laws.Search.{or-false}
 use Rattle.transfer_matrix.specs.Room as Room
-use Rattle.refusals.specs.Edges.{kept, windowFrom}
+use Rattle.refusals.specs.Edges.{kept, window_from}
 use Rattle.refusals.specs.Key.{Key}
 use Rattle.refusals.specs.Request.{Request, Source, lent, house, sampled, sweep_request, call_request, bad_list, source_number, too_many_chunks, unwritable}
 use Rattle.refusals.specs.Refusal.{checks, refusal, of_room, of_job, of_recording, of_recording_lists, of_sweeps, housed, sourced}
@@ -24,14 +24,14 @@ module _ (A : Room.Arrangement) (n floor : ℕ) (a b : List ℕ) (m : List Float
   pub recording_in_parts : (source : Source) (free start end samples : ℕ) (misfit : Bool) (work : ℕ) (unsound : Bool)
       → refusal (sourced source of_recording) (sweep_request Desk A n floor a b m us vs betas (sampled free start end samples) list count misfit work unsound)
       ≡ or_else (refusal of_job (call_request Desk n floor a b m us vs betas))
-      (or_else (recording_lists source A n (windowFrom floor a b m) (length (kept a b m)) us vs list count start end samples misfit work) (cond unsound 14 0))
+      (or_else (recording_lists source A n (window_from floor a b m) (length (kept a b m)) us vs list count start end samples misfit work) (cond unsound 14 0))
   recording_in_parts source free start end samples misfit work unsound = go source
     where
       r : Request
       r = sweep_request Desk A n floor a b m us vs betas (sampled free start end samples) list count misfit work unsound
 
       go : (s : Source) → refusal (sourced s of_recording) r ≡ or_else (refusal of_job (call_request Desk n floor a b m us vs betas))
-          (or_else (recording_lists s A n (windowFrom floor a b m) (length (kept a b m)) us vs list count start end samples misfit work) (cond unsound 14 0))
+          (or_else (recording_lists s A n (window_from floor a b m) (length (kept a b m)) us vs list count start end samples misfit work) (cond unsound 14 0))
       go lent = behind-room r of_recording_lists refl refl
       go house = behind-room r (housed of_recording_lists) refl refl
 

@@ -12,7 +12,7 @@ use Rattle.std.proofs.lemmas.Bool.{eqb-false, not-false}
 use Rattle.limits.specs.Limits.{most_vertices, most_edges, most_pairs, most_betas}
 use Rattle.list_laws.specs.Search.{some}
 use Rattle.list_laws.specs.Laws.Search.{or-false, none-at}
-use Rattle.refusals.specs.Edges.{Kept, kept_at, kept_of, kept, is_zero, keptEarly, keptLate}
+use Rattle.refusals.specs.Edges.{Kept, kept_at, kept_of, kept, is_zero, kept_early, kept_late}
 use Rattle.refusals.specs.Request.{graph_request, job_request, bad_lists, bad_ends, some_oversized, joined_twice}
 use Rattle.refusals.specs.Key.{Key}
 use Rattle.refusals.specs.Refusal.{refusal, of_raw_graph, of_graph}
@@ -87,7 +87,7 @@ module _ (n floor : ℕ) (a b : List ℕ) (m : List Float) (us vs : List ℕ) (b
 
   -- the checks that read the lists, then those of the kept edges
   pub graph_in_parts : refusal of_graph (job_request n floor a b m us vs betas)
-      ≡ or_else (refusal of_raw_graph (job_request n floor a b m us vs betas)) (cond (joined_twice (keptEarly a b m) (keptLate a b m)) 5 0)
+      ≡ or_else (refusal of_raw_graph (job_request n floor a b m us vs betas)) (cond (joined_twice (kept_early a b m) (kept_late a b m)) 5 0)
   graph_in_parts = refusal_in_parts of_raw_graph (Key.parallel_edges ∷ []) (job_request n floor a b m us vs betas) refl
 
   -- a graph with betas and pairs that 1 to 5 pass
@@ -141,7 +141,7 @@ module _ (n : ℕ) (a b : List ℕ) (m : List Float) (ok : some (bad_ends n a b)
 
   -- by their columns
   pub kept-inside : (e : ℕ) → e < length (kept a b m)
-      → (get_or (keptEarly a b m) e 0 < get_or (keptLate a b m) e 0) × (get_or (keptLate a b m) e 0 < n)
+      → (get_or (kept_early a b m) e 0 < get_or (kept_late a b m) e 0) × (get_or (kept_late a b m) e 0 < n)
   kept-inside e h =
       let z : Kept = record { early = 0; late = 0; magnitude = nan; place = 0 } in
       let k = kept-each (length a) (omega arith) z e h in

@@ -10,7 +10,7 @@ use Rattle.limits.specs.Limits.{most_window}
 use Rattle.list_laws.specs.Laws.Search.{or-false, none-at}
 use Rattle.transfer_matrix.specs.Job.{window_of}
 use Rattle.transfer_matrix.specs.Room as Room
-use Rattle.refusals.specs.Edges.{kept, windowFrom, keptEarly, keptLate}
+use Rattle.refusals.specs.Edges.{kept, window_from, kept_early, kept_late}
 use Rattle.refusals.specs.Key.{Key}
 use Rattle.refusals.specs.Request.{Request, Source, lent, house, job_request, call_request, correlation_request, outside, bad_ends, bad_factor_list, passes}
 use Rattle.refusals.specs.Refusal.{checks, refusal, of_graph, of_kept, of_job, of_lists, of_sweeps, of_correlations, housed, sourced}
@@ -38,7 +38,7 @@ module _ (caller : Caller) (n floor : ℕ) (a b : List ℕ) (m : List Float) (us
   pub correlations_in_parts : (source : Source) (A : Room.Arrangement) (list : List Float) (results work : ℕ) (unsound : Bool)
       → refusal (sourced source of_correlations) (correlation_request caller A n floor a b m us vs list results work unsound)
       ≡ or_else (refusal of_job (call_request caller n floor a b m us vs []))
-      (or_else (lists_refusal source A n (windowFrom floor a b m) (length (kept a b m)) us vs list results work) (cond unsound 14 0))
+      (or_else (lists_refusal source A n (window_from floor a b m) (length (kept a b m)) us vs list results work) (cond unsound 14 0))
   correlations_in_parts source A list results work unsound = go source
     where
       r : Request
@@ -46,7 +46,7 @@ module _ (caller : Caller) (n floor : ℕ) (a b : List ℕ) (m : List Float) (us
 
       go : (s : Source) → refusal (sourced s of_correlations) r
           ≡ or_else (refusal of_job (call_request caller n floor a b m us vs []))
-          (or_else (lists_refusal s A n (windowFrom floor a b m) (length (kept a b m)) us vs list results work) (cond unsound 14 0))
+          (or_else (lists_refusal s A n (window_from floor a b m) (length (kept a b m)) us vs list results work) (cond unsound 14 0))
       go lent = behind-job r of_lists refl refl
       go house = behind-job r (housed of_lists) refl refl
 
@@ -68,8 +68,8 @@ module _ (caller : Caller) (n floor : ℕ) (a b : List ℕ) (m : List Float) (us
           graph = graph.0;
           matched = graph.1.matched;
           few-pairs = graph.1.few-pairs;
-          wide = window-wide floor (keptEarly a b m) (keptLate a b m);
-          narrow = ltb-false most_window (windowFrom floor a b m) (passed-at of_job q h Key.window refl);
+          wide = window-wide floor (kept_early a b m) (kept_late a b m);
+          narrow = ltb-false most_window (window_from floor a b m) (passed-at of_job q h Key.window refl);
           near = passed-at of_job q h Key.near_edges refl;
           first-inside = λ i l. leb-false n (get_or us i 0) (inside i l).0;
           second-inside = λ i l. leb-false n (get_or vs i 0) (inside i l).1;

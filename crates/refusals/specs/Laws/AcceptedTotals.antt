@@ -5,7 +5,7 @@ use Rattle.std.proofs.Math.Decide.{dec_lt}
 use Rattle.limits.specs.declared.Caller.{Caller}
 use Rattle.limits.specs.Callers.{over_limit}
 use Rattle.limits.specs.Limits.{most_samples, tester_free}
-use Rattle.refusals.specs.Edges.{kept, windowFrom}
+use Rattle.refusals.specs.Edges.{kept, window_from}
 use Rattle.refusals.specs.Request.{Request, Source, lent, house, enumerated, sampled, sweep_request}
 use Rattle.refusals.specs.Request.{coupling_request, job_request, call_request, enumeration_request, sampling_request, signed_factors}
 use Rattle.refusals.specs.Request.{bad_factor_list, too_many_chunks}
@@ -39,28 +39,28 @@ module _ (caller : Caller) (A : Room.Arrangement) (n floor : ℕ) (a b : List �
   pub enumeration_in_parts : (source : Source) (free most : ℕ) (misfit : Bool) (work : ℕ) (unsound : Bool)
       → refusal (sourced source of_enumeration) (sweep_request caller A n floor a b m us vs betas (enumerated free most) list count misfit work unsound)
       ≡ or_else (refusal of_job (call_request caller n floor a b m us vs betas))
-      (or_else (enumeration_lists source caller A n (windowFrom floor a b m) (length (kept a b m)) us vs list count free most misfit work) (cond unsound 14 0))
+      (or_else (enumeration_lists source caller A n (window_from floor a b m) (length (kept a b m)) us vs list count free most misfit work) (cond unsound 14 0))
   enumeration_in_parts source free most misfit work unsound = go source
     where
       r : Request
       r = sweep_request caller A n floor a b m us vs betas (enumerated free most) list count misfit work unsound
 
       go : (s : Source) → refusal (sourced s of_enumeration) r ≡ or_else (refusal of_job (call_request caller n floor a b m us vs betas))
-          (or_else (enumeration_lists s caller A n (windowFrom floor a b m) (length (kept a b m)) us vs list count free most misfit work) (cond unsound 14 0))
+          (or_else (enumeration_lists s caller A n (window_from floor a b m) (length (kept a b m)) us vs list count free most misfit work) (cond unsound 14 0))
       go lent = behind-job r of_enumeration_lists refl refl
       go house = behind-job r (housed of_enumeration_lists) refl refl
 
   pub sampling_in_parts : (source : Source) (free start end samples : ℕ) (misfit : Bool) (work : ℕ) (unsound : Bool)
       → refusal (sourced source of_sampling) (sweep_request caller A n floor a b m us vs betas (sampled free start end samples) list count misfit work unsound)
       ≡ or_else (refusal of_job (call_request caller n floor a b m us vs betas))
-      (or_else (sampling_lists source A n (windowFrom floor a b m) (length (kept a b m)) us vs list count start end samples misfit work) (cond unsound 14 0))
+      (or_else (sampling_lists source A n (window_from floor a b m) (length (kept a b m)) us vs list count start end samples misfit work) (cond unsound 14 0))
   sampling_in_parts source free start end samples misfit work unsound = go source
     where
       r : Request
       r = sweep_request caller A n floor a b m us vs betas (sampled free start end samples) list count misfit work unsound
 
       go : (s : Source) → refusal (sourced s of_sampling) r ≡ or_else (refusal of_job (call_request caller n floor a b m us vs betas))
-          (or_else (sampling_lists s A n (windowFrom floor a b m) (length (kept a b m)) us vs list count start end samples misfit work) (cond unsound 14 0))
+          (or_else (sampling_lists s A n (window_from floor a b m) (length (kept a b m)) us vs list count start end samples misfit work) (cond unsound 14 0))
       go lent = behind-job r of_sampling_lists refl refl
       go house = behind-job r (housed of_sampling_lists) refl refl
 
@@ -111,12 +111,12 @@ accepted-couplings n a b m betas misfit h =
 module _ (caller : Caller) (A : Room.Arrangement) (n floor : ℕ) (a b : List ℕ) (m : List Float) (us vs : List ℕ) (betas factors : List Float) where
   accepted_totals : (misfit : Bool) (work : ℕ) → refusal of_job (call_request caller n floor a b m us vs betas) ≡ 0
       → bad_factor_list factors (signed_factors (length betas) (length (kept a b m))) ≡ false
-      → buffers_refusal A n (windowFrom floor a b m) (length (kept a b m)) us vs misfit work ≡ 0
+      → buffers_refusal A n (window_from floor a b m) (length (kept a b m)) us vs misfit work ≡ 0
       → AcceptedTotals A n floor a b m us vs betas factors misfit work
   accepted_totals misfit work j f h =
       let job = accepted_with caller n floor a b m us vs betas j in
       let all = accepted-factors factors _ f in
-      let buffers = accepted-buffers A n (windowFrom floor a b m) (length (kept a b m)) us vs misfit work h in
+      let buffers = accepted-buffers A n (window_from floor a b m) (length (kept a b m)) us vs misfit work h in
       record {
         job = job.0;
         betas_pass = job.1;
@@ -133,7 +133,7 @@ module _ (caller : Caller) (A : Room.Arrangement) (n floor : ℕ) (a b : List �
   accepted_enumeration free most misfit work unsound r e h =
       let q = enumeration_request caller A n floor a b m us vs betas factors free most misfit work unsound in
       let z = before-14 (of_job ++ of_enumeration_lists) q r refl refl e h in
-      let lists = enumeration_lists lent caller A n (windowFrom floor a b m) (length (kept a b m)) us vs factors (signed_factors (length betas) (length (kept a b m))) free most misfit work in
+      let lists = enumeration_lists lent caller A n (window_from floor a b m) (length (kept a b m)) us vs factors (signed_factors (length betas) (length (kept a b m))) free most misfit work in
       let parts = both-passed (refusal of_job (call_request caller n floor a b m us vs betas)) lists
       (sym (refusal_in_parts of_job of_enumeration_lists q refl) ∙ z) in
       let t9 = unless (ltb most free) (omega arith) parts.1 in
@@ -148,7 +148,7 @@ module _ (caller : Caller) (A : Room.Arrangement) (n floor : ℕ) (a b : List �
   accepted_sampling free start end samples misfit work unsound r e h =
       let q = sampling_request caller A n floor a b m us vs betas factors free start end samples misfit work unsound in
       let z = before-14 (of_job ++ of_sampling_lists) q r refl refl e h in
-      let lists = sampling_lists lent A n (windowFrom floor a b m) (length (kept a b m)) us vs factors (signed_factors (length betas) (length (kept a b m))) start end samples misfit work in
+      let lists = sampling_lists lent A n (window_from floor a b m) (length (kept a b m)) us vs factors (signed_factors (length betas) (length (kept a b m))) start end samples misfit work in
       let parts = both-passed (refusal of_job (call_request caller n floor a b m us vs betas)) lists
       (sym (refusal_in_parts of_job of_sampling_lists q refl) ∙ z) in
       let t10 = unless (bad_factor_list factors (signed_factors (length betas) (length (kept a b m)))) (omega arith) parts.1 in

@@ -6,7 +6,7 @@ use Rattle.std.proofs.Math.ListN.{get_or, length-map}
 use Rattle.list_laws.specs.Most.{most}
 use Rattle.list_laws.specs.Laws.Most.{most-above, most-least}
 use Rattle.transfer_matrix.specs.Job.{longest, window_of}
-use Rattle.refusals.specs.Edges.{kept, keptEarly, keptLate}
+use Rattle.refusals.specs.Edges.{kept, kept_early, kept_late}
 use Rattle.refusals.specs.Places.{edge_of}
 use Rattle.refusals.specs.Laws.Places.{column-at, kept_remember}
 use Rattle.kept_edges.specs.Keep.{Ordered}
@@ -18,7 +18,7 @@ use Rattle.strip_window.specs.Window as Strips
 use Rattle.strip_window.specs.Laws.EdgeLaws.{ends-inside}
 
 module _ (a b : List ℕ) (m : List Float) (O : Ordered a b) where
-  kept_near : (i : ℕ) → i < length (kept a b m) → get_or (keptLate a b m) i 0 - get_or (keptEarly a b m) i 0 ≤ most (λ e. get_or b e 0 - get_or a e 0) (length a)
+  kept_near : (i : ℕ) → i < length (kept a b m) → get_or (kept_late a b m) i 0 - get_or (kept_early a b m) i 0 ≤ most (λ e. get_or b e 0 - get_or a e 0) (length a)
   kept_near i h =
       let R = kept_remember a b m (length a) in
       let p = (edge_of (kept a b m) i).place in
@@ -31,10 +31,10 @@ module _ (a b : List ℕ) (m : List Float) (O : Ordered a b) where
       omega arith
 
   -- so the window of all edges is the window of the kept ones by that floor
-  pub window_stays : window_of 0 a b ≡ window_of (window_of 0 a b) (keptEarly a b m) (keptLate a b m)
+  pub window_stays : window_of 0 a b ≡ window_of (window_of 0 a b) (kept_early a b m) (kept_late a b m)
   unfolding window_of longest
   window_stays =
-      let l = most-least (λ e. get_or (keptLate a b m) e 0 - get_or (keptEarly a b m) e 0) (length (keptEarly a b m)) (most (λ e. get_or b e 0 - get_or a e 0) (length a))
+      let l = most-least (λ e. get_or (kept_late a b m) e 0 - get_or (kept_early a b m) e 0) (length (kept_early a b m)) (most (λ e. get_or b e 0 - get_or a e 0) (length a))
       (λ i h. kept_near i (omega (arith, length-map (kept a b m) (λ e. e.early)))) in
       omega arith
 

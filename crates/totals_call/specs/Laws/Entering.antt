@@ -14,7 +14,7 @@ use Rattle.transfer_matrix.specs.Job as Job
 use Rattle.transfer_matrix.specs.Room.{Arrangement, room}
 use Rattle.transfer_matrix.specs.Rounded.{ieee}
 use Rattle.transfer_matrix.specs.Totals.{square, fourth}
-use Rattle.refusals.specs.Edges.{kept, windowFrom, keptEarly, keptLate}
+use Rattle.refusals.specs.Edges.{kept, window_from, kept_early, kept_late}
 use Rattle.refusals.specs.Request.{Source, lent, bad_factor_list, signed_factors, too_many_chunks}
 use Rattle.refusals.specs.Laws.First.{unless}
 use Rattle.refusals.specs.AcceptedJob.{buffers_refusal}
@@ -88,16 +88,16 @@ module _ {n floor : ℕ} {a b : List ℕ} {m : List Float} {us vs : List ℕ} {k
   -- what holds of the fronts, at this window and manner, holds of the kept edges
   to-kept : (Done : List ℕ → List ℕ → ℕ → Job.Manner → ℕ → Type 0) (manner manner' : Job.Manner) → manner ≡ manner'
       → Done (take k early') (take k late') w manner (length (take k early'))
-      → Done (keptEarly a b m) (keptLate a b m) (windowFrom floor a b m) manner' (length (kept a b m))
+      → Done (kept_early a b m) (kept_late a b m) (window_from floor a b m) manner' (length (kept a b m))
   to-kept Done manner manner' e f =
-      let E = keptEarly a b m in
-      let L = keptLate a b m in
+      let E = kept_early a b m in
+      let L = kept_late a b m in
       let p : Done E L w manner (length E) =
       subst (λ (x : List ℕ). Done E x w manner (length E)) (front-late g.written)
       (subst (λ (x : List ℕ). Done x (take k late') w manner (length x)) (front-early g.written) f) in
       let q = subst (λ (v : ℕ). Done E L v manner (length E)) g.window p in
-      let s = subst (λ (c : ℕ). Done E L (windowFrom floor a b m) manner c) (edge_count g) q in
-      subst (λ (x : Job.Manner). Done E L (windowFrom floor a b m) x (length (kept a b m))) e s
+      let s = subst (λ (c : ℕ). Done E L (window_from floor a b m) manner c) (edge_count g) q in
+      subst (λ (x : Job.Manner). Done E L (window_from floor a b m) x (length (kept a b m))) e s
 
   -- ---- of an enumeration
 
@@ -107,12 +107,12 @@ module _ {n floor : ℕ} {a b : List ℕ} {m : List Float} {us vs : List ℕ} {k
 
   pub all_listed : (source : Source) (caller : Caller) (A B : Arrangement) → A ≡ B → (list list' : List Float) → list ≡ list' → (count count' : ℕ) → count ≡ count'
       → (free free' most : ℕ) (misfit : Bool) (work r : ℕ) → free ≡ free' → r ≡ enumeration_lists source caller A n w k us vs list count free most misfit work
-      → r ≡ enumeration_lists source caller B n (windowFrom floor a b m) (length (kept a b m)) us vs list' count' free' most misfit work
+      → r ≡ enumeration_lists source caller B n (window_from floor a b m) (length (kept a b m)) us vs list' count' free' most misfit work
   all_listed source caller A B eA list list' eL count count' eC free free' most misfit work r e h = rw (eA, g.window, g.written.edges, eL, eC, e) at h
 
   pub all-lists : (caller : Caller) (A B : Arrangement) → A ≡ B → (betas : ℕ) (factors : List Float) (free free' most : ℕ) (misfit : Bool) (work r : ℕ) → free ≡ free'
       → r ≡ enumeration_lists lent caller A n w k us vs factors (signed_factors betas k) free most misfit work
-      → r ≡ enumeration_lists lent caller B n (windowFrom floor a b m) (length (kept a b m)) us vs factors (signed_factors betas (length (kept a b m))) free' most misfit work
+      → r ≡ enumeration_lists lent caller B n (window_from floor a b m) (length (kept a b m)) us vs factors (signed_factors betas (length (kept a b m))) free' most misfit work
   all-lists caller A B eA betas factors free free' most misfit work r e h =
       all_listed lent caller A B eA factors factors refl _ _ (ap (signed_factors betas) g.written.edges) free free' most misfit work r e h
 
@@ -127,14 +127,14 @@ module _ {n floor : ℕ} {a b : List ℕ} {m : List Float} {us vs : List ℕ} {k
       (p.0, p.1, ltb-false most free t9.0)
 
   -- the free edges of the fronts are those of the kept edges
-  pub free-kept : (free : ℕ) → free ≡ free_count (take k early') (take k late') → free ≡ free_count (keptEarly a b m) (keptLate a b m)
+  pub free-kept : (free : ℕ) → free ≡ free_count (take k early') (take k late') → free ≡ free_count (kept_early a b m) (kept_late a b m)
   free-kept free e = rw (front-early g.written, front-late g.written) at e
 
   -- ---- of an enumeration that stores each correlation
 
   pub stored-lists : (caller : Caller) (A B : Arrangement) → A ≡ B → (betas : ℕ) (factors : List Float) (free free' wanted wanted' stored work r : ℕ) → free ≡ free' → (free ≤ 24 → wanted ≡ wanted')
       → r ≡ enumeration_lists lent caller A n w k us vs factors (signed_factors betas k) free 24 (misfits wanted stored stored) work
-      → r ≡ enumeration_lists lent caller B n (windowFrom floor a b m) (length (kept a b m)) us vs factors (signed_factors betas (length (kept a b m))) free' 24 (not (eqb stored wanted')) work
+      → r ≡ enumeration_lists lent caller B n (window_from floor a b m) (length (kept a b m)) us vs factors (signed_factors betas (length (kept a b m))) free' 24 (not (eqb stored wanted')) work
   stored-lists caller A B eA betas factors free free' wanted wanted' stored work r e h q =
       all-lists caller A B eA betas factors free free' 24 (not (eqb stored wanted')) work r e
       (q ∙ stored-misfit lent caller A n w k us vs factors (signed_factors betas k) free wanted wanted' stored work h)
@@ -143,12 +143,12 @@ module _ {n floor : ℕ} {a b : List ℕ} {m : List Float} {us vs : List ℕ} {k
 
   pub drawn-listed : (source : Source) (A B : Arrangement) → A ≡ B → (list list' : List Float) → list ≡ list' → (count count' : ℕ) → count ≡ count'
       → (from to samples : ℕ) (misfit : Bool) (work r : ℕ) → r ≡ sampling_lists source A n w k us vs list count from to samples misfit work
-      → r ≡ sampling_lists source B n (windowFrom floor a b m) (length (kept a b m)) us vs list' count' from to samples misfit work
+      → r ≡ sampling_lists source B n (window_from floor a b m) (length (kept a b m)) us vs list' count' from to samples misfit work
   drawn-listed source A B eA list list' eL count count' eC from to samples misfit work r h = rw (eA, g.window, g.written.edges, eL, eC) at h
 
   pub drawn-lists : (A B : Arrangement) → A ≡ B → (betas : ℕ) (factors : List Float) (from to samples : ℕ) (misfit : Bool) (work r : ℕ)
       → r ≡ sampling_lists lent A n w k us vs factors (signed_factors betas k) from to samples misfit work
-      → r ≡ sampling_lists lent B n (windowFrom floor a b m) (length (kept a b m)) us vs factors (signed_factors betas (length (kept a b m))) from to samples misfit work
+      → r ≡ sampling_lists lent B n (window_from floor a b m) (length (kept a b m)) us vs factors (signed_factors betas (length (kept a b m))) from to samples misfit work
   drawn-lists A B eA betas factors from to samples misfit work r h =
       drawn-listed lent A B eA factors factors refl _ _ (ap (signed_factors betas) g.written.edges) from to samples misfit work r h
 
@@ -167,14 +167,14 @@ module _ {n floor : ℕ} {a b : List ℕ} {m : List Float} {us vs : List ℕ} {k
       {A B : Arrangement} (eA : A ≡ B) where
     pub totals_kept : (c : Chunks) {squares fourths : List Float}
         → TotalsAre n w (take k early') (take k late') factors manner us vs betas c A (length (take k early')) sound squares fourths work work'
-        → TotalsAre n (windowFrom floor a b m) (keptEarly a b m) (keptLate a b m) factors manner' us vs betas c B (length (kept a b m)) sound
+        → TotalsAre n (window_from floor a b m) (kept_early a b m) (kept_late a b m) factors manner' us vs betas c B (length (kept a b m)) sound
         squares fourths work work'
     totals_kept c {squares} {fourths} h =
         rw (← eA) (to-kept (λ E L v x edges. TotalsAre n v E L factors x us vs betas c A edges sound squares fourths work work') manner manner' e h)
 
     pub stored-kept : {count : ℕ} {stored : List Float}
         → StoredAre n w (take k early') (take k late') factors manner us vs betas count A (length (take k early')) sound stored work work'
-        → StoredAre n (windowFrom floor a b m) (keptEarly a b m) (keptLate a b m) factors manner' us vs betas count B (length (kept a b m)) sound
+        → StoredAre n (window_from floor a b m) (kept_early a b m) (kept_late a b m) factors manner' us vs betas count B (length (kept a b m)) sound
         stored work work'
     stored-kept {count} {stored} h =
         rw (← eA) (to-kept (λ E L v x edges. StoredAre n v E L factors x us vs betas count A edges sound stored work work') manner manner' e h)

@@ -8,7 +8,7 @@ use Rattle.transfer_matrix.specs.Job as Job
 use Rattle.transfer_matrix.specs.Room.{Arrangement}
 use Rattle.house_factors.specs.Factors.{paired_factors}
 use Rattle.refusals.specs.Couplings.{all_couplings}
-use Rattle.refusals.specs.Edges.{kept, windowFrom, keptEarly, keptLate, kept_magnitudes}
+use Rattle.refusals.specs.Edges.{kept, window_from, kept_early, kept_late, kept_magnitudes}
 use Rattle.refusals.specs.Request.{house, bad_coupling_list, too_many_chunks}
 use Rattle.refusals.specs.Laws.First.{unless}
 use Rattle.refusals.specs.Laws.Couplings.{products-on}
@@ -48,7 +48,7 @@ module _ {n floor : ℕ} {a b : List ℕ} {m : List Float} {us vs : List ℕ} {k
 
   pub all-housed : (caller : Caller) (A B : Arrangement) → A ≡ B → (free free' most : ℕ) (misfit : Bool) (work r : ℕ) → free ≡ free'
       → r ≡ enumeration_lists house caller A n w (length M) us vs (all_couplings betas M) (length betas * length M) free most misfit work
-      → r ≡ enumeration_lists house caller B n (windowFrom floor a b m) (length (kept a b m)) us vs (all_couplings betas (kept_magnitudes a b m))
+      → r ≡ enumeration_lists house caller B n (window_from floor a b m) (length (kept a b m)) us vs (all_couplings betas (kept_magnitudes a b m))
       (length betas * length (kept_magnitudes a b m)) free' most misfit work
   all-housed caller A B eA free free' most misfit work r e h =
       all_listed g house caller A B eA _ _ (ap (all_couplings betas) (front_mag g.written)) _ _ (ap (λ (l : List Float). length betas * length l) (front_mag g.written))
@@ -68,7 +68,7 @@ module _ {n floor : ℕ} {a b : List ℕ} {m : List Float} {us vs : List ℕ} {k
   -- where each correlation is stored
   pub stored-house-lists : (caller : Caller) (A B : Arrangement) → A ≡ B → (free free' wanted wanted' stored work r : ℕ) → free ≡ free' → (free ≤ 24 → wanted ≡ wanted')
       → r ≡ enumeration_lists house caller A n w (length M) us vs (all_couplings betas M) (length betas * length M) free 24 (misfits wanted stored stored) work
-      → r ≡ enumeration_lists house caller B n (windowFrom floor a b m) (length (kept a b m)) us vs (all_couplings betas (kept_magnitudes a b m))
+      → r ≡ enumeration_lists house caller B n (window_from floor a b m) (length (kept a b m)) us vs (all_couplings betas (kept_magnitudes a b m))
       (length betas * length (kept_magnitudes a b m)) free' 24 (not (eqb stored wanted')) work
   stored-house-lists caller A B eA free free' wanted wanted' stored work r e h q =
       all-housed caller A B eA free free' 24 (not (eqb stored wanted')) work r e
@@ -78,7 +78,7 @@ module _ {n floor : ℕ} {a b : List ℕ} {m : List Float} {us vs : List ℕ} {k
 
   pub drawn-housed : (A B : Arrangement) → A ≡ B → (from to samples : ℕ) (misfit : Bool) (work r : ℕ)
       → r ≡ sampling_lists house A n w (length M) us vs (all_couplings betas M) (length betas * length M) from to samples misfit work
-      → r ≡ sampling_lists house B n (windowFrom floor a b m) (length (kept a b m)) us vs (all_couplings betas (kept_magnitudes a b m))
+      → r ≡ sampling_lists house B n (window_from floor a b m) (length (kept a b m)) us vs (all_couplings betas (kept_magnitudes a b m))
       (length betas * length (kept_magnitudes a b m)) from to samples misfit work
   drawn-housed A B eA from to samples misfit work r h =
       drawn-listed g house A B eA _ _ (ap (all_couplings betas) (front_mag g.written)) _ _ (ap (λ (l : List Float). length betas * length l) (front_mag g.written))
@@ -99,7 +99,7 @@ module _ {n floor : ℕ} {a b : List ℕ} {m : List Float} {us vs : List ℕ} {k
   module _ {sound : Bool} {work work' : List Float} {manner manner' : Job.Manner} (e : manner ≡ manner') {A B : Arrangement} (eA : A ≡ B) where
     pub totals_housed : (c : Chunks) {squares fourths : List Float}
         → TotalsAre n w (take k early') (take k late') (paired_factors (all_couplings betas M)) manner us vs (length betas) c A (length (take k early')) sound squares fourths work work'
-        → TotalsAre n (windowFrom floor a b m) (keptEarly a b m) (keptLate a b m) (paired_factors (all_couplings betas (kept_magnitudes a b m))) manner' us vs (length betas) c B (length (kept a b m))
+        → TotalsAre n (window_from floor a b m) (kept_early a b m) (kept_late a b m) (paired_factors (all_couplings betas (kept_magnitudes a b m))) manner' us vs (length betas) c B (length (kept a b m))
         sound squares fourths work work'
     totals_housed c {squares} {fourths} h =
         totals_kept g (length betas) (paired_factors (all_couplings betas (kept_magnitudes a b m))) e eA c
@@ -108,7 +108,7 @@ module _ {n floor : ℕ} {a b : List ℕ} {m : List Float} {us vs : List ℕ} {k
 
     pub stored-housed : {count : ℕ} {stored : List Float}
         → StoredAre n w (take k early') (take k late') (paired_factors (all_couplings betas M)) manner us vs (length betas) count A (length (take k early')) sound stored work work'
-        → StoredAre n (windowFrom floor a b m) (keptEarly a b m) (keptLate a b m) (paired_factors (all_couplings betas (kept_magnitudes a b m))) manner' us vs (length betas) count B (length (kept a b m))
+        → StoredAre n (window_from floor a b m) (kept_early a b m) (kept_late a b m) (paired_factors (all_couplings betas (kept_magnitudes a b m))) manner' us vs (length betas) count B (length (kept a b m))
         sound stored work work'
     stored-housed {count} {stored} h =
         stored-kept g (length betas) (paired_factors (all_couplings betas (kept_magnitudes a b m))) e eA

@@ -9,7 +9,7 @@ use lib.ListN.{length, take}
 use Rattle.limits.specs.declared.Caller.TheVariants.{Desk}
 use Rattle.transfer_matrix.specs.Room.{arranged}
 use Rattle.refusals.specs.Couplings.{all_couplings}
-use Rattle.refusals.specs.Edges.{kept, windowFrom, keptEarly, keptLate, kept_magnitudes}
+use Rattle.refusals.specs.Edges.{kept, window_from, kept_early, kept_late, kept_magnitudes}
 use Rattle.refusals.specs.Request.{lent, house, signed_factors}
 use Rattle.plan_layout.specs.Arrangements.{arrangement_of}
 use Rattle.kept_edges.specs.Laws.Fronts.{early-part, late-part, mag_part, early-fits, late-fits, mag_fits}
