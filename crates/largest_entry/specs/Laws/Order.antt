@@ -28,11 +28,17 @@ above-plus (fin false m e) (inf false) g h = tt
 above-plus (fin false m e) (inf true) g h = differ (sym h)
 above-plus (fin false m e) (fin false n d) g h = tt
 above-plus (fin false m e) (fin true n d) g h = differ (sym h)
+above-plus nan _ g h = elim g [ ]
+above-plus (inf true) _ g h = elim g [ ]
+above-plus (fin true m e) _ g h = elim g [ ]
 
 pub not_above_itself : (a : Float) → T (plus a) → lt a a ≡ false
 unfolding plus lt
 not_above_itself (inf false) g = refl
 not_above_itself (fin false m e) g = le-ltb (m * up e * down e) (m * up e * down e) (omega arith)
+not_above_itself nan g = elim g [ ]
+not_above_itself (inf true) g = elim g [ ]
+not_above_itself (fin true m e) g = elim g [ ]
 
 -- a < x, and y is not above a: y is not above x
 pub still_not : (a x y : Float) → T (plus a) → T (plus x) → lt a x ≡ true → lt a y ≡ false → lt x y ≡ false
@@ -50,6 +56,15 @@ still_not (fin false m e) (fin false p c) (fin false n d) g g' h k =
     let a : m * up e * down c < p * up c * down e = ltb-true _ _ h in
     let b : n * up d * down e ≤ m * up e * down d = ltb-false _ _ k in
     le-ltb (p * up c * down d) (n * up d * down c) (through (n * up d) (m * up e) (p * up c) (down d) (down e) (down c) (down_pos e) b (omega arith))
+still_not nan _ y g g' h k = elim g [ ]
+still_not (inf false) nan y g g' h k = elim g' [ ]
+still_not (inf false) (inf true) y g g' h k = elim g' [ ]
+still_not (inf false) (fin true p c) y g g' h k = elim g' [ ]
+still_not (inf true) _ y g g' h k = elim g [ ]
+still_not (fin false m e) nan y g g' h k = elim g' [ ]
+still_not (fin false m e) (inf true) y g g' h k = elim g' [ ]
+still_not (fin false m e) (fin true p c) y g g' h k = elim g' [ ]
+still_not (fin true m e) _ y g g' h k = elim g [ ]
 
 -- ---- two that fit, neither above the other, are one
 
@@ -119,6 +134,16 @@ one_float (fin false (suc m) e) (fin false zero d) g g' f f' h k =
 one_float (fin false (suc m) e) (fin false (suc n) d) g g' f f' h k =
     let r = same-odd (suc m) (suc n) e d (is_odd false m e f) (is_odd false n d f') (le_antisymm (ltb-false _ _ k) (ltb-false _ _ h)) in
     λ i. fin false (r.0 i) (r.1 i)
+one_float nan b g g' f f' h k = elim g [ ]
+one_float (inf false) nan g g' f f' h k = elim g' [ ]
+one_float (inf false) (inf true) g g' f f' h k = elim g' [ ]
+one_float (inf false) (fin true n d) g g' f f' h k = elim g' [ ]
+one_float (inf true) b g g' f f' h k = elim g [ ]
+one_float (fin false m e) nan g g' f f' h k = elim g' [ ]
+one_float (fin false m e) (inf true) g g' f f' h k = elim g' [ ]
+one_float (fin false zero e) (fin true n d) g g' f f' h k = elim g' [ ]
+one_float (fin false (suc m) e) (fin true n d) g g' f f' h k = elim g' [ ]
+one_float (fin true m e) b g g' f f' h k = elim g [ ]
 
 -- y is not above s, and s is not above r: y is not above r
 pub nor_above : (r s y : Float) → T (plus r) → T (plus s) → lt r s ≡ false → lt s y ≡ false → lt r y ≡ false
@@ -135,9 +160,18 @@ nor_above (fin false m e) (fin false p c) (fin false n d) g g' h k =
     let a : p * up c * down e ≤ m * up e * down c = ltb-false _ _ h in
     let b : n * up d * down c ≤ p * up c * down d = ltb-false _ _ k in
     le-ltb (m * up e * down d) (n * up d * down e) (through (n * up d) (p * up c) (m * up e) (down d) (down c) (down e) (down_pos c) b a)
+nor_above nan s y g g' h k = elim g [ ]
+nor_above (inf true) s y g g' h k = elim g [ ]
+nor_above (fin false m e) nan y g g' h k = elim g' [ ]
+nor_above (fin false m e) (inf true) y g g' h k = elim g' [ ]
+nor_above (fin false m e) (fin true p c) y g g' h k = elim g' [ ]
+nor_above (fin true m e) s y g g' h k = elim g [ ]
 
 -- none of these is below +0.0
 pub below_origin : (r : Float) → T (plus r) → lt r ieee.𝟘 ≡ false
 unfolding plus lt
 below_origin (inf false) g = refl
 below_origin (fin false m e) g = le-ltb (m * up e * 1) (0 * 1 * down e) (omega arith)
+below_origin nan g = elim g [ ]
+below_origin (inf true) g = elim g [ ]
+below_origin (fin true m e) g = elim g [ ]
