@@ -1,4 +1,6 @@
 // The checks of what a call lends, its factors, its buffers and its work memory, and of how many configurations it asks for.
+#![tactic(auto)]
+
 mod factors;
 mod lists;
 mod totals;

@@ -1,4 +1,6 @@
 // What a call over C returns: its refusal's number, and the parts of its answer through references.
+#![tactic(auto)]
+
 mod bounds;
 mod distances;
 mod estimates;

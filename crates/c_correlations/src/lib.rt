@@ -1,4 +1,6 @@
 // The pair correlations of one configuration, with the pairs as ends that were copied.
+#![tactic(auto)]
+
 ghost use Rattle.std.specs.Prelude.{◌≤◌};
 ghost use Rattle.entry_correlations.specs.Correlations.{Correlated};
 ghost use Rattle.c_pair_records.specs.Columns.{first_ends, second_ends, most_copied};

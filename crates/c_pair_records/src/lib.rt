@@ -1,4 +1,6 @@
 // Pairs that a caller lends as records, copied into two lists of ends.
+#![tactic(auto)]
+
 ghost use Rattle.std.specs.Prelude.{◌≡◌, [], ◌<◌, min};
 ghost use Rattle.c_pair_records.specs.Columns.{most_copied, ends_of, gathered, pushed};
 

@@ -1,4 +1,6 @@
 // What the numbers of a call over C name: a kind, a strip and options.
+#![tactic(auto)]
+
 mod kinds;
 mod options;
 

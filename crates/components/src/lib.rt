@@ -1,5 +1,7 @@
 // The components of a graph with the vertices 0 to n - 1: a number for each vertex, how many there are, and the lowest vertex of each.
 // Its kept edges come as two lists of ends, the smaller ends first: edge e joins early[e] and late[e].
+#![tactic(auto)]
+
 ghost use Rattle.std.specs.Prelude.{◌≡◌, ◌≤◌, length};
 ghost use Rattle.limits.specs.Limits.{most_vertices};
 ghost use Rattle.list_laws.specs.Count.{count};

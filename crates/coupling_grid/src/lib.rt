@@ -1,4 +1,6 @@
 // Where a coupling stands on the grid of the multiples of 1/128 from -4 to 4.
+#![tactic(auto)]
+
 ghost use Rattle.std.specs.Prelude.{◌≡◌, ◌≤◌, false};
 ghost use Rattle.coupling_grid.specs.Grid.{At, place_of, off_grid};
 

@@ -1,1 +1,2 @@
 // What the demands say of run records: theorems only.
+#![tactic(auto)]

@@ -1,5 +1,7 @@
 // Graph distance: the least number of edges of a walk between two vertices.
 // Lengths of known walks are lowered edge by edge, in sweeps that rise and fall in turn, until a whole sweep lowers none.
+#![tactic(auto)]
+
 ghost use Rattle.std.specs.Prelude.{◌≡◌, ◌+◌, ◌<◌, ◌≤◌, length, get_or};
 ghost use Rattle.distance.specs.Walks.{Inside, Distance};
 ghost use Rattle.distance.specs.Lengths.{Ready, Relaxed, EdgesRelaxed, Settled, Lowered};

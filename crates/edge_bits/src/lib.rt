@@ -1,4 +1,6 @@
 // What a kept edge has in an enumeration: a bit of the configuration's number, or none where it is a tree edge.
+#![tactic(auto)]
+
 ghost use Rattle.std.specs.Prelude.{◌≡◌};
 ghost use Rattle.edge_bits.specs.Having.{has_bit};
 

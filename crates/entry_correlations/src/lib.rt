@@ -1,4 +1,6 @@
 // The pair correlations of one configuration: a job is checked, planned, swept and answered.
+#![tactic(auto)]
+
 mod entry;
 mod rescaling;
 

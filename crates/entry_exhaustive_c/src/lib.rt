@@ -1,4 +1,6 @@
 // The correlations of all configurations of a strip, stored.
+#![tactic(auto)]
+
 mod entry;
 mod job;
 

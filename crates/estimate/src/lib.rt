@@ -1,4 +1,6 @@
 // The estimate that a count and two sums give: the mean of the squares, and its standard error.
+#![tactic(auto)]
+
 ghost use Rattle.std.specs.Prelude.{◌≡◌};
 ghost use Rattle.estimate.specs.Estimates.{estimate_of};
 

@@ -1,4 +1,6 @@
 // The estimate of a complete enumeration. Nothing was sampled, so its error is +0.0; beside the mean stands the spread over configurations.
+#![tactic(auto)]
+
 ghost use Rattle.std.specs.Prelude.{◌≡◌};
 ghost use Rattle.estimate_complete.specs.Complete.{complete_of};
 

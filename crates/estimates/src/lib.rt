@@ -1,4 +1,6 @@
 // The columns of a sheet: the mean and the standard error of every beta and pair, from their sums.
+#![tactic(auto)]
+
 ghost use Rattle.std.specs.Prelude.{◌≡◌, length};
 ghost use Rattle.estimates.specs.Columns.{mean_column, error_column, Columns};
 

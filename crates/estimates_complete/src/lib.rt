@@ -1,4 +1,6 @@
 // The columns of a sheet over a complete enumeration: the mean, the error and the spread of every beta and pair, from their sums.
+#![tactic(auto)]
+
 ghost use Rattle.std.specs.Prelude.{◌≡◌, length};
 ghost use Rattle.estimates_complete.specs.Columns.{mean_column, error_column, spread_column, CompleteColumns};
 

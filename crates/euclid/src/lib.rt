@@ -1,4 +1,6 @@
 // The greatest common divisor by Euclid's rule, and fractions in lowest terms.
+#![tactic(auto)]
+
 ghost use Rattle.std.specs.Prelude.{◌≡◌};
 ghost use Rattle.euclid.specs.Euclid.{gcd, reduced};
 

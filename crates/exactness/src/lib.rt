@@ -1,1 +1,2 @@
 // Laws only: the definition without rounding is the textbook ratio.
+#![tactic(auto)]

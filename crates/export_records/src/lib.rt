@@ -1,4 +1,6 @@
 // Run records by the C calling convention: two joined to one, and the totals of one.
+#![tactic(auto)]
+
 ghost use Rattle.std.specs.Prelude.{◌≡◌};
 ghost use Rattle.refusals.specs.Answers.{answered};
 ghost use Rattle.run_record_join.specs.Joining.{Joined};

@@ -1,4 +1,6 @@
 // The shares of stored correlations by the C calling convention.
+#![tactic(auto)]
+
 ghost use Rattle.std.specs.Prelude.{◌≡◌};
 ghost use Rattle.shares.specs.Shares.{shares_of, number_of, words_of, words_in};
 

@@ -1,5 +1,7 @@
 // Free edges and their bits, of a graph with the vertices 0 to n - 1.
 // Its kept edges come as two lists of ends, the smaller ends first: edge e joins early[e] and late[e].
+#![tactic(auto)]
+
 ghost use Rattle.std.specs.Prelude.{◌≡◌, cond, not, ◌+◌, ◌≤◌, ◌<◌, length};
 ghost use Rattle.limits.specs.Limits.{most_vertices, most_edges};
 ghost use Rattle.edge_bits.specs.Having.{tree};

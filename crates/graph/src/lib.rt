@@ -1,4 +1,6 @@
 // What follows from the kept edges of a graph.
+#![tactic(auto)]
+
 mod graph;
 
 pub use graph::{Reached, components, cyclomatic, distance, n_components, spanning_forest, window};

@@ -1,4 +1,6 @@
 // A graph is checked and its kept edges are set out before anything is asked of it.
+#![tactic(auto)]
+
 ghost use Rattle.std.specs.Prelude.{◌≡◌, []};
 ghost use Rattle.limits.specs.Limits.{most_edges};
 ghost use Rattle.refusals.specs.Edges.{dropping};

@@ -1,4 +1,6 @@
 // The checks of a graph, 1 to 5 and 21, with its pairs and betas.
+#![tactic(auto)]
+
 mod lists;
 mod parallel;
 

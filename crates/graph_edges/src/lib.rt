@@ -1,4 +1,6 @@
 // The kept edges of a graph as lists, for callers: as they are, or turned by 180 degrees. Where a call is refused it alters no lent list.
+#![tactic(auto)]
+
 ghost use Rattle.std.specs.Prelude.{◌≡◌, ◌||◌, ltb, ℕ, ◌≤◌, ◌<◌, length, get_or};
 ghost use Rattle.refusals.specs.Edges.{kept};
 ghost use Rattle.refusals.specs.Request.{graph_request};

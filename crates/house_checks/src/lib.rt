@@ -1,4 +1,6 @@
 // The checks of a house call's couplings, and of what it lends besides.
+#![tactic(auto)]
+
 mod couplings;
 mod lists;
 mod totals;

@@ -1,4 +1,6 @@
 // The factors of couplings, from the table of house factors.
+#![tactic(auto)]
+
 ghost use Rattle.std.specs.Prelude.{◌≡◌, false, ◌≤◌, length, get_or};
 ghost use Rattle.std.specs.Float.{nan};
 ghost use Rattle.coupling_grid.specs.Grid.{off_grid, some_off_grid};

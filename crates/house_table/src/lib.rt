@@ -1,4 +1,6 @@
 // The table of house factors: place p holds entry p - 512, the double nearest the series for e ^ ((p - 512) / 128).
+#![tactic(auto)]
+
 ghost use Rattle.std.specs.Prelude.{◌≡◌};
 ghost use Rattle.house_table.specs.House.{house_table};
 

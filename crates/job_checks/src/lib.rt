@@ -1,4 +1,6 @@
 // The checks of a job: which are refused, by which number, and what holds of one that none refuses.
+#![tactic(auto)]
+
 mod job;
 mod work;
 

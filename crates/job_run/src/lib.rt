@@ -1,4 +1,6 @@
 // The run of a planned job over its room.
+#![tactic(auto)]
+
 mod job;
 mod planned;
 

@@ -1,4 +1,6 @@
 // Job sheets as bytes, little-endian, each record's kind a byte: what stands at a place of a sheet, and how many records a whole sheet has.
+#![tactic(auto)]
+
 mod counts;
 mod record;
 

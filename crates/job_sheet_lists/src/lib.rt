@@ -1,4 +1,6 @@
 // A whole sheet read into lent lists: 19, 20, then 12 where a list is too short, and none of the checks of a job.
+#![tactic(auto)]
+
 ghost use Rattle.job_sheet_lists.specs.Lists.{ReadJob};
 
 mod answer;

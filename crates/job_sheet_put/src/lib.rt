@@ -1,4 +1,6 @@
 // The records of a job, written one behind another to the front of a buffer.
+#![tactic(auto)]
+
 mod record;
 mod rows;
 mod sheet;

@@ -1,4 +1,6 @@
 // The sheet of a job, written by an entry: a job that the checks 1 to 8 pass, to a buffer that is long enough.
+#![tactic(auto)]
+
 ghost use Rattle.job_sheet_writer.specs.Writes.{Wrote};
 
 use job_checks::check_with_betas;

@@ -1,4 +1,6 @@
 // Which edges of a graph are kept, and its window.
+#![tactic(auto)]
+
 pub mod keep;
 mod reach;
 

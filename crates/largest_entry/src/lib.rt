@@ -1,4 +1,6 @@
 // The largest entry of a part of a list, in sixteen lanes.
+#![tactic(auto)]
+
 ghost use Rattle.std.specs.Prelude.{◌≡◌, ◌+◌, ◌*◌, ◌^◌, ◌≤◌, length, get_or};
 ghost use Rattle.std.specs.Float.{nan};
 ghost use Rattle.limits.specs.Limits.{most_window};
@@ -31,7 +33,7 @@ fn one_lane(v: &[f64], at: usize, n: usize) -> f64
 }
 
 // Four numbers side by side: entries, or the largest so far of four lanes.
-#[derive(Drop)]
+#[derive(Clone, Copy)]
 pub struct Four {
     pub a: f64,
     pub b: f64,

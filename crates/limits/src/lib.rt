@@ -1,4 +1,6 @@
 // The limits of a job, each said once: constants for code, and the definitions that contracts name; and the limits of a caller.
+#![tactic(auto)]
+
 ghost use Rattle.std.specs.Prelude.{◌≡◌};
 ghost use Rattle.limits.specs.Callers.{over_limit};
 ghost use Rattle.limits.specs.Limits.{stated};
@@ -105,7 +107,7 @@ pub fn all() -> Limits
 }
 
 // Who calls: the sheet desk, which has the limits of a job, or the tester on the bench, which has limits of its own besides.
-#[derive(Drop)]
+#[derive(Clone, Copy)]
 pub enum Caller {
     Desk,
     Tester,

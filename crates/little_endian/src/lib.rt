@@ -1,4 +1,6 @@
 // Numbers as bytes, the least byte first, of any width up to eight; a double by its bits.
+#![tactic(auto)]
+
 mod doubles;
 mod words;
 

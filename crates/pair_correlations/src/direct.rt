@@ -9,7 +9,7 @@ use pair_places::earlier;
 use pair_sums::Source;
 
 // A vertex, and the places of its forward and its backward vector.
-#[derive(Drop)]
+#[derive(Clone, Copy)]
 pub struct VertexPlaces {
     pub vertex: usize,
     pub forward: usize,

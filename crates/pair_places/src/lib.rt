@@ -1,4 +1,6 @@
 // Pairs and the places of the vectors that a call keeps for them.
+#![tactic(auto)]
+
 mod kept;
 mod pairs;
 

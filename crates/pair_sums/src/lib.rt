@@ -1,4 +1,6 @@
 // What is taken of vectors of which a room's places hold the lower halves: the largest entry, and the sums of a pair.
+#![tactic(auto)]
+
 mod alone;
 mod stored;
 mod sums;

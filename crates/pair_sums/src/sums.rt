@@ -9,7 +9,7 @@ use step_tables::pow2;
 
 // Where the sums of a pair are read: Z at f and b, N at g and b, subtracted where bits 0 and d of an index differ. For a direct pair g is f
 // and d the distance; for a propagated pair d is the window.
-#[derive(Drop)]
+#[derive(Clone, Copy)]
 pub struct Source {
     pub f: usize,
     pub g: usize,
@@ -18,7 +18,7 @@ pub struct Source {
 }
 
 // The sums of a pair.
-#[derive(Drop)]
+#[derive(Clone, Copy)]
 pub struct Sums {
     pub z: f64,
     pub n: f64,

@@ -1,4 +1,6 @@
 // The layout of the work memory, by how a call is arranged; a whole plan.
+#![tactic(auto)]
+
 mod less;
 mod work;
 

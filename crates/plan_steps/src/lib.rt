@@ -1,4 +1,6 @@
 // From the kept edges of a job to the steps in the plan that the sweeps read.
+#![tactic(auto)]
+
 mod edges;
 mod layout;
 mod near;

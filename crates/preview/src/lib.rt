@@ -1,5 +1,7 @@
 // What dropping an edge would do: the window, the free edges and the room of a copy of the job with that magnitude zero. Nothing is copied and
 // nothing written.
+#![tactic(auto)]
+
 ghost use Rattle.std.specs.Prelude.{◌≡◌};
 ghost use Rattle.refusals.specs.Edges.{dropping};
 ghost use Rattle.plan_layout.specs.Arrangements.{arrangement_of};

@@ -1,4 +1,6 @@
 // The current propagated vector, and the pairs that are answered along its way.
+#![tactic(auto)]
+
 mod current;
 mod together;
 

@@ -1,5 +1,7 @@
 // Replays the original's correlations. data/correlations.bin is words: the number of jobs, and a record for each, which job.rt reads. `answers
 // correlations` of rust/oracle made it: the results are the original's, the refusals' numbers and the room from document 01.
+#![tactic(auto)]
+
 mod job;
 
 use replay_format::NUMBERS;

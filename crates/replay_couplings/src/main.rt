@@ -1,5 +1,7 @@
 // Replays the couplings of the original's graphs. data/couplings.bin is words: the number of calls, and a record for each, which call.rt reads.
 // `answers couplings` of rust/oracle made it: the magnitudes are the original's, the refusals' numbers from document 01.
+#![tactic(auto)]
+
 mod call;
 
 use replay_format::NUMBERS;

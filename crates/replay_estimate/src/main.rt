@@ -1,5 +1,7 @@
 // Replays the original's estimates, and square roots by the machine. `answers estimates` and `answers roots` of rust/oracle made the lists in data/:
 // a count, both sums and the estimate; a pattern and its root.
+#![tactic(auto)]
+
 ghost use Rattle.std.specs.Prelude.{◌<◌, ◌≤◌};
 
 use estimate::Estimate;

@@ -1,4 +1,6 @@
 // Lists of stored answers, as the replay programs read them: a row of 64-bit words, little-endian, a double as its bits.
+#![tactic(auto)]
+
 mod files;
 mod hash;
 mod lists;

@@ -1,5 +1,7 @@
 // Prints the published vectors' words: five of splitmix64 from the state 1234567, then ten of xoshiro256++ from the state 1, 2, 3, 4.
 // The file stdout holds the numbers as published.
+#![tactic(auto)]
+
 use libc::STDOUT_FILENO;
 use rng::Rng;
 

@@ -1,5 +1,7 @@
 // Replays the original's generators. A record of data/generators.bin is 83 words: 0, a seed and 0, or 1, a seed and a stream's index; then the
 // first 64 words of that generator and the 16 uniforms after them. `answers generators` of rust/oracle made it from the original.
+#![tactic(auto)]
+
 use libc::STDOUT_FILENO;
 use rng::Rng;
 

@@ -1,5 +1,7 @@
 // Replays the original's strips from the lists in data/: `answers strips`, `strip_edges`, `dilutions` and `strip_refusals` of rust/oracle made them
 // from the original, the last by its own reading of document 01.
+#![tactic(auto)]
+
 mod common;
 mod diluted_graphs;
 mod dilutions;

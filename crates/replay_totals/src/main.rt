@@ -1,5 +1,7 @@
 // Replays the original's totals. data/totals.bin is words: the number of calls, and a record for each, which call.rt reads. `answers totals` of
 // rust/oracle made it: the results are the original's, the refusals' numbers and the room from document 01.
+#![tactic(auto)]
+
 mod call;
 mod record;
 

@@ -1,4 +1,6 @@
 // xoshiro256++ seeded through splitmix64. A state goes in by value and comes back with what was drawn.
+#![tactic(auto)]
+
 ghost use Rattle.std.specs.Prelude.{◌≡◌, ◌/◌, ◌^◌, false};
 ghost use Rattle.std.specs.Float.Ieee.Exact.{HasValue};
 ghost use Rattle.rng.specs.SplitMix.{advance, mix};

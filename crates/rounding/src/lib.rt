@@ -1,1 +1,2 @@
 // Laws alone: see specs/.
+#![tactic(auto)]

@@ -1,4 +1,6 @@
 // Run records: a sampled run as bytes.
+#![tactic(auto)]
+
 ghost use Rattle.std.specs.Prelude.{◌≡◌, ◌≤◌, length};
 ghost use Rattle.run_record.specs.Reading.{head_of};
 
@@ -10,7 +12,7 @@ pub use sums::{bad_sums, double_at};
 
 // What the head of a record says: the chunks from `start` up to, and without, `end`, with so many samples each, of a job with so many betas and
 // pairs.
-#[derive(Drop)]
+#[derive(Clone, Copy)]
 pub struct Head {
     pub seed: u64,
     pub start: u64,

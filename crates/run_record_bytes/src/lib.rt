@@ -1,1 +1,2 @@
 // What a run record is, by its bytes: theorems only.
+#![tactic(auto)]

@@ -1,4 +1,6 @@
 // Two run records of one run joined to one, in whichever order they are handed in.
+#![tactic(auto)]
+
 ghost use Rattle.std.specs.Prelude.{◌≡◌};
 ghost use Rattle.run_record_join.specs.Joining.{apart, Joined};
 

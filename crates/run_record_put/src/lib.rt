@@ -1,4 +1,6 @@
 // A run record, written: its head, and the rows of a chunk at their place.
+#![tactic(auto)]
+
 mod head;
 mod row;
 mod rows;

@@ -1,4 +1,6 @@
 // Which bytes are a run record.
+#![tactic(auto)]
+
 ghost use Rattle.std.specs.Prelude.{◌≡◌, not, ◌+◌, ◌*◌, ◌≤◌, eqb};
 ghost use Rattle.run_record.specs.Reading.{bad_head, bad_record};
 

@@ -1,4 +1,6 @@
 // The totals of a run record: each beta and pair's sums, added chunk by chunk in their order.
+#![tactic(auto)]
+
 ghost use Rattle.std.specs.Prelude.{◌≡◌, ◌+◌, ◌*◌, ◌≤◌, ◌<◌, length};
 ghost use Rattle.list_laws.specs.Tabulate.{tabulate};
 ghost use Rattle.run_record_totals.specs.Totals.{column_sum, Totalled};

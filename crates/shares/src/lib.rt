@@ -1,4 +1,6 @@
 // What part of stored correlations is above zero, zero, below zero, and 1/2 or more in size: exact fractions over lists that are lent end to end.
+#![tactic(auto)]
+
 ghost use Rattle.std.specs.Prelude.{◌≡◌};
 ghost use Rattle.shares.specs.Shares.{fractions, shares_of};
 

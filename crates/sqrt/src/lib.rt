@@ -1,5 +1,7 @@
 // The IEEE 754 square root of a double, for every double. A finite one above zero is taken apart into the fields of its bit pattern; its root is
 // worked out to one binary digit more than a double keeps, rounded, and put together again.
+#![tactic(auto)]
+
 ghost use Rattle.std.specs.Prelude.{◌≡◌, false};
 ghost use Rattle.std.specs.Float.{binary64};
 ghost use Rattle.std.specs.Float.Ieee.{of_fields};

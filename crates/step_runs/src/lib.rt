@@ -1,5 +1,7 @@
 // What the steps of lower halves share: the halves of the windows 1 and 2, which have no pair, and a half with its odd entries negated. The
 // half at place p of a room with window w has the first 2 ^ (w - 1) numbers of the place.
+#![tactic(auto)]
+
 mod alternate;
 mod few;
 mod opposite;

@@ -3,7 +3,7 @@ ghost use Rattle.std.specs.Prelude.{◌≡◌, length};
 ghost use Rattle.strip.specs.Kinds.{is_honey, is_tri, is_eight};
 ghost use Rattle.strip.specs.Names.{parsed, name_of, padded};
 
-#[derive(Drop)]
+#[derive(Clone, Copy)]
 pub enum Kind {
     Square,
     Tri,

@@ -1,4 +1,6 @@
 // Strips: their sides, which calls refuse, their boundary and their vertices.
+#![tactic(auto)]
+
 mod kinds;
 mod refuse;
 mod strip;

@@ -5,7 +5,7 @@ ghost use Rattle.strip.specs.Vertices.{vertex};
 
 use crate::kinds::{Kind, Word, six};
 
-#[derive(Drop)]
+#[derive(Clone, Copy)]
 pub struct Strip {
     pub kind: Kind,
     pub w: usize,

@@ -1,4 +1,6 @@
 // The local rules: what a strip has at a site, as one edge or none.
+#![tactic(auto)]
+
 ghost use Rattle.std.specs.Prelude.{◌≡◌, ◌+◌, ◌%◌, ◌≤◌, ◌<◌};
 ghost use Rattle.strip_bonds.specs.Edges.{edge, given, brick, rises, falls, has_next, across, wrap, along, rising, falling};
 ghost use Rattle.strip.specs.Sides.{Site};

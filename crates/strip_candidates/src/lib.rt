@@ -1,4 +1,6 @@
 // The candidates of the standard pair set: where each lies.
+#![tactic(auto)]
+
 ghost use Rattle.std.specs.Prelude.{◌≡◌, ◌-◌, ◌≤◌, ◌<◌};
 ghost use Rattle.strip_candidates.specs.Candidates.{between_sites, candidate_at};
 

@@ -1,4 +1,6 @@
 // The diluted edge list of a strip, for callers.
+#![tactic(auto)]
+
 mod dilute;
 mod refuse;
 

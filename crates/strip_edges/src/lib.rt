@@ -1,4 +1,6 @@
 // The edges of a strip, site after site: how many there are, and their lists.
+#![tactic(auto)]
+
 mod listing;
 mod raw;
 

@@ -1,4 +1,6 @@
 // The graph of a diluted strip, for callers: the kept edges with their places in the strip's edge list.
+#![tactic(auto)]
+
 ghost use Rattle.std.specs.Prelude.{◌≡◌, cond, ◌*◌, ◌≤◌, length};
 ghost use Rattle.limits.specs.Limits.{most_edges};
 ghost use Rattle.transfer_matrix.specs.Job.{window_of};

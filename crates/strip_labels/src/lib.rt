@@ -1,4 +1,6 @@
 // The labels of the candidates of the standard pair set.
+#![tactic(auto)]
+
 ghost use Rattle.std.specs.Prelude.{◌≡◌, ℕ, ◌<◌, take};
 ghost use Rattle.strip_candidates.specs.Candidates.{candidate_at};
 ghost use Rattle.strip_labels.specs.Labels.{LabelFits};

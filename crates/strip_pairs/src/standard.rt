@@ -20,7 +20,7 @@ pub(crate) enum Pick {
 }
 
 // How many pairs there are, and how many bytes their labels take.
-#[derive(Drop)]
+#[derive(Clone, Copy)]
 pub(crate) struct Filled {
     pub pairs: usize,
     pub bytes: usize,

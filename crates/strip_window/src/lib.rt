@@ -1,4 +1,6 @@
 // The window of a whole strip, for callers that take it as the floor of a diluted one's.
+#![tactic(auto)]
+
 ghost use Rattle.std.specs.Prelude.{◌≡◌, false};
 ghost use Rattle.refusals.specs.Answers.{answered};
 ghost use Rattle.refusals.specs.StripRequest.{strip_refusal, of_strip};

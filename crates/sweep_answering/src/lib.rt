@@ -1,4 +1,6 @@
 // The backward sweep, and the direct pairs that it answers as it passes their later vertex.
+#![tactic(auto)]
+
 ghost use Rattle.std.specs.Prelude.{◌≡◌, ◌+◌, ◌-◌, ◌≤◌, ◌<◌, max, length, get_or, drop, Float};
 ghost use Rattle.transfer_matrix.specs.Job.{Job};
 ghost use Rattle.transfer_matrix.specs.Room.{later};

@@ -1,4 +1,6 @@
 // The backward sweep: where it begins, and how it goes down from vertex to vertex.
+#![tactic(auto)]
+
 ghost use Rattle.std.specs.Prelude.{◌≡◌, ◌+◌, ◌≤◌, ◌<◌, length};
 ghost use Rattle.plan_steps.specs.Layout.{Holds, backward_place};
 ghost use Rattle.step_tables.specs.Place.{Place};

@@ -1,4 +1,6 @@
 // The forward sweep.
+#![tactic(auto)]
+
 ghost use Rattle.std.specs.Prelude.{◌+◌, ◌<◌, length, drop, Float};
 ghost use Rattle.transfer_matrix.specs.Job.{Job};
 ghost use Rattle.plan_steps.specs.Layout.{Holds, backward_place};

@@ -1,4 +1,6 @@
 // The places that a sweep writes.
+#![tactic(auto)]
+
 ghost use Rattle.std.specs.Prelude.{◌≡◌, ◌-◌, ◌^◌, length};
 ghost use Rattle.list_laws.specs.Tabulate.{tabulate};
 ghost use Rattle.transfer_matrix.specs.Rounded.{ieee};

@@ -1,6 +1,8 @@
 // The answers of a job's pairs, from its factors: both sweeps over its vertices, and the sums of the pairs. Two arrangements: with less room the
 // direct pairs are answered while the backward sweep passes their later vertex, and only the later vertices of propagated pairs keep a backward
 // vector. One contract holds for both.
+#![tactic(auto)]
+
 ghost use Rattle.std.specs.Prelude.{◌≡◌, cond, ◌+◌, ◌≤◌, length, drop, Float};
 ghost use Rattle.transfer_matrix.specs.Job.{Job};
 ghost use Rattle.pair_order.specs.Order.{InOrder};

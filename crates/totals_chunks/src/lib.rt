@@ -1,4 +1,6 @@
 // The totals of chunks of configurations, one chunk after another.
+#![tactic(auto)]
+
 ghost use Rattle.std.specs.Prelude.{◌≡◌, true, false, ℕ, ◌+◌, ◌*◌, ◌≤◌, ◌<◌, Float, length};
 ghost use Rattle.transfer_matrix.specs.Job.{Job};
 ghost use Rattle.totals_configuration.specs.Chunked.{Lists};
@@ -15,7 +17,7 @@ use totals_sums::{add_sums, chunk_size};
 
 // The chunks from `first` up to, and without, `end`, of `size` configurations each. Chunk i holds the configurations from number i * size
 // on; or, where they are drawn, the samples of the stream of the seed and i.
-#[derive(Drop)]
+#[derive(Clone, Copy)]
 pub struct Chunks {
     pub drawn: bool,
     pub seed: u64,

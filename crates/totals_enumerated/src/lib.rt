@@ -1,4 +1,6 @@
 // One chunk of configurations.
+#![tactic(auto)]
+
 ghost use Rattle.std.specs.Prelude.{◌≡◌, true, not, ℕ, ◌+◌, ◌*◌, Float, length};
 ghost use Rattle.list_laws.specs.Search.{some};
 ghost use Rattle.transfer_matrix.specs.Job.{Job};

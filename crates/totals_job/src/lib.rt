@@ -1,4 +1,6 @@
 // A call for totals that passed its checks: from its kept edges to the totals.
+#![tactic(auto)]
+
 ghost use Rattle.std.specs.Prelude.{◌≡◌, ◌*◌, length};
 ghost use Rattle.transfer_matrix.specs.Room.{arranged};
 ghost use Rattle.totals_call.specs.Finished.{Passed, Numbered, stepping, TotalsAre};

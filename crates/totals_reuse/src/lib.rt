@@ -1,4 +1,6 @@
 // From which vertex on the kept backward vectors stand when the next configuration comes.
+#![tactic(auto)]
+
 ghost use Rattle.std.specs.Prelude.{◌≡◌, false, ◌+◌, ◌-◌, ◌<◌, ◌≤◌, length};
 ghost use Rattle.plan_steps.specs.Layout.{left_edge};
 ghost use Rattle.sweep_places.specs.Reuse.{Reads};

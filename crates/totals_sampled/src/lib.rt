@@ -1,4 +1,6 @@
 // One chunk of samples.
+#![tactic(auto)]
+
 ghost use Rattle.std.specs.Prelude.{◌≡◌, ℕ, ◌*◌, Float, length};
 ghost use Rattle.transfer_matrix.specs.Job.{Job};
 ghost use Rattle.totals_configuration.specs.Stage.{Stage, EnoughFactors};

@@ -1,4 +1,6 @@
 // The signs of a configuration's kept edges: a mark is minus.
+#![tactic(auto)]
+
 mod drawn;
 mod factors;
 mod numbered;

@@ -1,4 +1,6 @@
 // The correlations of all configurations, stored.
+#![tactic(auto)]
+
 mod configuration;
 
 ghost use Rattle.std.specs.Prelude.{◌≡◌, true, not, ℕ, ◌*◌, ◌/◌, ◌%◌, ◌^◌, ◌≤◌, Float, length};

@@ -1,4 +1,6 @@
 // How many configurations a chunk of an enumeration holds, and a sampling counts.
+#![tactic(auto)]
+
 mod counts;
 mod powers;
 

@@ -1,1 +1,2 @@
 // Definitions and theorems only: no function stands here.
+#![tactic(auto)]

@@ -1,4 +1,6 @@
 // Two forward steps of a half vector, by runs.
+#![tactic(auto)]
+
 ghost use Rattle.std.specs.Prelude.{◌≡◌, ◌+◌, ◌*◌, ◌-◌, ◌%◌, ◌^◌, ◌<◌, ◌≤◌, length, Float};
 ghost use Rattle.list_laws.specs.Tabulate.{tabulate};
 ghost use Rattle.list_laws.specs.Part.{Apart, put};

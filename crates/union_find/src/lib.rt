@@ -1,4 +1,6 @@
 // Sets of vertices as a forest: the list p holds each vertex's parent, and a root, its own parent, stands for its set.
+#![tactic(auto)]
+
 ghost use Rattle.std.specs.Prelude.{◌<◌, length};
 ghost use Rattle.union_find.specs.Forest.{Forest, Fresh, Found, Merged, MergedLower};
 

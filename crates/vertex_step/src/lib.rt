@@ -1,4 +1,6 @@
 // The step at a vertex: what the plan says of its edges, with the factors that lie in the room.
+#![tactic(auto)]
+
 mod tables;
 mod through;
 
