@@ -11,7 +11,7 @@ use lib.Ieee.{Float, nan}
 use lib.ListN.{length, get_or}
 use Rattle.transfer_matrix.specs.Job.{Back, Manner, prepend, step_of}
 use Rattle.transfer_matrix.specs.Configuration.{job_of}
-use Rattle.plan_steps.specs.Layout.{near_count, near_edge, near_bit, near_from, named, step_in, Vertex}
+use Rattle.plan_steps.specs.Layout.{near_at, near_count, near_edge, near_bit, near_from, named, step_in, Vertex}
 use Rattle.plan_steps.specs.Edges.{Steps}
 use Rattle.plan_steps.specs.Rows.{goes_back, first_of, first_back, listed, near_row, Rising, more, Row}
 use Rattle.plan_steps.specs.Laws.Listed.{back-first, backs_listed}
@@ -79,7 +79,7 @@ near-from : (plan : List ℕ) (t d i k : ℕ) → Rising d (near_from (λ e. e) 
 unfolding near_from
 near-from plan t d i zero g j a b = absurd (omega arith)
 near-from plan t d i (suc k) (more p g) j a b =
-    dite (dec_lt i j) (λ l. omega (arith, near-from plan t _ (suc i) k g j l (omega arith))) (λ l. let e : j ≡ i = omega arith in rw e p)
+    dite (dec_lt i j) (λ l. omega (arith, near-from plan t (suc (near_at {K = ℕ} (λ e. e) plan t i).distance) (suc i) k g j l (omega arith))) (λ l. let e : j ≡ i = omega arith in rw e p)
 
 near-rising : (plan : List ℕ) (t d i k : ℕ) → Rising d (near_from (λ e. e) plan t i k)
     → (a b : ℕ) → i ≤ a → a < b → b < i + k → near_bit plan t a < near_bit plan t b
