@@ -86,7 +86,7 @@ near-rising : (plan : List ℕ) (t d i k : ℕ) → Rising d (near_from (λ e. e
 unfolding near_from
 near-rising plan t d i zero g a b p q r = absurd (omega arith)
 near-rising plan t d i (suc k) (more x g) a b p q r =
-    dite (dec_lt i a) (λ l. near-rising plan t _ (suc i) k g a b l q (omega arith))
+    dite (dec_lt i a) (λ l. near-rising plan t (suc (near_at {K = ℕ} (λ e. e) plan t i).distance) (suc i) k g a b l q (omega arith))
     (λ l. let e : a ≡ i = omega arith in rw e (omega (arith, near-from plan t _ (suc i) k g b (omega arith) (omega arith))))
 
 module _ (early late plan : List ℕ) (n w : ℕ) (wide : 1 ≤ w) (rows : (t : ℕ) → t < n → Row plan early late w (length early) t) where

@@ -10,7 +10,7 @@ use Rattle.house_factors.proofs.factor.Tie as tie
 -- src/lib.rt:23:1
 returns : tie.Need-returns
 returns c =
-    let p = c.before.entry_IsPlace in
+    let p = c.before.entry_place in
     ap (λ (l : List Float). get_or l p.result nan) c.before.before.requires.0 ∙ p.ensures.1
 
 pub factor-spec : {M : Type 1} → statement M
