@@ -1,0 +1,27 @@
+-- The candidate is taken where its test holds; its vertices then are small.
+use native.Mathlib.Omega.{arith}
+use mathlib.Core.Path.{refl}
+use Rattle.strip.specs.Laws.Sides.{sides_narrow, sides_short}
+use Rattle.strip_pairs.proofs.Pairing.{taken-low, pick_taken, pick_omitted}
+use Rattle.strip_pairs.proofs.standard.picked.Goals as goal
+
+pub sites_of-c-requires : goal.sites_of-c-requires
+sites_of-c-requires c = (c.requires.0.wide, sides_narrow c.requires.0, c.requires.0.long, sides_short c.requires.0, c.requires.1)
+
+pub overflow_mul-result : goal.overflow_mul-result
+overflow_mul-result c = omega (arith, (taken-low c.requires.0 c.sites_of-c.result c.if-c-inside.true).one)
+
+pub overflow_add-result : goal.overflow_add-result
+overflow_add-result c = omega (arith, (taken-low c.requires.0 c.sites_of-c.result c.if-c-inside.true).one)
+
+pub overflow_mul-result-then-c-inside : goal.overflow_mul-result-then-c-inside
+overflow_mul-result-then-c-inside c = omega (arith, (taken-low c.requires.0 c.sites_of-c.result c.if-c-inside.true).other)
+
+pub overflow_add-result-then-c-inside : goal.overflow_add-result-then-c-inside
+overflow_add-result-then-c-inside c = omega (arith, (taken-low c.requires.0 c.sites_of-c.result c.if-c-inside.true).other)
+
+pub returns-then-c-inside : goal.returns-then-c-inside
+returns-then-c-inside c = pick_taken _ _ _ c.sites_of-c.result c.sites_of-c.ensures c.if-c-inside.true _ _ refl refl
+
+pub returns : goal.returns
+returns c = pick_omitted _ _ _ c.sites_of-c.result c.sites_of-c.ensures c.if-c-inside.false
