@@ -1,5 +1,4 @@
-// A reader that holds a sheet and its place in it, with the kind read last. The borrow checker covers no function over such a struct, so
-// each is proved by hand; `read_at`, which takes a plain slice, is covered.
+// A reader that holds a sheet and its place in it, with the kind read last.
 #![tactic(auto)]
 
 ghost use Rattle.std.specs.Prelude.{◌≡◌};

@@ -5,11 +5,12 @@
 mod call;
 
 use replay_format::NUMBERS;
+use std::io;
 
-fn main() {
+fn main(rt: HostRuntime) -> io::Result<()> {
     let mut list = [0u8; 65536];
-    let n = replay_format::read_file(b"couplings.bin", &mut list);
+    let n = replay_format::read_file(&rt, "couplings.bin", &mut list)?;
     let mut counts = [0usize; NUMBERS];
     let counted = call::replay_all(&list[..n], &mut counts);
-    replay_format::report(counted, b" calls", &counts);
+    replay_format::report(&rt, counted, " calls", &counts)
 }

@@ -5,6 +5,8 @@
 ghost use Rattle.std.specs.Prelude.{◌<◌, ◌≤◌};
 
 use estimate::Estimate;
+use std::io;
+use std::rt::Files;
 
 // bytes of a record of each list
 const ESTIMATE: usize = 8 * 6;
@@ -84,19 +86,20 @@ fn count_same(size: usize, list: &[u8]) -> usize
     count
 }
 
-fn report(size: usize, path: &[u8], what: &[u8])
+fn report(rt: &(impl Files + Print), size: usize, path: &str, what: &str) -> io::Result<()>
     requires { (0 < size) × (size ≤ 48) }
 {
     let mut list = [0u8; 98304];
-    let n = replay_format::read_file(path, &mut list);
-    replay_format::print_tally(count_same(size, &list[..n]), n / size, what);
+    let n = replay_format::read_file(rt, path, &mut list)?;
+    replay_format::print_tally(rt, count_same(size, &list[..n]), n / size, what)
 }
 
-fn main() {
+fn main(rt: HostRuntime) -> io::Result<()> {
     report(
+        &rt,
         ESTIMATE,
-        b"estimates.bin",
-        b" estimates agree, refused ones among them\n",
-    );
-    report(ROOT, b"roots.bin", b" square roots agree\n");
+        "estimates.bin",
+        " estimates agree, refused ones among them\n",
+    )?;
+    report(&rt, ROOT, "roots.bin", " square roots agree\n")
 }

@@ -1,16 +1,22 @@
 // The files that stored lists stand in.
-ghost use Rattle.io.specs.Counts.{IsPrefixLen};
+ghost use Rattle.std.specs.Io.{ReadsAtMost};
 
-// Reads a file into a list, as much as it holds. Returns how many bytes there are; none where it cannot be opened, which is told.
-pub fn read_file(path: &[u8], list: &mut [u8]) -> usize
-    ensures { IsPrefixLen result list.new }
+use std::io::Read;
+use std::rt::Files;
+use std::{fs, io};
+
+// Reads a file into a list, as much as it holds. Returns how many bytes there are.
+pub fn read_file(rt: &impl Files, path: &str, list: &mut [u8]) -> io::Result<usize>
+    ensures { ReadsAtMost result list.new }
 {
-    let fd = os::open_read(path);
-    if fd < 0 {
-        os::fail(path);
-        return 0;
+    let mut file = fs::open(rt, path)?;
+    let mut filled = 0;
+    while filled < list.len() {
+        let n = file.read(&mut list[filled..])?;
+        if n == 0 {
+            break;
+        }
+        filled += n;
     }
-    let n = io::read_full(fd, list);
-    libc::close(fd);
-    n
+    Ok(filled)
 }

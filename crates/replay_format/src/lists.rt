@@ -4,7 +4,7 @@ ghost use Rattle.replay_format.specs.Lists.{EdgesFit, TwoFit};
 use crate::words::{at, length_at, load_doubles, load_numbers};
 
 // The ends and magnitudes of a record's edges; `next` is the place behind them.
-#[derive(Drop)]
+#[derive(Clone, Copy)]
 pub struct EdgeLists {
     pub a: usize,
     pub b: usize,
@@ -42,7 +42,7 @@ pub fn load_edges(list: &[u8], e: EdgeLists, a: &mut [usize], b: &mut [usize], m
 }
 
 // Two lists of a record, one behind the other.
-#[derive(Drop)]
+#[derive(Clone, Copy)]
 pub struct TwoLists {
     pub first: usize,
     pub second: usize,

@@ -3,10 +3,10 @@ ghost use Rattle.std.specs.Prelude.{◌≡◌, ◌-◌, ◌<◌};
 ghost use Rattle.replay_format.specs.Counts.{counted};
 
 use crate::words::number_at;
-use libc::STDOUT_FILENO;
+use std::io;
 
 // How many calls agree, how many there are, and the bytes that are left of their list.
-#[derive(Drop)]
+#[derive(Clone, Copy)]
 pub struct Counted {
     pub same: usize,
     pub all: usize,
@@ -14,14 +14,14 @@ pub struct Counted {
 }
 
 // Whether one call agrees, and the place of the next record.
-#[derive(Drop)]
+#[derive(Clone, Copy)]
 pub struct Replayed {
     pub same: bool,
     pub next: usize,
 }
 
 // How far a replay has come: the calls in all, those left, those that agree, and the next record's place.
-#[derive(Drop)]
+#[derive(Clone, Copy)]
 pub struct Progress {
     pub all: usize,
     pub left: usize,
@@ -82,49 +82,45 @@ pub fn finish(progress: Progress, list: &[u8]) -> Counted {
     }
 }
 
-pub fn print_number(n: usize) {
-    io::print_decimal(STDOUT_FILENO, n as u64);
+pub fn print_number(rt: &impl Print, n: usize) -> io::Result<()> {
+    print!(rt; "{n}")
 }
 
-fn print_count(number: usize, count: usize) {
+fn print_count(rt: &impl Print, number: usize, count: usize) -> io::Result<()> {
     if count > 0 {
-        io::write_all(STDOUT_FILENO, b" ");
-        print_number(number);
-        io::write_all(STDOUT_FILENO, b": ");
-        print_number(count);
+        print!(rt; " {number}: {count}")?;
     }
+    Ok(())
 }
 
-fn print_counts(counts: &[usize; NUMBERS]) {
-    io::write_all(STDOUT_FILENO, b"accepted: ");
-    print_number(counts[0]);
-    io::write_all(STDOUT_FILENO, b"; refused by");
-    let mut k: usize = 1;
-    while k < NUMBERS {
-        print_count(k, counts[k]);
-        k += 1;
+fn print_counts(rt: &impl Print, counts: &[usize; NUMBERS]) -> io::Result<()> {
+    let accepted = counts[0];
+    print!(rt; "accepted: {accepted}; refused by")?;
+    for k in 1..NUMBERS {
+        print_count(rt, k, counts[k])?;
     }
-    io::write_all(STDOUT_FILENO, b"\n");
+    println!(rt)
 }
 
 // How many of all, and what follows.
-pub fn print_tally(same: usize, all: usize, what: &[u8]) {
-    print_number(same);
-    io::write_all(STDOUT_FILENO, b" of ");
-    print_number(all);
-    io::write_all(STDOUT_FILENO, what);
+pub fn print_tally(rt: &impl Print, same: usize, all: usize, what: &str) -> io::Result<()> {
+    print!(rt; "{same} of {all}{what}")
 }
 
 // A line: how many of them agree, and the bytes that are left.
-pub fn print_counted(counted: Counted, them: &[u8]) {
-    print_tally(counted.same, counted.all, them);
-    io::write_all(STDOUT_FILENO, b" agree; bytes left over: ");
-    print_number(counted.left);
-    io::write_all(STDOUT_FILENO, b"\n");
+pub fn print_counted(rt: &impl Print, counted: Counted, them: &str) -> io::Result<()> {
+    print_tally(rt, counted.same, counted.all, them)?;
+    let left = counted.left;
+    println!(rt; " agree; bytes left over: {left}")
 }
 
 // Two lines: how many of them agree, and how many of each refusal's number do.
-pub fn report(counted: Counted, them: &[u8], counts: &[usize; NUMBERS]) {
-    print_counted(counted, them);
-    print_counts(counts);
+pub fn report(
+    rt: &impl Print,
+    counted: Counted,
+    them: &str,
+    counts: &[usize; NUMBERS],
+) -> io::Result<()> {
+    print_counted(rt, counted, them)?;
+    print_counts(rt, counts)
 }

@@ -5,17 +5,20 @@
 
 mod job;
 
-fn report(path: &[u8], list: &mut [u8]) {
-    let n = replay_format::read_file(path, list);
-    replay_format::print_counted(job::replay_all(&list[..n]), b" graphs");
+use std::io;
+use std::rt::Files;
+
+fn report(rt: &(impl Files + Print), path: &str, list: &mut [u8]) -> io::Result<()> {
+    let n = replay_format::read_file(rt, path, list)?;
+    replay_format::print_counted(rt, job::replay_all(&list[..n]), " graphs")
 }
 
 // The array's type has its length, so that nothing counts its elements.
-fn report_all(list: &mut [u8; 300000]) {
-    report(b"graphs.bin", list)
+fn report_all(rt: &(impl Files + Print), list: &mut [u8; 300000]) -> io::Result<()> {
+    report(rt, "graphs.bin", list)
 }
 
-fn main() {
+fn main(rt: HostRuntime) -> io::Result<()> {
     let mut list = [0u8; 300000];
-    report_all(&mut list);
+    report_all(&rt, &mut list)
 }

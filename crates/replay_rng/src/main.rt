@@ -2,8 +2,8 @@
 // first 64 words of that generator and the 16 uniforms after them. `answers generators` of rust/oracle made it from the original.
 #![tactic(auto)]
 
-use libc::STDOUT_FILENO;
 use rng::Rng;
+use std::io;
 
 const WORDS: usize = 64;
 
@@ -90,18 +90,19 @@ fn count_same(list: &[u8]) -> usize {
     count
 }
 
-fn report(list: &[u8]) {
+fn report(rt: &impl Print, list: &[u8]) -> io::Result<()> {
     replay_format::print_tally(
+        rt,
         count_same(list),
         list.len() / RECORD,
-        b" generators agree, 64 words and 16 uniforms each; bytes left over: ",
-    );
-    replay_format::print_number(list.len() % RECORD);
-    io::write_all(STDOUT_FILENO, b"\n");
+        " generators agree, 64 words and 16 uniforms each; bytes left over: ",
+    )?;
+    replay_format::print_number(rt, list.len() % RECORD)?;
+    println!(rt)
 }
 
-fn main() {
+fn main(rt: HostRuntime) -> io::Result<()> {
     let mut list = [0u8; 65536];
-    let n = replay_format::read_file(b"generators.bin", &mut list);
-    report(&list[..n]);
+    let n = replay_format::read_file(&rt, "generators.bin", &mut list)?;
+    report(&rt, &list[..n])
 }

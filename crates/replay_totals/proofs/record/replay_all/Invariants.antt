@@ -1,0 +1,5 @@
+-- The number of calls left falls.
+use Rattle.replay_totals.proofs.record.replay_all.Given as goal
+
+abbrev pub decreases-loop-progress : goal.decreases-loop-progress
+decreases-loop-progress l = l.progress.left
