@@ -1,14 +1,14 @@
 -- What either arrangement has for its pairs: those that are answered in passing, and the places of the others.
-use mathlib.Core.Path.{◌≡◌, refl, sym, ap, ◌∙◌}
+use mathlib.Core.Path.{◌≡◌, sym, ap, ◌∙◌}
 use mathlib.Core.Bool.{Bool, true, false, cond, not, true≢false}
 use mathlib.Core.List.{List}
-use Prim.Native.Nat.{ℕ, ◌+◌, ◌-◌, ◌≤◌, ◌<◌}
+use Prim.Native.Nat.{ℕ, ◌+◌, ◌≤◌, ◌<◌}
 use native.Mathlib.Omega.{arith}
 use lib.ListN.{length, get_or, drop}
 use lib.Ieee.{Float}
 use borrow.Author.Tests.{lt-ltb, le-ltb}
 use Rattle.transfer_matrix.specs.Job.{Job}
-use Rattle.transfer_matrix.specs.Room.{earlier, later, is_propagated}
+use Rattle.transfer_matrix.specs.Room.{earlier, later}
 use Rattle.pair_order.specs.Order.{InOrder}
 use Rattle.pair_places.specs.Laws.Places.{later-inside}
 use Rattle.vertex_step.specs.Ready.{Ready, PlanOf, Forward, Backward, BothSwept, Still}
@@ -19,8 +19,8 @@ use Rattle.sweep_places.specs.Kept.{Since, SameFrom}
 use Rattle.sweep_places.proofs.Frames.{since-forward, since-backward}
 use Rattle.propagation.specs.Pairing.{Directs}
 use Rattle.pair_correlations.specs.Served.{Served}
-use Rattle.pair_correlations.specs.Sound.{unsound, Outcome}
-use Rattle.pair_correlations.specs.Aim.{PairPlaces, PlacedFrom}
+use Rattle.pair_correlations.specs.Sound.{Outcome}
+use Rattle.pair_correlations.specs.Aim.{PlacedFrom}
 use Rattle.pair_correlations.specs.Two.{Answered}
 use Rattle.sweep_answering.specs.Passing.{Passing, AnsweredFrom}
 
