@@ -1,21 +1,20 @@
 -- A finished job, from its plan, the factors in the room and what the run said.
-use mathlib.Core.Path.{◌≡◌, refl, sym, ap, ◌∙◌, subst}
+use mathlib.Core.Path.{◌≡◌, sym, ap, ◌∙◌}
 use mathlib.Core.Bool.{Bool, cond, not}
 use mathlib.Core.List.{List, ◌++◌}
-use Prim.Native.Nat.{ℕ, ◌+◌, ◌*◌, ◌≤◌, ◌<◌}
+use Prim.Native.Nat.{ℕ, ◌+◌, ◌≤◌, ◌<◌}
 use native.Mathlib.Omega.{arith}
 use lib.Ieee.{Float, nan}
-use lib.ListN.{length, get_or, take, drop, replicate, length-drop, length-replicate}
+use lib.ListN.{length, get_or, take, drop, length-drop, length-replicate}
 use lib.Seq.{ext_get_or, get_or-drop, length-take-le}
-use Rattle.list_laws.specs.Front.{over}
-use Rattle.list_laws.specs.Part.{put, part}
+use Rattle.list_laws.specs.Part.{put}
 use Rattle.list_laws.specs.Laws.Part.{part_at, part-put, put-length}
 use Rattle.transfer_matrix.specs.Job.{Job, block, per_element}
 use Rattle.transfer_matrix.specs.Configuration.{job_of}
 use Rattle.transfer_matrix.specs.Room.{Arrangement, room}
 use Rattle.transfer_matrix.specs.Rounded.{ieee}
 use Rattle.transfer_matrix.specs.Sweep as S
-use Rattle.plan_layout.specs.Work.{Laid, Planned}
+use Rattle.plan_layout.specs.Work.{Planned}
 use Rattle.vertex_step.specs.Ready.{PlanOf}
 use Rattle.pair_correlations.specs.Sound.{unsound}
 use Rattle.pair_correlations.specs.Laws.Planning.{plan_of, end_fits}

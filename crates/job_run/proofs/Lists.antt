@@ -1,15 +1,15 @@
 -- A list at +0.0 throughout, and a list laid into another.
 use mathlib.Core.Path.{◌≡◌, refl, sym, ap, ◌∙◌}
-use mathlib.Core.List.{List, [], ◌∷◌, ◌++◌}
-use Prim.Native.Nat.{ℕ, zero, suc, ◌+◌, ◌≤◌, ◌<◌}
+use mathlib.Core.List.{List}
+use Prim.Native.Nat.{ℕ, ◌+◌, ◌≤◌, ◌<◌}
 use native.Mathlib.Nat.{zero-add}
 use native.Mathlib.Omega.{arith}
 use lib.Ieee.{Float, nan}
-use lib.ListN.{length, get_or, take, drop, replicate, length-replicate, get_or-replicate}
+use lib.ListN.{length, get_or, length-replicate, get_or-replicate}
 use lib.Seq.{ext_get_or}
 use Rattle.list_laws.specs.Tabulate.{tabulate}
 use Rattle.list_laws.specs.Laws.Tabulate.{tabulate-length, tabulate-at, tabulated}
-use Rattle.list_laws.specs.Part.{put, part}
+use Rattle.list_laws.specs.Part.{put}
 use Rattle.list_laws.specs.Laws.Part.{part_at, part-put, put-length}
 use Rattle.transfer_matrix.specs.Rounded.{ieee}
 use Rattle.job_run.specs.Zeros.{zeros}
