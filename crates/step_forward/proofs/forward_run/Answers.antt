@@ -1,0 +1,56 @@
+use mathlib.Core.Path.{◌≡◌, refl}
+use Prim.Native.Nat.{◌+◌, ◌<◌}
+use lib.ListN.{length-set}
+use Rattle.list_laws.specs.Laws.Part.{fill_none}
+use Rattle.step_tables.specs.Rule.{blend}
+use Rattle.largest_entry.specs.Laws.Lanes.{lanes_none}
+use Rattle.step_forward.proofs.ForwardIteration.{run_iteration, run_lanes, run_most}
+use native.Mathlib.Omega.{arith}
+use Rattle.step_forward.proofs.forward_run.Goals as goal
+
+pub no_entries-m-requires : goal.no_entries-m-requires
+no_entries-m-requires c = tt
+
+pub loop-i-init : goal.loop-i-init
+loop-i-init c = let z = c.no_entries-m.ensures in (refl, omega arith, omega arith, fill_none _ _ _, lanes_none _ _ z.0 z.2 z.1 z.3)
+
+pub bounds-v-o-in-loop-i : goal.bounds-v-o-in-loop-i
+bounds-v-o-in-loop-i c = simp length-set (omega arith)
+
+pub bounds-v-o-in-loop-i-2 : goal.bounds-v-o-in-loop-i-2
+bounds-v-o-in-loop-i-2 c = simp length-set (omega arith)
+
+pub bounds-v-o-in-loop-i-3 : goal.bounds-v-o-in-loop-i-3
+bounds-v-o-in-loop-i-3 c = simp length-set (omega (arith, (let it : c.loop-i.i + 1 < c.args.n = omega arith in it)))
+
+pub joined-m-requires : goal.joined-m-requires
+joined-m-requires c = tt
+
+pub loop-i-preserved : goal.loop-i-preserved
+unfolding blend
+loop-i-preserved c =
+    let iteration = c in
+    let at = iteration in
+    let pre = at.requires in (
+      simp length-set at.loop-i.invariant.0,
+      omega arith,
+      omega (arith, (let it : c.loop-i.i + 1 < c.args.n = omega arith in it)),
+      run_iteration _ _ _ _ _ _ _ _ _ _ _ _ _ _ _ pre.1 pre.2 pre.3 at.loop-i.invariant.3 ((let it : c.loop-i.i + 1 < c.args.n = omega arith in it)) at.loop-i.invariant.1,
+      run_lanes _ _ _ _ _ _ _ _ _ _ _ _ _ _ _ pre.1 pre.2 pre.3 at.loop-i.invariant.3 ((let it : c.loop-i.i + 1 < c.args.n = omega arith in it)) at.loop-i.invariant.1 at.loop-i.invariant.4 c.joined-m.ensures,
+    )
+
+pub larger_of-requires : goal.larger_of-requires
+larger_of-requires c = tt
+
+pub larger_of-requires-2 : goal.larger_of-requires-2
+larger_of-requires-2 c = tt
+
+pub larger_of-requires-3 : goal.larger_of-requires-3
+larger_of-requires-3 c = tt
+
+pub returns : goal.returns
+returns c =
+    let at = c in
+    let s = at in
+    let g = s.args in
+    let e : at.loop-i.i ≡ g.n = omega arith in record { v_after = rw e at at.loop-i.invariant.3; value = run_most _ _ _ _ _ _ _ _ g.a g.b g.o g.n g.v.now at.loop-i.v s.requires.0 (rw e at at.loop-i.invariant.4) c.larger_of.ensures c.larger_of-2.ensures c.larger_of-3.ensures }

@@ -1,0 +1,98 @@
+use mathlib.Core.Path.{◌≡◌, refl, ◌∙◌}
+use Prim.Native.Nat.{◌+◌, ◌^◌, ◌<◌}
+use lib.Pow.{pow_pos}
+use Rattle.list_laws.specs.Laws.Part.{fill_none}
+use Rattle.step_runs.specs.Laws.AtRun.{readable, first_run, run_size, run_even, run_ends, run_16, next_run}
+use Rattle.step_tables.specs.Laws.Constants.{zero_is}
+use Rattle.largest_entry.specs.Laws.Top.{top-none}
+use Rattle.step_forward.proofs.ForwardIteration.{run_apart, runs_iteration, runs-most}
+use Rattle.largest_entry.specs.Laws.Filled.{filled_top}
+use native.Mathlib.Omega.{arith}
+use Rattle.step_forward.proofs.forward_runs.Goals as goal
+
+pub step_runs-end-requires : goal.step_runs-end-requires
+step_runs-end-requires c = let p = c.requires in (p.0, p.1, p.3)
+
+pub overflow_mul-last : goal.overflow_mul-last
+overflow_mul-last c = omega (arith, c.step_runs-end.ensures.ends)
+
+pub overflow_add-last : goal.overflow_add-last
+overflow_add-last c = omega (arith, c.step_runs-end.ensures.ends)
+
+pub overflow_sub-last : goal.overflow_sub-last
+overflow_sub-last c = omega (arith, c.step_runs-end.ensures.ends, pow_pos c.args.g)
+
+pub loop-k-init : goal.loop-k-init
+loop-k-init c =
+    let s = c in (
+      refl,
+      s.requires.2,
+      c.step_runs-end.ensures,
+      first_run _ _,
+      fill_none _ _ _,
+      zero_is ∙ top-none _,
+    )
+
+pub pattern_of-m-requires : goal.pattern_of-m-requires
+pattern_of-m-requires c = let both = (readable c.requires.3 c.requires.1) in record { n_bound = both.0; by_index = both.1 }
+
+pub overflow_add-j : goal.overflow_add-j
+overflow_add-j c = omega (arith, (let it : c.pattern_of-m.result + c.step_runs-end.result.one < 16 = let i = c.loop-k.invariant in run_16 i.2 i.3 c.loop-k-test.true _ c.pattern_of-m.ensures.value in it))
+
+pub offset_bounds-up-j : goal.offset_bounds-up-j
+offset_bounds-up-j c = omega (arith, (let it : c.pattern_of-m.result + c.step_runs-end.result.one < 16 = let i = c.loop-k.invariant in run_16 i.2 i.3 c.loop-k-test.true _ c.pattern_of-m.ensures.value in it))
+
+pub bounds-up-j : goal.bounds-up-j
+bounds-up-j c = (let it : c.pattern_of-m.result + c.step_runs-end.result.one < 16 = let i = c.loop-k.invariant in run_16 i.2 i.3 c.loop-k-test.true _ c.pattern_of-m.ensures.value in it)
+
+pub offset_bounds-down-j : goal.offset_bounds-down-j
+offset_bounds-down-j c = omega (arith, (let it : c.pattern_of-m.result + c.step_runs-end.result.one < 16 = let i = c.loop-k.invariant in run_16 i.2 i.3 c.loop-k-test.true _ c.pattern_of-m.ensures.value in it))
+
+pub bounds-down-j : goal.bounds-down-j
+bounds-down-j c = (let it : c.pattern_of-m.result + c.step_runs-end.result.one < 16 = let i = c.loop-k.invariant in run_16 i.2 i.3 c.loop-k-test.true _ c.pattern_of-m.ensures.value in it)
+
+pub forward_run-r-requires : goal.forward_run-r-requires
+forward_run-r-requires c =
+    let iteration = c in
+    let i = iteration.loop-k.invariant in
+    let f = run_apart i.2 i.3 iteration.loop-k-test.true _ _ _ (run_size i.2) i.1 in
+    (run_even i.2, f.0, rw i.0 f.1, rw i.0 f.2)
+
+pub larger_of-most-requires : goal.larger_of-most-requires
+larger_of-most-requires c = tt
+
+pub overflow_add-k : goal.overflow_add-k
+overflow_add-k c =
+    let iteration = c in
+    omega (arith, run_ends iteration.loop-k.invariant.2 iteration.loop-k.invariant.3 iteration.loop-k-test.true)
+
+pub loop-k-smaller : goal.loop-k-smaller
+loop-k-smaller c =
+    let iteration = c in
+    omega (arith, run_size iteration.loop-k.invariant.2, iteration.loop-k-test.true)
+
+pub loop-k-preserved : goal.loop-k-preserved
+loop-k-preserved c =
+    let m = c.pattern_of-m.ensures.value in
+    let iteration = c in
+    let under = iteration.loop-k-test.true in
+    let at = iteration in
+    let i = at.loop-k.invariant in
+    let a = at.args in
+    let run = c.forward_run-r in (
+      run.auto.v ∙ i.0,
+      i.1,
+      i.2,
+      next_run i.2 i.3 under,
+      runs_iteration i.2 i.3 under _ _ _ _ a.up.now a.down.now _ _ _ a.v.now at.loop-k.v i.1 m i.4 _ run.ensures.v_after,
+      runs-most i.2 i.3 under _ _ _ _ a.up.now a.down.now _ _ _ a.v.now at.loop-k.v i.1 m i.4 i.5 run.ensures.value c.larger_of-most.ensures,
+    )
+
+pub returns : goal.returns
+returns c =
+    let at = c in
+    let i = at.loop-k.invariant in
+    let s = at in
+    let e : at.loop-k.k ≡ 2 ^ s.args.g = omega (arith, i.2.ends, i.3.within) in
+    let filled = rw e at i.4 in
+    record { v_after = filled; value = rw e at i.5 ∙ filled_top _ _ _ _ _ s.requires.2.to filled }
