@@ -1,0 +1,13 @@
+-- What the answer that was told says.
+use Rattle.c_answers.specs.Laws.Numbers.{told}
+use borrow.Author.Rules.{rules}
+use Rattle.export_graphs.proofs.counts.copperhook_window.Goals as goal
+
+pub window-answer-requires : goal.window-answer-requires
+window-answer-requires c = search rules
+
+pub tell_number-requires : goal.tell_number-requires
+tell_number-requires c = search rules
+
+pub returns : goal.returns
+returns c = let both = (told _ _ c.window-answer.ensures c.tell_number.ensures) in record { value = both.0; window_after = both.1 }

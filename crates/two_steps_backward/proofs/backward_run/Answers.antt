@@ -1,0 +1,414 @@
+use mathlib.Core.Path.{◌≡◌, refl, ◌∙◌}
+use Prim.Native.Nat.{◌+◌, ◌*◌, ◌-◌, ◌^◌, ◌<◌}
+use native.Mathlib.Omega.{arith}
+use lib.ListN.{length}
+use borrow.Author.Rules.{scaled_Fits}
+use Rattle.step_tables.specs.Rule.{mix}
+use Rattle.step_runs.specs.Laws.Fours.{after_one, after_two, after-three, after-four, after_five, after_six, after_seven, same-eight}
+use Rattle.step_runs.specs.Laws.Iteration.{Iteration, iteration_of, word, less_by_two, even_next, two-more}
+use Rattle.step_runs.specs.Laws.OpposedIteration.{Last, last_of, held}
+use Rattle.two_steps_backward.specs.Laws.Inward.{inward-none}
+use Rattle.two_steps_backward.proofs.BackwardIteration.{run_iteration}
+use Rattle.two_steps_backward.proofs.backward_run.Goals as goal
+
+pub loop-i-init : goal.loop-i-init
+loop-i-init c = (refl, omega arith, omega arith, inward-none _ _ _ _ _ _ _ _ _)
+
+pub overflow_sub-r : goal.overflow_sub-r
+overflow_sub-r c = omega (arith, (let it : c.loop-i.i + 1 < c.args.n = omega arith in it))
+
+pub overflow_mul-a0 : goal.overflow_mul-a0
+overflow_mul-a0 c = let t = (let it : (let s = c.args in
+    Iteration (length c.loop-i.v) s.a s.b s.c s.d s.s c.loop-i.i) = let p = c.requires in
+    let l = c.loop-i.invariant.0 in
+    iteration_of _ _ _ _ _ _ _ _ ((let it : c.loop-i.i + 1 < c.args.n = omega arith in it)) (rw l p.2.to) (rw l p.3.to) (rw l p.4.to) (rw l p.5.to) (rw l p.2.from) ((let it : length c.loop-i.v * 8 < 2 ^ 63 = omega arith in it)) in it) in word t.times t.bytes
+
+pub overflow_add-a0 : goal.overflow_add-a0
+overflow_add-a0 c = let t = (let it : (let s = c.args in
+    Iteration (length c.loop-i.v) s.a s.b s.c s.d s.s c.loop-i.i) = let p = c.requires in
+    let l = c.loop-i.invariant.0 in
+    iteration_of _ _ _ _ _ _ _ _ ((let it : c.loop-i.i + 1 < c.args.n = omega arith in it)) (rw l p.2.to) (rw l p.3.to) (rw l p.4.to) (rw l p.5.to) (rw l p.2.from) ((let it : length c.loop-i.v * 8 < 2 ^ 63 = omega arith in it)) in it) in word t.eight.at-0 t.bytes
+
+pub offset_bounds-v-s : goal.offset_bounds-v-s
+offset_bounds-v-s c = let t = (let it : (let s = c.args in
+    Iteration (length c.loop-i.v) s.a s.b s.c s.d s.s c.loop-i.i) = let p = c.requires in
+    let l = c.loop-i.invariant.0 in
+    iteration_of _ _ _ _ _ _ _ _ ((let it : c.loop-i.i + 1 < c.args.n = omega arith in it)) (rw l p.2.to) (rw l p.3.to) (rw l p.4.to) (rw l p.5.to) (rw l p.2.from) ((let it : length c.loop-i.v * 8 < 2 ^ 63 = omega arith in it)) in it) in scaled_Fits _ _ 8 t.eight.at-0 t.bytes
+
+pub bounds-v-s : goal.bounds-v-s
+bounds-v-s c = ((let it : (let s = c.args in
+    Iteration (length c.loop-i.v) s.a s.b s.c s.d s.s c.loop-i.i) = let p = c.requires in
+    let l = c.loop-i.invariant.0 in
+    iteration_of _ _ _ _ _ _ _ _ ((let it : c.loop-i.i + 1 < c.args.n = omega arith in it)) (rw l p.2.to) (rw l p.3.to) (rw l p.4.to) (rw l p.5.to) (rw l p.2.from) ((let it : length c.loop-i.v * 8 < 2 ^ 63 = omega arith in it)) in it)).eight.at-0
+
+pub overflow_mul-b0 : goal.overflow_mul-b0
+overflow_mul-b0 c = let t = (let it : (let s = c.args in
+    Iteration (length c.loop-i.v) s.a s.b s.c s.d s.s c.loop-i.i) = let p = c.requires in
+    let l = c.loop-i.invariant.0 in
+    iteration_of _ _ _ _ _ _ _ _ ((let it : c.loop-i.i + 1 < c.args.n = omega arith in it)) (rw l p.2.to) (rw l p.3.to) (rw l p.4.to) (rw l p.5.to) (rw l p.2.from) ((let it : length c.loop-i.v * 8 < 2 ^ 63 = omega arith in it)) in it) in word t.times t.bytes
+
+pub overflow_add-b0 : goal.overflow_add-b0
+overflow_add-b0 c = let t = (let it : (let s = c.args in
+    Iteration (length c.loop-i.v) s.a s.b s.c s.d s.s c.loop-i.i) = let p = c.requires in
+    let l = c.loop-i.invariant.0 in
+    iteration_of _ _ _ _ _ _ _ _ ((let it : c.loop-i.i + 1 < c.args.n = omega arith in it)) (rw l p.2.to) (rw l p.3.to) (rw l p.4.to) (rw l p.5.to) (rw l p.2.from) ((let it : length c.loop-i.v * 8 < 2 ^ 63 = omega arith in it)) in it) in word t.eight.at-0 t.bytes
+
+pub overflow_add-b0-in-loop-i : goal.overflow_add-b0-in-loop-i
+overflow_add-b0-in-loop-i c = let t = (let it : (let s = c.args in
+    Iteration (length c.loop-i.v) s.a s.b s.c s.d s.s c.loop-i.i) = let p = c.requires in
+    let l = c.loop-i.invariant.0 in
+    iteration_of _ _ _ _ _ _ _ _ ((let it : c.loop-i.i + 1 < c.args.n = omega arith in it)) (rw l p.2.to) (rw l p.3.to) (rw l p.4.to) (rw l p.5.to) (rw l p.2.from) ((let it : length c.loop-i.v * 8 < 2 ^ 63 = omega arith in it)) in it) in word t.eight.at_1 t.bytes
+
+pub offset_bounds-v-s-in-loop-i : goal.offset_bounds-v-s-in-loop-i
+offset_bounds-v-s-in-loop-i c = let t = (let it : (let s = c.args in
+    Iteration (length c.loop-i.v) s.a s.b s.c s.d s.s c.loop-i.i) = let p = c.requires in
+    let l = c.loop-i.invariant.0 in
+    iteration_of _ _ _ _ _ _ _ _ ((let it : c.loop-i.i + 1 < c.args.n = omega arith in it)) (rw l p.2.to) (rw l p.3.to) (rw l p.4.to) (rw l p.5.to) (rw l p.2.from) ((let it : length c.loop-i.v * 8 < 2 ^ 63 = omega arith in it)) in it) in scaled_Fits _ _ 8 t.eight.at_1 t.bytes
+
+pub bounds-v-s-in-loop-i : goal.bounds-v-s-in-loop-i
+bounds-v-s-in-loop-i c = ((let it : (let s = c.args in
+    Iteration (length c.loop-i.v) s.a s.b s.c s.d s.s c.loop-i.i) = let p = c.requires in
+    let l = c.loop-i.invariant.0 in
+    iteration_of _ _ _ _ _ _ _ _ ((let it : c.loop-i.i + 1 < c.args.n = omega arith in it)) (rw l p.2.to) (rw l p.3.to) (rw l p.4.to) (rw l p.5.to) (rw l p.2.from) ((let it : length c.loop-i.v * 8 < 2 ^ 63 = omega arith in it)) in it)).eight.at_1
+
+pub overflow_mul-c0 : goal.overflow_mul-c0
+overflow_mul-c0 c = let t = (let it : (let s = c.args in
+    Iteration (length c.loop-i.v) s.a s.b s.c s.d s.s c.loop-i.i) = let p = c.requires in
+    let l = c.loop-i.invariant.0 in
+    iteration_of _ _ _ _ _ _ _ _ ((let it : c.loop-i.i + 1 < c.args.n = omega arith in it)) (rw l p.2.to) (rw l p.3.to) (rw l p.4.to) (rw l p.5.to) (rw l p.2.from) ((let it : length c.loop-i.v * 8 < 2 ^ 63 = omega arith in it)) in it) in word t.times t.bytes
+
+pub overflow_add-c0 : goal.overflow_add-c0
+overflow_add-c0 c = let t = (let it : (let s = c.args in
+    Iteration (length c.loop-i.v) s.a s.b s.c s.d s.s c.loop-i.i) = let p = c.requires in
+    let l = c.loop-i.invariant.0 in
+    iteration_of _ _ _ _ _ _ _ _ ((let it : c.loop-i.i + 1 < c.args.n = omega arith in it)) (rw l p.2.to) (rw l p.3.to) (rw l p.4.to) (rw l p.5.to) (rw l p.2.from) ((let it : length c.loop-i.v * 8 < 2 ^ 63 = omega arith in it)) in it) in word t.eight.at-0 t.bytes
+
+pub overflow_add-c0-in-loop-i : goal.overflow_add-c0-in-loop-i
+overflow_add-c0-in-loop-i c = let t = (let it : (let s = c.args in
+    Iteration (length c.loop-i.v) s.a s.b s.c s.d s.s c.loop-i.i) = let p = c.requires in
+    let l = c.loop-i.invariant.0 in
+    iteration_of _ _ _ _ _ _ _ _ ((let it : c.loop-i.i + 1 < c.args.n = omega arith in it)) (rw l p.2.to) (rw l p.3.to) (rw l p.4.to) (rw l p.5.to) (rw l p.2.from) ((let it : length c.loop-i.v * 8 < 2 ^ 63 = omega arith in it)) in it) in word t.eight.at-2 t.bytes
+
+pub offset_bounds-v-s-in-loop-i-2 : goal.offset_bounds-v-s-in-loop-i-2
+offset_bounds-v-s-in-loop-i-2 c = let t = (let it : (let s = c.args in
+    Iteration (length c.loop-i.v) s.a s.b s.c s.d s.s c.loop-i.i) = let p = c.requires in
+    let l = c.loop-i.invariant.0 in
+    iteration_of _ _ _ _ _ _ _ _ ((let it : c.loop-i.i + 1 < c.args.n = omega arith in it)) (rw l p.2.to) (rw l p.3.to) (rw l p.4.to) (rw l p.5.to) (rw l p.2.from) ((let it : length c.loop-i.v * 8 < 2 ^ 63 = omega arith in it)) in it) in scaled_Fits _ _ 8 t.eight.at-2 t.bytes
+
+pub bounds-v-s-in-loop-i-2 : goal.bounds-v-s-in-loop-i-2
+bounds-v-s-in-loop-i-2 c = ((let it : (let s = c.args in
+    Iteration (length c.loop-i.v) s.a s.b s.c s.d s.s c.loop-i.i) = let p = c.requires in
+    let l = c.loop-i.invariant.0 in
+    iteration_of _ _ _ _ _ _ _ _ ((let it : c.loop-i.i + 1 < c.args.n = omega arith in it)) (rw l p.2.to) (rw l p.3.to) (rw l p.4.to) (rw l p.5.to) (rw l p.2.from) ((let it : length c.loop-i.v * 8 < 2 ^ 63 = omega arith in it)) in it)).eight.at-2
+
+pub overflow_mul-d0 : goal.overflow_mul-d0
+overflow_mul-d0 c = let t = (let it : (let s = c.args in
+    Iteration (length c.loop-i.v) s.a s.b s.c s.d s.s c.loop-i.i) = let p = c.requires in
+    let l = c.loop-i.invariant.0 in
+    iteration_of _ _ _ _ _ _ _ _ ((let it : c.loop-i.i + 1 < c.args.n = omega arith in it)) (rw l p.2.to) (rw l p.3.to) (rw l p.4.to) (rw l p.5.to) (rw l p.2.from) ((let it : length c.loop-i.v * 8 < 2 ^ 63 = omega arith in it)) in it) in word t.times t.bytes
+
+pub overflow_add-d0 : goal.overflow_add-d0
+overflow_add-d0 c = let t = (let it : (let s = c.args in
+    Iteration (length c.loop-i.v) s.a s.b s.c s.d s.s c.loop-i.i) = let p = c.requires in
+    let l = c.loop-i.invariant.0 in
+    iteration_of _ _ _ _ _ _ _ _ ((let it : c.loop-i.i + 1 < c.args.n = omega arith in it)) (rw l p.2.to) (rw l p.3.to) (rw l p.4.to) (rw l p.5.to) (rw l p.2.from) ((let it : length c.loop-i.v * 8 < 2 ^ 63 = omega arith in it)) in it) in word t.eight.at-0 t.bytes
+
+pub overflow_add-d0-in-loop-i : goal.overflow_add-d0-in-loop-i
+overflow_add-d0-in-loop-i c = let t = (let it : (let s = c.args in
+    Iteration (length c.loop-i.v) s.a s.b s.c s.d s.s c.loop-i.i) = let p = c.requires in
+    let l = c.loop-i.invariant.0 in
+    iteration_of _ _ _ _ _ _ _ _ ((let it : c.loop-i.i + 1 < c.args.n = omega arith in it)) (rw l p.2.to) (rw l p.3.to) (rw l p.4.to) (rw l p.5.to) (rw l p.2.from) ((let it : length c.loop-i.v * 8 < 2 ^ 63 = omega arith in it)) in it) in word t.eight.at-3 t.bytes
+
+pub offset_bounds-v-s-in-loop-i-3 : goal.offset_bounds-v-s-in-loop-i-3
+offset_bounds-v-s-in-loop-i-3 c = let t = (let it : (let s = c.args in
+    Iteration (length c.loop-i.v) s.a s.b s.c s.d s.s c.loop-i.i) = let p = c.requires in
+    let l = c.loop-i.invariant.0 in
+    iteration_of _ _ _ _ _ _ _ _ ((let it : c.loop-i.i + 1 < c.args.n = omega arith in it)) (rw l p.2.to) (rw l p.3.to) (rw l p.4.to) (rw l p.5.to) (rw l p.2.from) ((let it : length c.loop-i.v * 8 < 2 ^ 63 = omega arith in it)) in it) in scaled_Fits _ _ 8 t.eight.at-3 t.bytes
+
+pub bounds-v-s-in-loop-i-3 : goal.bounds-v-s-in-loop-i-3
+bounds-v-s-in-loop-i-3 c = ((let it : (let s = c.args in
+    Iteration (length c.loop-i.v) s.a s.b s.c s.d s.s c.loop-i.i) = let p = c.requires in
+    let l = c.loop-i.invariant.0 in
+    iteration_of _ _ _ _ _ _ _ _ ((let it : c.loop-i.i + 1 < c.args.n = omega arith in it)) (rw l p.2.to) (rw l p.3.to) (rw l p.4.to) (rw l p.5.to) (rw l p.2.from) ((let it : length c.loop-i.v * 8 < 2 ^ 63 = omega arith in it)) in it)).eight.at-3
+
+pub overflow_mul-a1 : goal.overflow_mul-a1
+overflow_mul-a1 c = let t = (let it : (let s = c.args in
+    Iteration (length c.loop-i.v) s.a s.b s.c s.d s.s c.loop-i.i) = let p = c.requires in
+    let l = c.loop-i.invariant.0 in
+    iteration_of _ _ _ _ _ _ _ _ ((let it : c.loop-i.i + 1 < c.args.n = omega arith in it)) (rw l p.2.to) (rw l p.3.to) (rw l p.4.to) (rw l p.5.to) (rw l p.2.from) ((let it : length c.loop-i.v * 8 < 2 ^ 63 = omega arith in it)) in it) in word t.times t.bytes
+
+pub overflow_add-a1 : goal.overflow_add-a1
+overflow_add-a1 c = let t = (let it : (let s = c.args in
+    Iteration (length c.loop-i.v) s.a s.b s.c s.d s.s c.loop-i.i) = let p = c.requires in
+    let l = c.loop-i.invariant.0 in
+    iteration_of _ _ _ _ _ _ _ _ ((let it : c.loop-i.i + 1 < c.args.n = omega arith in it)) (rw l p.2.to) (rw l p.3.to) (rw l p.4.to) (rw l p.5.to) (rw l p.2.from) ((let it : length c.loop-i.v * 8 < 2 ^ 63 = omega arith in it)) in it) in word t.eight.at-0 t.bytes
+
+pub overflow_add-a1-in-loop-i : goal.overflow_add-a1-in-loop-i
+overflow_add-a1-in-loop-i c = let t = (let it : (let s = c.args in
+    Iteration (length c.loop-i.v) s.a s.b s.c s.d s.s c.loop-i.i) = let p = c.requires in
+    let l = c.loop-i.invariant.0 in
+    iteration_of _ _ _ _ _ _ _ _ ((let it : c.loop-i.i + 1 < c.args.n = omega arith in it)) (rw l p.2.to) (rw l p.3.to) (rw l p.4.to) (rw l p.5.to) (rw l p.2.from) ((let it : length c.loop-i.v * 8 < 2 ^ 63 = omega arith in it)) in it) in word t.eight.at-4 t.bytes
+
+pub offset_bounds-v-s-in-loop-i-4 : goal.offset_bounds-v-s-in-loop-i-4
+offset_bounds-v-s-in-loop-i-4 c = let t = (let it : (let s = c.args in
+    Iteration (length c.loop-i.v) s.a s.b s.c s.d s.s c.loop-i.i) = let p = c.requires in
+    let l = c.loop-i.invariant.0 in
+    iteration_of _ _ _ _ _ _ _ _ ((let it : c.loop-i.i + 1 < c.args.n = omega arith in it)) (rw l p.2.to) (rw l p.3.to) (rw l p.4.to) (rw l p.5.to) (rw l p.2.from) ((let it : length c.loop-i.v * 8 < 2 ^ 63 = omega arith in it)) in it) in scaled_Fits _ _ 8 t.eight.at-4 t.bytes
+
+pub bounds-v-s-in-loop-i-4 : goal.bounds-v-s-in-loop-i-4
+bounds-v-s-in-loop-i-4 c = ((let it : (let s = c.args in
+    Iteration (length c.loop-i.v) s.a s.b s.c s.d s.s c.loop-i.i) = let p = c.requires in
+    let l = c.loop-i.invariant.0 in
+    iteration_of _ _ _ _ _ _ _ _ ((let it : c.loop-i.i + 1 < c.args.n = omega arith in it)) (rw l p.2.to) (rw l p.3.to) (rw l p.4.to) (rw l p.5.to) (rw l p.2.from) ((let it : length c.loop-i.v * 8 < 2 ^ 63 = omega arith in it)) in it)).eight.at-4
+
+pub overflow_mul-b1 : goal.overflow_mul-b1
+overflow_mul-b1 c = let t = (let it : (let s = c.args in
+    Iteration (length c.loop-i.v) s.a s.b s.c s.d s.s c.loop-i.i) = let p = c.requires in
+    let l = c.loop-i.invariant.0 in
+    iteration_of _ _ _ _ _ _ _ _ ((let it : c.loop-i.i + 1 < c.args.n = omega arith in it)) (rw l p.2.to) (rw l p.3.to) (rw l p.4.to) (rw l p.5.to) (rw l p.2.from) ((let it : length c.loop-i.v * 8 < 2 ^ 63 = omega arith in it)) in it) in word t.times t.bytes
+
+pub overflow_add-b1 : goal.overflow_add-b1
+overflow_add-b1 c = let t = (let it : (let s = c.args in
+    Iteration (length c.loop-i.v) s.a s.b s.c s.d s.s c.loop-i.i) = let p = c.requires in
+    let l = c.loop-i.invariant.0 in
+    iteration_of _ _ _ _ _ _ _ _ ((let it : c.loop-i.i + 1 < c.args.n = omega arith in it)) (rw l p.2.to) (rw l p.3.to) (rw l p.4.to) (rw l p.5.to) (rw l p.2.from) ((let it : length c.loop-i.v * 8 < 2 ^ 63 = omega arith in it)) in it) in word t.eight.at-0 t.bytes
+
+pub overflow_add-b1-in-loop-i : goal.overflow_add-b1-in-loop-i
+overflow_add-b1-in-loop-i c = let t = (let it : (let s = c.args in
+    Iteration (length c.loop-i.v) s.a s.b s.c s.d s.s c.loop-i.i) = let p = c.requires in
+    let l = c.loop-i.invariant.0 in
+    iteration_of _ _ _ _ _ _ _ _ ((let it : c.loop-i.i + 1 < c.args.n = omega arith in it)) (rw l p.2.to) (rw l p.3.to) (rw l p.4.to) (rw l p.5.to) (rw l p.2.from) ((let it : length c.loop-i.v * 8 < 2 ^ 63 = omega arith in it)) in it) in word t.eight.at_5 t.bytes
+
+pub offset_bounds-v-s-in-loop-i-5 : goal.offset_bounds-v-s-in-loop-i-5
+offset_bounds-v-s-in-loop-i-5 c = let t = (let it : (let s = c.args in
+    Iteration (length c.loop-i.v) s.a s.b s.c s.d s.s c.loop-i.i) = let p = c.requires in
+    let l = c.loop-i.invariant.0 in
+    iteration_of _ _ _ _ _ _ _ _ ((let it : c.loop-i.i + 1 < c.args.n = omega arith in it)) (rw l p.2.to) (rw l p.3.to) (rw l p.4.to) (rw l p.5.to) (rw l p.2.from) ((let it : length c.loop-i.v * 8 < 2 ^ 63 = omega arith in it)) in it) in scaled_Fits _ _ 8 t.eight.at_5 t.bytes
+
+pub bounds-v-s-in-loop-i-5 : goal.bounds-v-s-in-loop-i-5
+bounds-v-s-in-loop-i-5 c = ((let it : (let s = c.args in
+    Iteration (length c.loop-i.v) s.a s.b s.c s.d s.s c.loop-i.i) = let p = c.requires in
+    let l = c.loop-i.invariant.0 in
+    iteration_of _ _ _ _ _ _ _ _ ((let it : c.loop-i.i + 1 < c.args.n = omega arith in it)) (rw l p.2.to) (rw l p.3.to) (rw l p.4.to) (rw l p.5.to) (rw l p.2.from) ((let it : length c.loop-i.v * 8 < 2 ^ 63 = omega arith in it)) in it)).eight.at_5
+
+pub overflow_mul-c1 : goal.overflow_mul-c1
+overflow_mul-c1 c = let t = (let it : (let s = c.args in
+    Iteration (length c.loop-i.v) s.a s.b s.c s.d s.s c.loop-i.i) = let p = c.requires in
+    let l = c.loop-i.invariant.0 in
+    iteration_of _ _ _ _ _ _ _ _ ((let it : c.loop-i.i + 1 < c.args.n = omega arith in it)) (rw l p.2.to) (rw l p.3.to) (rw l p.4.to) (rw l p.5.to) (rw l p.2.from) ((let it : length c.loop-i.v * 8 < 2 ^ 63 = omega arith in it)) in it) in word t.times t.bytes
+
+pub overflow_add-c1 : goal.overflow_add-c1
+overflow_add-c1 c = let t = (let it : (let s = c.args in
+    Iteration (length c.loop-i.v) s.a s.b s.c s.d s.s c.loop-i.i) = let p = c.requires in
+    let l = c.loop-i.invariant.0 in
+    iteration_of _ _ _ _ _ _ _ _ ((let it : c.loop-i.i + 1 < c.args.n = omega arith in it)) (rw l p.2.to) (rw l p.3.to) (rw l p.4.to) (rw l p.5.to) (rw l p.2.from) ((let it : length c.loop-i.v * 8 < 2 ^ 63 = omega arith in it)) in it) in word t.eight.at-0 t.bytes
+
+pub overflow_add-c1-in-loop-i : goal.overflow_add-c1-in-loop-i
+overflow_add-c1-in-loop-i c = let t = (let it : (let s = c.args in
+    Iteration (length c.loop-i.v) s.a s.b s.c s.d s.s c.loop-i.i) = let p = c.requires in
+    let l = c.loop-i.invariant.0 in
+    iteration_of _ _ _ _ _ _ _ _ ((let it : c.loop-i.i + 1 < c.args.n = omega arith in it)) (rw l p.2.to) (rw l p.3.to) (rw l p.4.to) (rw l p.5.to) (rw l p.2.from) ((let it : length c.loop-i.v * 8 < 2 ^ 63 = omega arith in it)) in it) in word t.eight.at-6 t.bytes
+
+pub offset_bounds-v-s-in-loop-i-6 : goal.offset_bounds-v-s-in-loop-i-6
+offset_bounds-v-s-in-loop-i-6 c = let t = (let it : (let s = c.args in
+    Iteration (length c.loop-i.v) s.a s.b s.c s.d s.s c.loop-i.i) = let p = c.requires in
+    let l = c.loop-i.invariant.0 in
+    iteration_of _ _ _ _ _ _ _ _ ((let it : c.loop-i.i + 1 < c.args.n = omega arith in it)) (rw l p.2.to) (rw l p.3.to) (rw l p.4.to) (rw l p.5.to) (rw l p.2.from) ((let it : length c.loop-i.v * 8 < 2 ^ 63 = omega arith in it)) in it) in scaled_Fits _ _ 8 t.eight.at-6 t.bytes
+
+pub bounds-v-s-in-loop-i-6 : goal.bounds-v-s-in-loop-i-6
+bounds-v-s-in-loop-i-6 c = ((let it : (let s = c.args in
+    Iteration (length c.loop-i.v) s.a s.b s.c s.d s.s c.loop-i.i) = let p = c.requires in
+    let l = c.loop-i.invariant.0 in
+    iteration_of _ _ _ _ _ _ _ _ ((let it : c.loop-i.i + 1 < c.args.n = omega arith in it)) (rw l p.2.to) (rw l p.3.to) (rw l p.4.to) (rw l p.5.to) (rw l p.2.from) ((let it : length c.loop-i.v * 8 < 2 ^ 63 = omega arith in it)) in it)).eight.at-6
+
+pub overflow_mul-d1 : goal.overflow_mul-d1
+overflow_mul-d1 c = let t = (let it : (let s = c.args in
+    Iteration (length c.loop-i.v) s.a s.b s.c s.d s.s c.loop-i.i) = let p = c.requires in
+    let l = c.loop-i.invariant.0 in
+    iteration_of _ _ _ _ _ _ _ _ ((let it : c.loop-i.i + 1 < c.args.n = omega arith in it)) (rw l p.2.to) (rw l p.3.to) (rw l p.4.to) (rw l p.5.to) (rw l p.2.from) ((let it : length c.loop-i.v * 8 < 2 ^ 63 = omega arith in it)) in it) in word t.times t.bytes
+
+pub overflow_add-d1 : goal.overflow_add-d1
+overflow_add-d1 c = let t = (let it : (let s = c.args in
+    Iteration (length c.loop-i.v) s.a s.b s.c s.d s.s c.loop-i.i) = let p = c.requires in
+    let l = c.loop-i.invariant.0 in
+    iteration_of _ _ _ _ _ _ _ _ ((let it : c.loop-i.i + 1 < c.args.n = omega arith in it)) (rw l p.2.to) (rw l p.3.to) (rw l p.4.to) (rw l p.5.to) (rw l p.2.from) ((let it : length c.loop-i.v * 8 < 2 ^ 63 = omega arith in it)) in it) in word t.eight.at-0 t.bytes
+
+pub overflow_add-d1-in-loop-i : goal.overflow_add-d1-in-loop-i
+overflow_add-d1-in-loop-i c = let t = (let it : (let s = c.args in
+    Iteration (length c.loop-i.v) s.a s.b s.c s.d s.s c.loop-i.i) = let p = c.requires in
+    let l = c.loop-i.invariant.0 in
+    iteration_of _ _ _ _ _ _ _ _ ((let it : c.loop-i.i + 1 < c.args.n = omega arith in it)) (rw l p.2.to) (rw l p.3.to) (rw l p.4.to) (rw l p.5.to) (rw l p.2.from) ((let it : length c.loop-i.v * 8 < 2 ^ 63 = omega arith in it)) in it) in word t.eight.at_7 t.bytes
+
+pub offset_bounds-v-s-in-loop-i-7 : goal.offset_bounds-v-s-in-loop-i-7
+offset_bounds-v-s-in-loop-i-7 c = let t = (let it : (let s = c.args in
+    Iteration (length c.loop-i.v) s.a s.b s.c s.d s.s c.loop-i.i) = let p = c.requires in
+    let l = c.loop-i.invariant.0 in
+    iteration_of _ _ _ _ _ _ _ _ ((let it : c.loop-i.i + 1 < c.args.n = omega arith in it)) (rw l p.2.to) (rw l p.3.to) (rw l p.4.to) (rw l p.5.to) (rw l p.2.from) ((let it : length c.loop-i.v * 8 < 2 ^ 63 = omega arith in it)) in it) in scaled_Fits _ _ 8 t.eight.at_7 t.bytes
+
+pub bounds-v-s-in-loop-i-7 : goal.bounds-v-s-in-loop-i-7
+bounds-v-s-in-loop-i-7 c = ((let it : (let s = c.args in
+    Iteration (length c.loop-i.v) s.a s.b s.c s.d s.s c.loop-i.i) = let p = c.requires in
+    let l = c.loop-i.invariant.0 in
+    iteration_of _ _ _ _ _ _ _ _ ((let it : c.loop-i.i + 1 < c.args.n = omega arith in it)) (rw l p.2.to) (rw l p.3.to) (rw l p.4.to) (rw l p.5.to) (rw l p.2.from) ((let it : length c.loop-i.v * 8 < 2 ^ 63 = omega arith in it)) in it)).eight.at_7
+
+pub overflow_add-v : goal.overflow_add-v
+overflow_add-v c = let t = (let it : (let s = c.args in
+    Iteration (length c.loop-i.v) s.a s.b s.c s.d s.s c.loop-i.i) = let p = c.requires in
+    let l = c.loop-i.invariant.0 in
+    iteration_of _ _ _ _ _ _ _ _ ((let it : c.loop-i.i + 1 < c.args.n = omega arith in it)) (rw l p.2.to) (rw l p.3.to) (rw l p.4.to) (rw l p.5.to) (rw l p.2.from) ((let it : length c.loop-i.v * 8 < 2 ^ 63 = omega arith in it)) in it) in word t.first.at t.bytes
+
+pub offset_bounds-v-a : goal.offset_bounds-v-a
+offset_bounds-v-a c = let t = (let it : (let s = c.args in
+    Iteration (length c.loop-i.v) s.a s.b s.c s.d s.s c.loop-i.i) = let p = c.requires in
+    let l = c.loop-i.invariant.0 in
+    iteration_of _ _ _ _ _ _ _ _ ((let it : c.loop-i.i + 1 < c.args.n = omega arith in it)) (rw l p.2.to) (rw l p.3.to) (rw l p.4.to) (rw l p.5.to) (rw l p.2.from) ((let it : length c.loop-i.v * 8 < 2 ^ 63 = omega arith in it)) in it) in scaled_Fits _ _ 8 t.first.at t.bytes
+
+pub bounds-v-a : goal.bounds-v-a
+bounds-v-a c = ((let it : (let s = c.args in
+    Iteration (length c.loop-i.v) s.a s.b s.c s.d s.s c.loop-i.i) = let p = c.requires in
+    let l = c.loop-i.invariant.0 in
+    iteration_of _ _ _ _ _ _ _ _ ((let it : c.loop-i.i + 1 < c.args.n = omega arith in it)) (rw l p.2.to) (rw l p.3.to) (rw l p.4.to) (rw l p.5.to) (rw l p.2.from) ((let it : length c.loop-i.v * 8 < 2 ^ 63 = omega arith in it)) in it)).first.at
+
+pub overflow_add-v-in-loop-i : goal.overflow_add-v-in-loop-i
+overflow_add-v-in-loop-i c = let t = (let it : (let s = c.args in
+    Iteration (length c.loop-i.v) s.a s.b s.c s.d s.s c.loop-i.i) = let p = c.requires in
+    let l = c.loop-i.invariant.0 in
+    iteration_of _ _ _ _ _ _ _ _ ((let it : c.loop-i.i + 1 < c.args.n = omega arith in it)) (rw l p.2.to) (rw l p.3.to) (rw l p.4.to) (rw l p.5.to) (rw l p.2.from) ((let it : length c.loop-i.v * 8 < 2 ^ 63 = omega arith in it)) in it) in word t.first.at t.bytes
+
+pub overflow_add-v-in-loop-i-2 : goal.overflow_add-v-in-loop-i-2
+overflow_add-v-in-loop-i-2 c = let t = (let it : (let s = c.args in
+    Iteration (length c.loop-i.v) s.a s.b s.c s.d s.s c.loop-i.i) = let p = c.requires in
+    let l = c.loop-i.invariant.0 in
+    iteration_of _ _ _ _ _ _ _ _ ((let it : c.loop-i.i + 1 < c.args.n = omega arith in it)) (rw l p.2.to) (rw l p.3.to) (rw l p.4.to) (rw l p.5.to) (rw l p.2.from) ((let it : length c.loop-i.v * 8 < 2 ^ 63 = omega arith in it)) in it) in word t.first.next t.bytes
+
+pub offset_bounds-v-a-in-loop-i : goal.offset_bounds-v-a-in-loop-i
+offset_bounds-v-a-in-loop-i c = let t = (let it : (let s = c.args in
+    Iteration (length c.loop-i.v) s.a s.b s.c s.d s.s c.loop-i.i) = let p = c.requires in
+    let l = c.loop-i.invariant.0 in
+    iteration_of _ _ _ _ _ _ _ _ ((let it : c.loop-i.i + 1 < c.args.n = omega arith in it)) (rw l p.2.to) (rw l p.3.to) (rw l p.4.to) (rw l p.5.to) (rw l p.2.from) ((let it : length c.loop-i.v * 8 < 2 ^ 63 = omega arith in it)) in it) in scaled_Fits _ _ 8 t.first.next t.bytes
+
+pub bounds-v-a-in-loop-i : goal.bounds-v-a-in-loop-i
+bounds-v-a-in-loop-i c = after_one _ c.loop-i.v _ _ ((let it : (let s = c.args in
+    Iteration (length c.loop-i.v) s.a s.b s.c s.d s.s c.loop-i.i) = let p = c.requires in
+    let l = c.loop-i.invariant.0 in
+    iteration_of _ _ _ _ _ _ _ _ ((let it : c.loop-i.i + 1 < c.args.n = omega arith in it)) (rw l p.2.to) (rw l p.3.to) (rw l p.4.to) (rw l p.5.to) (rw l p.2.from) ((let it : length c.loop-i.v * 8 < 2 ^ 63 = omega arith in it)) in it)).first.next
+
+pub overflow_add-v-in-loop-i-3 : goal.overflow_add-v-in-loop-i-3
+overflow_add-v-in-loop-i-3 c = held ((let it : Last (length c.loop-i.v) c.args.b (c.args.n - c.loop-i.i) = last_of _ _ _ _ ((let it : c.loop-i.i + 1 < c.args.n = omega arith in it)) (rw c.loop-i.invariant.0 c.requires.3.to) in it)).within ((let it : length c.loop-i.v * 8 < 2 ^ 63 = omega arith in it))
+
+pub overflow_sub-v : goal.overflow_sub-v
+overflow_sub-v c = ((let it : Last (length c.loop-i.v) c.args.b (c.args.n - c.loop-i.i) = last_of _ _ _ _ ((let it : c.loop-i.i + 1 < c.args.n = omega arith in it)) (rw c.loop-i.invariant.0 c.requires.3.to) in it)).two
+
+pub offset_bounds-v-b : goal.offset_bounds-v-b
+offset_bounds-v-b c = scaled_Fits _ _ 8 ((let it : Last (length c.loop-i.v) c.args.b (c.args.n - c.loop-i.i) = last_of _ _ _ _ ((let it : c.loop-i.i + 1 < c.args.n = omega arith in it)) (rw c.loop-i.invariant.0 c.requires.3.to) in it)).next ((let it : length c.loop-i.v * 8 < 2 ^ 63 = omega arith in it))
+
+pub bounds-v-b : goal.bounds-v-b
+bounds-v-b c = after_two _ c.loop-i.v _ _ _ _ ((let it : Last (length c.loop-i.v) c.args.b (c.args.n - c.loop-i.i) = last_of _ _ _ _ ((let it : c.loop-i.i + 1 < c.args.n = omega arith in it)) (rw c.loop-i.invariant.0 c.requires.3.to) in it)).next
+
+pub overflow_add-v-in-loop-i-4 : goal.overflow_add-v-in-loop-i-4
+overflow_add-v-in-loop-i-4 c = held ((let it : Last (length c.loop-i.v) c.args.b (c.args.n - c.loop-i.i) = last_of _ _ _ _ ((let it : c.loop-i.i + 1 < c.args.n = omega arith in it)) (rw c.loop-i.invariant.0 c.requires.3.to) in it)).within ((let it : length c.loop-i.v * 8 < 2 ^ 63 = omega arith in it))
+
+pub overflow_sub-v-in-loop-i : goal.overflow_sub-v-in-loop-i
+overflow_sub-v-in-loop-i c = ((let it : Last (length c.loop-i.v) c.args.b (c.args.n - c.loop-i.i) = last_of _ _ _ _ ((let it : c.loop-i.i + 1 < c.args.n = omega arith in it)) (rw c.loop-i.invariant.0 c.requires.3.to) in it)).one
+
+pub offset_bounds-v-b-in-loop-i : goal.offset_bounds-v-b-in-loop-i
+offset_bounds-v-b-in-loop-i c = scaled_Fits _ _ 8 ((let it : Last (length c.loop-i.v) c.args.b (c.args.n - c.loop-i.i) = last_of _ _ _ _ ((let it : c.loop-i.i + 1 < c.args.n = omega arith in it)) (rw c.loop-i.invariant.0 c.requires.3.to) in it)).at ((let it : length c.loop-i.v * 8 < 2 ^ 63 = omega arith in it))
+
+pub bounds-v-b-in-loop-i : goal.bounds-v-b-in-loop-i
+bounds-v-b-in-loop-i c = after-three _ c.loop-i.v _ _ _ _ _ _ ((let it : Last (length c.loop-i.v) c.args.b (c.args.n - c.loop-i.i) = last_of _ _ _ _ ((let it : c.loop-i.i + 1 < c.args.n = omega arith in it)) (rw c.loop-i.invariant.0 c.requires.3.to) in it)).at
+
+pub overflow_add-v-in-loop-i-5 : goal.overflow_add-v-in-loop-i-5
+overflow_add-v-in-loop-i-5 c = let t = (let it : (let s = c.args in
+    Iteration (length c.loop-i.v) s.a s.b s.c s.d s.s c.loop-i.i) = let p = c.requires in
+    let l = c.loop-i.invariant.0 in
+    iteration_of _ _ _ _ _ _ _ _ ((let it : c.loop-i.i + 1 < c.args.n = omega arith in it)) (rw l p.2.to) (rw l p.3.to) (rw l p.4.to) (rw l p.5.to) (rw l p.2.from) ((let it : length c.loop-i.v * 8 < 2 ^ 63 = omega arith in it)) in it) in word t.third.at t.bytes
+
+pub offset_bounds-v-c : goal.offset_bounds-v-c
+offset_bounds-v-c c = let t = (let it : (let s = c.args in
+    Iteration (length c.loop-i.v) s.a s.b s.c s.d s.s c.loop-i.i) = let p = c.requires in
+    let l = c.loop-i.invariant.0 in
+    iteration_of _ _ _ _ _ _ _ _ ((let it : c.loop-i.i + 1 < c.args.n = omega arith in it)) (rw l p.2.to) (rw l p.3.to) (rw l p.4.to) (rw l p.5.to) (rw l p.2.from) ((let it : length c.loop-i.v * 8 < 2 ^ 63 = omega arith in it)) in it) in scaled_Fits _ _ 8 t.third.at t.bytes
+
+pub bounds-v-c : goal.bounds-v-c
+bounds-v-c c = after-four _ c.loop-i.v _ _ _ _ _ _ _ _ ((let it : (let s = c.args in
+    Iteration (length c.loop-i.v) s.a s.b s.c s.d s.s c.loop-i.i) = let p = c.requires in
+    let l = c.loop-i.invariant.0 in
+    iteration_of _ _ _ _ _ _ _ _ ((let it : c.loop-i.i + 1 < c.args.n = omega arith in it)) (rw l p.2.to) (rw l p.3.to) (rw l p.4.to) (rw l p.5.to) (rw l p.2.from) ((let it : length c.loop-i.v * 8 < 2 ^ 63 = omega arith in it)) in it)).third.at
+
+pub overflow_add-v-in-loop-i-6 : goal.overflow_add-v-in-loop-i-6
+overflow_add-v-in-loop-i-6 c = let t = (let it : (let s = c.args in
+    Iteration (length c.loop-i.v) s.a s.b s.c s.d s.s c.loop-i.i) = let p = c.requires in
+    let l = c.loop-i.invariant.0 in
+    iteration_of _ _ _ _ _ _ _ _ ((let it : c.loop-i.i + 1 < c.args.n = omega arith in it)) (rw l p.2.to) (rw l p.3.to) (rw l p.4.to) (rw l p.5.to) (rw l p.2.from) ((let it : length c.loop-i.v * 8 < 2 ^ 63 = omega arith in it)) in it) in word t.third.at t.bytes
+
+pub overflow_add-v-in-loop-i-7 : goal.overflow_add-v-in-loop-i-7
+overflow_add-v-in-loop-i-7 c = let t = (let it : (let s = c.args in
+    Iteration (length c.loop-i.v) s.a s.b s.c s.d s.s c.loop-i.i) = let p = c.requires in
+    let l = c.loop-i.invariant.0 in
+    iteration_of _ _ _ _ _ _ _ _ ((let it : c.loop-i.i + 1 < c.args.n = omega arith in it)) (rw l p.2.to) (rw l p.3.to) (rw l p.4.to) (rw l p.5.to) (rw l p.2.from) ((let it : length c.loop-i.v * 8 < 2 ^ 63 = omega arith in it)) in it) in word t.third.next t.bytes
+
+pub offset_bounds-v-c-in-loop-i : goal.offset_bounds-v-c-in-loop-i
+offset_bounds-v-c-in-loop-i c = let t = (let it : (let s = c.args in
+    Iteration (length c.loop-i.v) s.a s.b s.c s.d s.s c.loop-i.i) = let p = c.requires in
+    let l = c.loop-i.invariant.0 in
+    iteration_of _ _ _ _ _ _ _ _ ((let it : c.loop-i.i + 1 < c.args.n = omega arith in it)) (rw l p.2.to) (rw l p.3.to) (rw l p.4.to) (rw l p.5.to) (rw l p.2.from) ((let it : length c.loop-i.v * 8 < 2 ^ 63 = omega arith in it)) in it) in scaled_Fits _ _ 8 t.third.next t.bytes
+
+pub bounds-v-c-in-loop-i : goal.bounds-v-c-in-loop-i
+bounds-v-c-in-loop-i c = after_five _ c.loop-i.v _ _ _ _ _ _ _ _ _ _ ((let it : (let s = c.args in
+    Iteration (length c.loop-i.v) s.a s.b s.c s.d s.s c.loop-i.i) = let p = c.requires in
+    let l = c.loop-i.invariant.0 in
+    iteration_of _ _ _ _ _ _ _ _ ((let it : c.loop-i.i + 1 < c.args.n = omega arith in it)) (rw l p.2.to) (rw l p.3.to) (rw l p.4.to) (rw l p.5.to) (rw l p.2.from) ((let it : length c.loop-i.v * 8 < 2 ^ 63 = omega arith in it)) in it)).third.next
+
+pub overflow_add-v-in-loop-i-8 : goal.overflow_add-v-in-loop-i-8
+overflow_add-v-in-loop-i-8 c = held ((let it : Last (length c.loop-i.v) c.args.d (c.args.n - c.loop-i.i) = last_of _ _ _ _ ((let it : c.loop-i.i + 1 < c.args.n = omega arith in it)) (rw c.loop-i.invariant.0 c.requires.5.to) in it)).within ((let it : length c.loop-i.v * 8 < 2 ^ 63 = omega arith in it))
+
+pub overflow_sub-v-in-loop-i-2 : goal.overflow_sub-v-in-loop-i-2
+overflow_sub-v-in-loop-i-2 c = ((let it : Last (length c.loop-i.v) c.args.d (c.args.n - c.loop-i.i) = last_of _ _ _ _ ((let it : c.loop-i.i + 1 < c.args.n = omega arith in it)) (rw c.loop-i.invariant.0 c.requires.5.to) in it)).two
+
+pub offset_bounds-v-d : goal.offset_bounds-v-d
+offset_bounds-v-d c = scaled_Fits _ _ 8 ((let it : Last (length c.loop-i.v) c.args.d (c.args.n - c.loop-i.i) = last_of _ _ _ _ ((let it : c.loop-i.i + 1 < c.args.n = omega arith in it)) (rw c.loop-i.invariant.0 c.requires.5.to) in it)).next ((let it : length c.loop-i.v * 8 < 2 ^ 63 = omega arith in it))
+
+pub bounds-v-d : goal.bounds-v-d
+bounds-v-d c = after_six _ c.loop-i.v _ _ _ _ _ _ _ _ _ _ _ _ ((let it : Last (length c.loop-i.v) c.args.d (c.args.n - c.loop-i.i) = last_of _ _ _ _ ((let it : c.loop-i.i + 1 < c.args.n = omega arith in it)) (rw c.loop-i.invariant.0 c.requires.5.to) in it)).next
+
+pub overflow_add-v-in-loop-i-9 : goal.overflow_add-v-in-loop-i-9
+overflow_add-v-in-loop-i-9 c = held ((let it : Last (length c.loop-i.v) c.args.d (c.args.n - c.loop-i.i) = last_of _ _ _ _ ((let it : c.loop-i.i + 1 < c.args.n = omega arith in it)) (rw c.loop-i.invariant.0 c.requires.5.to) in it)).within ((let it : length c.loop-i.v * 8 < 2 ^ 63 = omega arith in it))
+
+pub overflow_sub-v-in-loop-i-3 : goal.overflow_sub-v-in-loop-i-3
+overflow_sub-v-in-loop-i-3 c = ((let it : Last (length c.loop-i.v) c.args.d (c.args.n - c.loop-i.i) = last_of _ _ _ _ ((let it : c.loop-i.i + 1 < c.args.n = omega arith in it)) (rw c.loop-i.invariant.0 c.requires.5.to) in it)).one
+
+pub offset_bounds-v-d-in-loop-i : goal.offset_bounds-v-d-in-loop-i
+offset_bounds-v-d-in-loop-i c = scaled_Fits _ _ 8 ((let it : Last (length c.loop-i.v) c.args.d (c.args.n - c.loop-i.i) = last_of _ _ _ _ ((let it : c.loop-i.i + 1 < c.args.n = omega arith in it)) (rw c.loop-i.invariant.0 c.requires.5.to) in it)).at ((let it : length c.loop-i.v * 8 < 2 ^ 63 = omega arith in it))
+
+pub bounds-v-d-in-loop-i : goal.bounds-v-d-in-loop-i
+bounds-v-d-in-loop-i c = after_seven _ c.loop-i.v _ _ _ _ _ _ _ _ _ _ _ _ _ _ ((let it : Last (length c.loop-i.v) c.args.d (c.args.n - c.loop-i.i) = last_of _ _ _ _ ((let it : c.loop-i.i + 1 < c.args.n = omega arith in it)) (rw c.loop-i.invariant.0 c.requires.5.to) in it)).at
+
+pub overflow_add-i : goal.overflow_add-i
+overflow_add-i c = let t = (let it : (let s = c.args in
+    Iteration (length c.loop-i.v) s.a s.b s.c s.d s.s c.loop-i.i) = let p = c.requires in
+    let l = c.loop-i.invariant.0 in
+    iteration_of _ _ _ _ _ _ _ _ ((let it : c.loop-i.i + 1 < c.args.n = omega arith in it)) (rw l p.2.to) (rw l p.3.to) (rw l p.4.to) (rw l p.5.to) (rw l p.2.from) ((let it : length c.loop-i.v * 8 < 2 ^ 63 = omega arith in it)) in it) in word t.after t.bytes
+
+pub loop-i-smaller : goal.loop-i-smaller
+loop-i-smaller c = less_by_two _ _ ((let it : c.loop-i.i + 1 < c.args.n = omega arith in it))
+
+pub loop-i-preserved : goal.loop-i-preserved
+unfolding mix
+loop-i-preserved c =
+    let here = c in
+    let at = here in
+    let pre = at.requires in (
+      same-eight at.loop-i.v _ _ _ _ _ _ _ _ _ _ _ _ _ _ _ _ ∙ at.loop-i.invariant.0,
+      even_next _ at.loop-i.invariant.1,
+      two-more _ _ ((let it : c.loop-i.i + 1 < c.args.n = omega arith in it)),
+      run_iteration _ _ _ _ _ _ _ _ _ _ _ _ _ _ _ _ _ pre.1 pre.2 pre.3 pre.4 pre.5 at.loop-i.invariant.3 ((let it : c.loop-i.i + 1 < c.args.n = omega arith in it)) at.loop-i.invariant.1,
+    )
+
+pub returns : goal.returns
+returns c =
+    let a = c.args in
+    let e : c.loop-i.i ≡ a.n = omega arith in
+    let z : a.n - a.n ≡ 0 = omega arith in
+    let eb : a.b + 0 ≡ a.b = omega arith in
+    let ed : a.d + 0 ≡ a.d = omega arith in
+    rw (e, z, eb, ed) at c.loop-i.invariant.3

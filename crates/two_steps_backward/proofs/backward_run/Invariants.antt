@@ -1,0 +1,15 @@
+-- The first i places of the run and those opposite to them are filled; an iteration fills two more.
+use mathlib.Core.Path.{◌≡◌}
+use Prim.Native.Nat.{◌-◌, ◌%◌, ◌≤◌}
+use lib.ListN.{length}
+use Rattle.step_runs.specs.Laws.Fours.{four}
+use Rattle.two_steps_backward.proofs.BackwardIteration.{run_list}
+use Rattle.two_steps_backward.proofs.backward_run.Given as goal
+
+abbrev pub invariant-loop-i : goal.invariant-loop-i
+invariant-loop-i l =
+    (length l.v ≡ length l.initial.v) × (l.i % 2 ≡ 0) × (l.i ≤ l.n)
+    × (l.v ≡ run_list l.ep l.em l.ep2 l.em2 (four l.p0 l.p1 l.p2 l.p3) (four l.q0 l.q1 l.q2 l.q3) (four l.e0 l.e1 l.e2 l.e3) (four l.f0 l.f1 l.f2 l.f3) l.s l.a l.b l.c l.d l.n l.initial.v l.i)
+
+abbrev pub decreases-loop-i : goal.decreases-loop-i
+decreases-loop-i l = l.n - l.i

@@ -1,0 +1,18 @@
+-- The entries up to the run at k are filled; an iteration fills those of a run.
+use mathlib.Core.Path.{◌≡◌}
+use Prim.Native.Nat.{◌*◌, ◌-◌, ◌^◌}
+use lib.ListN.{length}
+use Rattle.list_laws.specs.Part.{Apart}
+use Rattle.step_runs.specs.AtRun.{TwoRuns}
+use Rattle.step_runs.specs.Laws.AtRun.{AtRun}
+use Rattle.two_steps_backward.proofs.BackwardRuns.{stepped}
+use Rattle.two_steps_backward.proofs.backward_runs.Given as goal
+
+abbrev pub invariant-loop-k : goal.invariant-loop-k
+invariant-loop-k l =
+    (length l.v ≡ length l.initial.v) × Apart (length l.initial.v) l.src (2 * 2 ^ l.h) l.dst (2 * 2 ^ l.h)
+    × TwoRuns l.bits l.n l.bits2 l.n2 (l.h - 1) l.h l.e l.end l.quarter l.size l.one l.low l.two × AtRun l.e l.end l.k
+    × (l.v ≡ stepped l.ep l.em l.ep2 l.em2 l.bits l.n l.up l.down l.bits2 l.n2 l.up2 l.down2 l.h l.src l.dst l.initial.v l.k) × (l.quarter ≡ 2 * l.end)
+
+abbrev pub decreases-loop-k : goal.decreases-loop-k
+decreases-loop-k l = l.end - l.k
