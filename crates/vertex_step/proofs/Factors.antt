@@ -1,15 +1,14 @@
 -- The factors in the room, read by edge.
 use mathlib.Core.Path.{◌≡◌, refl, sym, ap, ◌∙◌, subst}
-use mathlib.Core.Bool.{Bool, true, false, not}
-use mathlib.Core.List.{List, []}
-use mathlib.Core.Option.{Option, none, some}
+use mathlib.Core.Bool.{not}
+use mathlib.Core.List.{List}
 use Prim.Native.Nat.{ℕ, zero, suc, ◌+◌, ◌-◌, ◌≤◌, ◌<◌}
 use native.Mathlib.Omega.{arith}
 use lib.Dec.{eqb, eqb-suc-zero}
 use lib.ListN.{get_or, drop}
 use lib.Seq.{get_or-drop}
 use lib.Ieee.{Float, nan, binary64, div}
-use Rattle.transfer_matrix.specs.Job.{Back, Step}
+use Rattle.transfer_matrix.specs.Job.{Step}
 use Rattle.plan_steps.specs.Layout.{Vertex, named, near_from, step_in, left_edge as left_of, near_count, near_edge, near_bit}
 use Rattle.transfer_matrix.specs.Rounded.{ieee}
 use Rattle.transfer_matrix.specs.Sweep as S

@@ -1,0 +1,56 @@
+-- The tables are read, and one step or two are taken by them, as `last` says.
+use mathlib.Core.Path.{sym, ap, ◌∙◌}
+use native.Mathlib.Omega.{arith}
+use lib.ListN.{drop}
+use Rattle.plan_steps.specs.Layout.{step_in}
+use Rattle.step_tables.specs.Laws.Constants.{one-is}
+use Rattle.step_tables.specs.Place.{hold}
+use Rattle.pair_sums.specs.Stored.{most_if}
+use Rattle.pair_sums.specs.Terms.{half_at}
+use Rattle.vertex_step.specs.Laws.Through.{second-of, through-one, through-two}
+use Rattle.vertex_step.proofs.Folds.{half-to, fold_twice}
+use Rattle.vertex_step.proofs.through.backward_through.Goals as goal
+
+pub half_backward-most-requires : goal.half_backward-most-requires
+half_backward-most-requires c =
+    (c.requires.0.places, rw c.near_count-n2.ensures c.tables_at-ep2.ensures.rising)
+
+pub returns-then-taken : goal.returns-then-taken
+unfolding most_if
+returns-then-taken c =
+    let step = c.half_backward-most.ensures in record { room_after = step.room_after _ _ (rw (c.near_count-n2.ensures, one-is) c.tables_at-ep2.ensures.tabled) ∙ ap (half-to _ _ _ _) (sym (through-one _ _ _ _ _ _ c.if-last-t.true)); value = rw c.if-taken.true step.value }
+
+pub returns-else-taken : goal.returns-else-taken
+unfolding most_if
+returns-else-taken c =
+    let step = c.half_backward-most.ensures in record { room_after = step.room_after _ _ (rw (c.near_count-n2.ensures, one-is) c.tables_at-ep2.ensures.tabled) ∙ ap (half-to _ _ _ _) (sym (through-one _ _ _ _ _ _ c.if-last-t.true)); value = rw c.if-taken.false one-is }
+
+pub tables_at-ep-requires : goal.tables_at-ep-requires
+tables_at-ep-requires c =
+    ((second-of c.requires.1 c.if-last-t.false).reads, omega arith, omega arith, omega arith)
+
+pub near_count-n-requires : goal.near_count-n-requires
+near_count-n-requires c = (second-of c.requires.1 c.if-last-t.false).reads.holds
+
+pub half_stride_backward-requires : goal.half_stride_backward-requires
+half_stride_backward-requires c =
+    let p = c.requires in (
+      (second-of p.1 c.if-last-t.false).wide,
+      p.0.places,
+      rw c.near_count-n.ensures c.tables_at-ep.ensures.rising,
+      rw c.near_count-n2.ensures c.tables_at-ep2.ensures.rising,
+    )
+
+pub half_stored-requires : goal.half_stored-requires
+half_stored-requires c = rw c.half_stride_backward.auto.room c.requires.0.places.to
+
+pub returns : goal.returns
+returns c =
+    let a = c.args in
+    let x = drop a.factors a.room.now in
+    let one = step_in a.plan.now x a.t in
+    let two = step_in a.plan.now x a.last in
+    let both = c.half_stride_backward.ensures two a.then one a.scale (rw (c.near_count-n.ensures, one-is) c.tables_at-ep.ensures.tabled)
+    (rw (c.near_count-n2.ensures, one-is) c.tables_at-ep2.ensures.tabled)
+    ∙ ap (hold a.room.now a.w a.dst) (sym (fold_twice a.w two a.then one a.scale (half_at a.room.now a.w a.src) (second-of c.requires.1 c.if-last-t.false).wide)) in
+    record { room_after = both ∙ ap (half-to _ _ _ _) (sym (through-two _ _ _ _ _ _ c.if-last-t.false)); value = c.half_stored.ensures }
