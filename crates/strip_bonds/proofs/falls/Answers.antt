@@ -1,0 +1,5 @@
+-- The test, as it comes out.
+use Rattle.strip_bonds.proofs.falls.Goals as goal
+
+pub returns : goal.returns
+returns c = rw (c.is_eight.ensures, c.is_tri.ensures)
