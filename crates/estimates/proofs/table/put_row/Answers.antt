@@ -1,0 +1,6 @@
+-- Two stores.
+use mathlib.Core.Path.{refl}
+use Rattle.estimates.proofs.table.put_row.Goals as goal
+
+pub returns : goal.returns
+returns c = record { means_after = refl; errors_after = refl }
