@@ -1,0 +1,56 @@
+use mathlib.Core.Path.{◌≡◌, ap, ◌∙◌}
+use mathlib.Core.List.{List}
+use Prim.Native.Nat.{ℕ, ◌≤◌}
+use native.Mathlib.Omega.{arith}
+use lib.Ieee.{Float}
+use lib.ListN.{length, set}
+use Rattle.list_laws.specs.Tabulate.{tabulate}
+use Rattle.estimate.specs.declared.answer.MeanSpread.{MeanSpread}
+use Rattle.estimates.specs.Laws.Rows.{rows, no_rows, rows-length, one_more, all-rows}
+use Rattle.estimates_complete.proofs.fill_columns.Invariants.{mean_at, error_at, spread_at}
+use Rattle.estimates_complete.proofs.fill_columns.Goals as goal
+
+long : (f : ℕ → Float → Float) (old v : List Float) (i : ℕ) → i ≤ length old → v ≡ rows f old i → length v ≡ length old
+long f old v i h e = ap length e ∙ rows-length f old i h
+
+pub loop-i-init : goal.loop-i-init
+loop-i-init c = (omega arith, no_rows _ _, no_rows _ _, no_rows _ _)
+
+pub put_row-requires : goal.put_row-requires
+put_row-requires c =
+    let l = c.loop-i in
+    let i = l.invariant in
+    let m = long _ c.args.means.now l.means l.i (omega (arith, i.0, c.requires)) i.1 in
+    let e = long _ c.args.errors.now l.errors l.i (omega (arith, i.0, c.requires)) i.2 in
+    let w = long _ c.args.spreads.now l.spreads l.i (omega (arith, i.0, c.requires)) i.3 in
+    (omega arith, omega arith, omega arith)
+
+pub loop-i-preserved : goal.loop-i-preserved
+loop-i-preserved c =
+    let a = c.args in
+    let pre = c.requires in
+    let l = c.loop-i in
+    let e = c.mean_spread-row.ensures in
+    let p = c.put_row.ensures in (
+      omega arith,
+      one_more (mean_at a.n a.squares.now) a.means.now l.i _ _ (omega arith) l.invariant.1
+          (p.means_after ∙ ap (λ (x : MeanSpread). set l.means l.i x.mean) e),
+      one_more error_at a.errors.now l.i _ _ (omega arith) l.invariant.2 (p.errors_after ∙ ap (λ (x : MeanSpread). set l.errors l.i x.error) e),
+      one_more (spread_at a.n a.squares.now a.fourths.now) a.spreads.now l.i _ _ (omega arith) l.invariant.3
+          (p.spreads_after ∙ ap (λ (x : MeanSpread). set l.spreads l.i x.spread) e),
+    )
+
+pub shape_of-means : goal.shape_of-means
+shape_of-means c = let l = c.loop-i in long _ _ l.means l.i (omega (arith, l.invariant.0, c.requires)) l.invariant.1
+
+pub shape_of-errors : goal.shape_of-errors
+shape_of-errors c = let l = c.loop-i in long _ _ l.errors l.i (omega (arith, l.invariant.0, c.requires)) l.invariant.2
+
+pub shape_of-spreads : goal.shape_of-spreads
+shape_of-spreads c = let l = c.loop-i in long _ _ l.spreads l.i (omega (arith, l.invariant.0, c.requires)) l.invariant.3
+
+pub returns : goal.returns
+returns c =
+    let a = c.args in
+    let pre = c.requires in
+    let l = c.loop-i in record { means_after = l.invariant.1 ∙ all-rows (mean_at a.n a.squares.now) a.means.now l.i (omega arith) ∙ ap (tabulate _) pre.1; errors_after = l.invariant.2 ∙ all-rows error_at a.errors.now l.i (omega arith) ∙ ap (tabulate _) pre.2; spreads_after = l.invariant.3 ∙ all-rows (spread_at a.n a.squares.now a.fourths.now) a.spreads.now l.i (omega arith) ∙ ap (tabulate _) pre.3 }
