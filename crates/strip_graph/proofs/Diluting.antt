@@ -20,7 +20,6 @@ use Rattle.kept_edges.specs.Laws.Places.{places-length}
 use Rattle.graph_edges.specs.Graphs.{too_short, Set}
 use Rattle.graph_edges.specs.Laws.Setting.{refused-set}
 use Rattle.graph_edges.specs.declared.Made.{Made}
-use Rattle.graph_edges.specs.declared.Made.TheVariants as Made
 use Rattle.strip.specs.declared.strip.Strip.{Strip}
 use Rattle.strip_bonds.specs.Edges.{edges, early_ends, late_ends}
 use Rattle.strip_dilution.specs.Diluted.{magnitude, state_at, magnitudes, diluted_refusal}
