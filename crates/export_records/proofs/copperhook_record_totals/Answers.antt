@@ -1,5 +1,4 @@
 -- The answer again, from its number and the count.
-use borrow.Author.Rules.{rules}
 use mathlib.Core.Path.{◌≡◌, subst}
 use mathlib.Core.List.{List}
 use Prim.Native.Nat.{ℕ}
@@ -10,8 +9,7 @@ use Rattle.refusals.specs.declared.Answer.{Answer}
 use Rattle.run_record_totals.specs.Totals.{refused_totals, record_count, Totalled}
 use Rattle.c_answers.specs.Numbers.{Tells}
 use Rattle.c_answers.specs.Laws.Numbers.{told-again, told-refused}
-use Rattle.export_records.proofs.copperhook_record_totals.Statement.{statement}
-use Rattle.export_records.proofs.copperhook_record_totals.Tie as tie
+use Rattle.export_records.proofs.copperhook_record_totals.Goals as goal
 
 again : {bytes : List ℕ} {answer : Answer} {r count count' : ℕ} {squares squares' fourths fourths' : List Float}
     → Totalled bytes answer squares squares' fourths fourths' → Tells answer r count count'
@@ -22,10 +20,5 @@ again {bytes} {answer} {r} {count} {count'} {squares} {squares'} {fourths} {four
       told-refused refused (record_count bytes) g.answer t,
     )
 
-returns : tie.Need-returns
-returns c = again c.before.before.before.before.before.before.record-totals.ensures c.tell-number.ensures
-
-pub copperhook-record-totals-spec : {M : Type 1} → statement M
-copperhook-record-totals-spec =
-    tie.close
-    (tie.spec (λ c κs. search rules) (λ c κs. search rules) (λ c. search rules) (λ c. search rules) returns)
+pub returns : goal.returns
+returns c = let both = (again c.record_totals-answer.ensures c.tell_number.ensures) in record { totalled = both.0; count_unchanged = both.1 }

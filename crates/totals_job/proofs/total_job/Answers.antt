@@ -1,0 +1,103 @@
+-- The job is planned, and what was added up is cleared where some Z is not finite and above zero.
+use mathlib.Core.Path.{refl, sym, ap, ◌∙◌}
+use Prim.Native.Nat.{◌≤◌}
+use native.Mathlib.Omega.{arith}
+use lib.ListN.{length}
+use lib.Seq.{length-take-le}
+use Rattle.plan_steps.specs.Layout.{Holds}
+use Rattle.job_run.specs.Zeros.{zeros}
+use Rattle.totals_call.specs.Jobs.{job_in}
+use Rattle.totals_call.specs.Finished.{stepping}
+use Rattle.totals_call.specs.Laws.Signing.{chunked_plan}
+use Rattle.totals_call.specs.Laws.Staging.{enough-factors, few-sums, staged, summable, room_fits, finished, cleared-answers}
+use Rattle.totals_job.proofs.total_job.Goals as goal
+
+-- ---- the lists that are made here are long enough
+pub slice_bounds-orders-end : goal.slice_bounds-orders-end
+slice_bounds-orders-end c = omega (arith, c.requires.0.job.few-pairs)
+
+pub slice_bounds-order-end : goal.slice_bounds-order-end
+slice_bounds-order-end c = sym (length-take-le _ _ (omega (arith, c.requires.0.job.few-pairs)))
+
+pub slice_bounds-signs-end : goal.slice_bounds-signs-end
+slice_bounds-signs-end c = omega (arith, c.requires.0.job.few-edges)
+
+pub slice_bounds-chunked_totals-end-2 : goal.slice_bounds-chunked_totals-end-2
+slice_bounds-chunked_totals-end-2 c = sym (length-take-le _ _ (omega (arith, c.requires.0.job.few-edges)))
+
+pub slice_bounds-c-end : goal.slice_bounds-c-end
+slice_bounds-c-end c = omega (arith, c.requires.0.job.few-pairs)
+
+pub slice_bounds-chunked_totals-end-3 : goal.slice_bounds-chunked_totals-end-3
+slice_bounds-chunked_totals-end-3 c = sym (length-take-le _ _ (omega (arith, c.requires.0.job.few-pairs)))
+
+pub slice_bounds-subsquares-end : goal.slice_bounds-subsquares-end
+slice_bounds-subsquares-end c = let p = c.requires in omega (arith, few-sums p.0, p.2)
+
+pub slice_bounds-chunked_totals-end-4 : goal.slice_bounds-chunked_totals-end-4
+slice_bounds-chunked_totals-end-4 c = let p = c.requires in sym (length-take-le _ _ (omega (arith, few-sums p.0, p.2)))
+
+pub slice_bounds-subfourths-end : goal.slice_bounds-subfourths-end
+slice_bounds-subfourths-end c = let p = c.requires in omega (arith, few-sums p.0, p.2)
+
+pub slice_bounds-chunked_totals-end-5 : goal.slice_bounds-chunked_totals-end-5
+slice_bounds-chunked_totals-end-5 c = let p = c.requires in sym (length-take-le _ _ (omega (arith, few-sums p.0, p.2)))
+
+-- ---- what is called
+pub make_plan-layout-requires : goal.make_plan-layout-requires
+make_plan-layout-requires c =
+    let p = c.requires.0.job in
+    let few = p.edges.few in
+    (p.edges, p.few-edges, p.pairs, omega arith, p.few-near)
+
+pub order_pairs-requires : goal.order_pairs-requires
+order_pairs-requires c =
+    let p = c.requires.0.job in
+    (p.pairs, p.edges.few, length-take-le _ _ (omega (arith, p.few-pairs)))
+
+pub slice_bounds-room-end : goal.slice_bounds-room-end
+slice_bounds-room-end c = (let it : c.make_plan-layout.result.room ≤ length c.args.work.now = room_fits c.requires.0 c.make_plan-layout.ensures in it)
+
+pub slice_bounds-room-end-2 : goal.slice_bounds-room-end-2
+slice_bounds-room-end-2 c = sym (length-take-le _ c.args.work.now ((let it : c.make_plan-layout.result.room ≤ length c.args.work.now = room_fits c.requires.0 c.make_plan-layout.ensures in it)))
+
+pub chunked_totals-sound-requires : goal.chunked_totals-sound-requires
+chunked_totals-sound-requires c =
+    let s = c in
+    let p = s.requires in
+    let m = c.make_plan-layout in
+    let o = c.order_pairs in
+    let few = p.0.job.edges.few in
+    let holds : Holds m.new.plan s.args.n = omega (arith, m.auto.plan) in
+    let l = p.0.job.few-edges in
+    let k = p.0.job.few-pairs in
+    let f = few-sums p.0 in
+    let e = p.2 in
+    let long = p.1.long in (
+      staged p.0 m.ensures o.new.order _ _ _ s.args.elementwise s.args.less refl holds o.ensures long (length-take-le _ s.args.work.now ((let it : c.make_plan-layout.result.room ≤ length c.args.work.now = room_fits c.requires.0 c.make_plan-layout.ensures in it))) (length-take-le _ _ (omega (arith, k))),
+      enough-factors p.0 _ long,
+      summable s.args.early.now s.args.late.now s.args.chunks s.args.bits.now _ p.1 (length-take-le _ _ (omega (arith, l))),
+      record { part-squared = length-take-le _ _ (omega (arith, f, e)) ∙ e; part-fourthed = length-take-le _ _ (omega (arith, f, e)) ∙ e; squared = e; fourthed = p.3 },
+    )
+
+pub shape_of-squares : goal.shape_of-squares
+shape_of-squares c = c.clear_unsound.auto.list ∙ c.chunked_totals-sound.auto.squares
+
+pub shape_of-fourths : goal.shape_of-fourths
+shape_of-fourths c = c.clear_unsound-2.auto.list ∙ c.chunked_totals-sound.auto.fourths
+
+pub returns : goal.returns
+returns c =
+    let s = c in
+    let a = s.args in
+    let p = s.requires in
+    let m = c.make_plan-layout in
+    let t = c.chunked_totals-sound in
+    let zero = c.clear in
+    let x = c.clear_unsound in
+    let y = c.clear_unsound-2 in
+    let of = chunked_plan _ m.new.plan a.early.now a.late.now a.us.now a.vs.now a.n a.w _ _ _ _ m.ensures p.0.job.some a.factors.now a.elementwise a.less a.betas a.chunks a.bits.now p.1.long p.1.given in
+    let said = t.ensures (job_in a.n a.w a.early.now a.late.now a.factors.now (stepping a.elementwise) a.chunks) of in
+    finished p.0 m.ensures _ _ _ _ t.result _ _ a.work.now zero.new.list refl (zero.ensures ∙ ap zeros t.auto.room)
+    (cleared-answers _ t.result _ t.new.squares _ _ said.0 (λ h. (said.1 h).squared) (t.auto.squares ∙ p.2) x.ensures)
+    (cleared-answers _ t.result _ t.new.fourths _ _ said.0 (λ h. (said.1 h).fourthed) (t.auto.fourths ∙ p.3) y.ensures)
