@@ -49,14 +49,14 @@ fn kept_of(k: usize, early: &[usize; 4096], late: &[usize; 4096], mag: &[f64; 40
     }
 }
 
-fn number(a: Answer) -> usize {
+fn number(a: &Answer) -> usize {
     match a {
-        Answer::Number(k) => k,
+        Answer::Number(k) => *k,
         Answer::Refused(_) => 0,
     }
 }
 
-#[derive(Drop)]
+#[derive(Clone, Copy)]
 pub(crate) struct Dilution {
     pub keep: f64,
     pub low: f64,
@@ -142,9 +142,9 @@ pub(crate) fn replay(list: &[u8], at: usize) -> bool {
     let mut late = [GUARD; 4096];
     let mut mag = [GUARD_MAGNITUDE; 4096];
     let answer = lend(s, x, 4096, 4096, 4096, &mut early, &mut late, &mut mag);
-    let k = number(answer);
+    let k = number(&answer);
     let kept = kept_of(k, &early, &late, &mag);
-    let floor = number(strip_window::window(s));
+    let floor = number(&strip_window::window(s));
     let win = if floor < kept.longest {
         kept.longest
     } else {

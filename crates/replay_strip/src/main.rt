@@ -12,6 +12,8 @@ mod strips;
 ghost use Rattle.std.specs.Prelude.{◌<◌, ◌≤◌};
 
 use edges::Tally;
+use std::io;
+use std::rt::Files;
 
 // bytes of a record of each list
 const STRIP: usize = 8 * 7;
@@ -56,30 +58,38 @@ fn tally(size: usize, list: &[u8]) -> Tally
     }
 }
 
-fn report(size: usize, path: &[u8], what: &[u8])
+fn report(rt: &(impl Files + Print), size: usize, path: &str, what: &str) -> io::Result<()>
     requires { (0 < size) × (size ≤ 80) }
 {
     let mut list = [0u8; 98304];
-    let n = replay_format::read_file(path, &mut list);
+    let n = replay_format::read_file(rt, path, &mut list)?;
     let t = tally(size, &list[..n]);
-    replay_format::print_tally(t.agree, t.records, what);
+    replay_format::print_tally(rt, t.agree, t.records, what)
 }
 
-fn main() {
+fn main(rt: HostRuntime) -> io::Result<()> {
     report(
+        &rt,
         STRIP,
-        b"strips.bin",
-        b" strips agree: edges, window, pairs, labels, buffers too short and exact\n",
-    );
-    report(EDGES, b"edges.bin", b" small strips agree edge by edge\n");
+        "strips.bin",
+        " strips agree: edges, window, pairs, labels, buffers too short and exact\n",
+    )?;
     report(
+        &rt,
+        EDGES,
+        "edges.bin",
+        " small strips agree edge by edge\n",
+    )?;
+    report(
+        &rt,
         DILUTION,
-        b"dilutions.bin",
-        b" dilutions agree, list and graph, buffers too short and exact\n",
-    );
+        "dilutions.bin",
+        " dilutions agree, list and graph, buffers too short and exact\n",
+    )?;
     report(
+        &rt,
         REFUSAL,
-        b"refusals.bin",
-        b" refusals and near misses agree\n",
-    );
+        "refusals.bin",
+        " refusals and near misses agree\n",
+    )
 }
