@@ -10,6 +10,8 @@ use Rattle.shares.specs.Shares.{+1·0, bad_entry}
 
 both_hold : (p q : Bool) → T p → T q → not (p && q) ≡ false
 both_hold true true s t = refl
+both_hold false q s t = elim s [ ]
+both_hold true false s t = elim t [ ]
 
 -- what lies in [-1, 1] is no bad entry
 pub good_entry : (x : Float) → InUnit x → bad_entry x ≡ false

@@ -1,0 +1,9 @@
+-- The options that the number names, and the entry with it.
+use mathlib.Core.Path.{ap}
+use Rattle.c_values.specs.declared.options.Options.{Options}
+use Rattle.export_recordings.proofs.house.copperhook_house_sample_record.Goals as goal
+
+pub returns : goal.returns
+returns c =
+    let asked = c.options_numbered-asked.ensures in
+    rw (← (ap (λ (o : Options). o.manner) asked), ← (ap (λ (o : Options). o.arrangement) asked)) c.house_sample_record.ensures

@@ -1,0 +1,6 @@
+-- The options that the number names, and what the answer that was told says.
+use Rattle.export_totals.proofs.Told.{house-enumerated-told}
+use Rattle.export_totals.proofs.house.copperhook_house_exhaustive.Goals as goal
+
+pub returns : goal.returns
+returns c = let both = (house-enumerated-told c.options_numbered-asked.ensures c.house_exhaustive-answer.ensures c.tell_number.ensures) in record { house_enumerated = both.0; count_unchanged = both.1 }
