@@ -1,4 +1,2 @@
 -- The definitions that the contracts cite, and the laws of what is held and of what is not copied.
 pub mod Columns
--- and the laws of these definitions, which no reader needs to believe.
-pub mod Laws

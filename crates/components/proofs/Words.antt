@@ -10,12 +10,12 @@ use lib.Dec.{eqb, ltb}
 use lib.ListN.{length}
 use lib.Pow.{pow_mono}
 use borrow.Author.Tests.{eq-eqb, ne_eqb, lt-ltb, le-ltb}
-use Rattle.list_laws.specs.Laws.Tabulate.{tabulate_ext}
+use Rattle.list_laws.proofs.Laws.Tabulate.{tabulate_ext}
 use Rattle.forest.specs.Lowest.{lowest, is_lowest, bits, lowest_marks}
 use Rattle.union_find.specs.Forest.{parent, links, root, Labelled}
 use Rattle.components.specs.Marks.{is_root, root_marks}
-use Rattle.forest.specs.Laws.Marks.{bits_none, bits-more, bits_fit}
-use Rattle.union_find.specs.Laws.Climb.{climb-own}
+use Rattle.forest.proofs.Laws.Marks.{bits_none, bits-more, bits_fit}
+use Rattle.union_find.proofs.Laws.Climb.{climb-own}
 
 -- w has the bits from b on, and x is the bit below them
 module _ (test : ℕ → Bool) (first b w x : ℕ) (some : 0 < b) (most : b ≤ 64) (W : w ≡ bits test (first + b) (64 - b))

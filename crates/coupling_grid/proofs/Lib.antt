@@ -2,3 +2,6 @@ mod Product
 mod Placing
 mod Range
 mod Whole
+pub mod Theorems
+-- and the laws of these definitions, which no reader needs to believe.
+pub mod Laws

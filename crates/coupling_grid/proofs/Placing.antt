@@ -5,9 +5,9 @@ use lib.Ieee.Exact.{HasValue}
 use lib.Ieee.Fits.{down_pos}
 use lib.Ieee.Back.{round_whole, unsigned_back}
 use lib.Ieee.Scale.{round_same}
-use Rattle.rounding.specs.Laws.Scaled.{castable}
+use Rattle.rounding.proofs.Laws.Scaled.{castable}
 use Rattle.coupling_grid.specs.Grid.{At, place_of, off_grid}
-use Rattle.coupling_grid.specs.Theorems.{place-only}
+use Rattle.coupling_grid.proofs.Theorems.{place-only}
 use Rattle.coupling_grid.proofs.Product.{times128, product_is}
 
 -- x * 128.0 + 512.0, as the code has it

@@ -4,7 +4,7 @@ use lib.Ieee.{Float, nan, inf, fin, binary64, up, down, le, neg, of_bits}
 use lib.Ieee.Fits.{down_pos}
 use borrow.Author.Tests.{eqb-false, lt-leb}
 use Rattle.coupling_grid.specs.Grid.{whole_to512, off_grid}
-use Rattle.coupling_grid.specs.Laws.Grid.{and-true}
+use Rattle.coupling_grid.proofs.Laws.Grid.{and-true}
 
 -- 4.0, as the code has it
 abbrev pub four : Float

@@ -10,8 +10,8 @@ use lib.Ieee.Back.{round_whole}
 use lib.Ieee.Casts.{to_signed_in}
 use mir.ValLaws.{to_z-of_z}
 use borrow.Author.Tests.{eqb-false}
-use Rattle.rounding.specs.Laws.Commute.{and-true}
-use Rattle.nearest.specs.Laws.Smallest.{in_smallest}
+use Rattle.rounding.proofs.Laws.Commute.{and-true}
+use Rattle.nearest.proofs.Laws.Smallest.{in_smallest}
 use Rattle.coupling_grid.specs.Grid.{off_grid}
 use Rattle.coupling_grid.proofs.Product.{times128, product_is}
 use Rattle.coupling_grid.proofs.Range.{four, within-four, not_endless, not_nan}

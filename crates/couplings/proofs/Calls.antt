@@ -13,11 +13,11 @@ use Rattle.limits.specs.Limits.{most_betas, most_edges}
 use Rattle.refusals.specs.Edges.{kept}
 use Rattle.refusals.specs.Request.{coupling_request, job_request}
 use Rattle.refusals.specs.Refusal.{refusal, of_graph, of_couplings}
-use Rattle.refusals.specs.Laws.Answers.{left_alone}
-use Rattle.refusals.specs.Laws.Later.{Then, refused-before, refused_here, refused_not}
-use Rattle.refusals.specs.Laws.Accepted.{accepted-graph}
-use Rattle.refusals.specs.Laws.AcceptedTotals.{couplings_in_parts}
-use Rattle.kept_edges.specs.Laws.Fronts.{front_mag, few}
+use Rattle.refusals.proofs.Laws.Answers.{left_alone}
+use Rattle.refusals.proofs.Laws.Later.{Then, refused-before, refused_here, refused_not}
+use Rattle.refusals.proofs.Laws.Accepted.{accepted-graph}
+use Rattle.refusals.proofs.Laws.AcceptedTotals.{couplings_in_parts}
+use Rattle.kept_edges.proofs.Laws.Fronts.{front_mag, few}
 use Rattle.kept_edges.specs.Keep.{CheckedGraph}
 use Rattle.couplings.specs.Couplings.{all_couplings, Coupled}
 

@@ -7,10 +7,10 @@ use native.Mathlib.Omega.{arith}
 use lib.Ieee.{Float, nan, binary64, mul}
 use lib.ListN.{length, get_or, drop_of_length-le}
 use Rattle.list_laws.specs.Part.{put}
-use Rattle.list_laws.specs.Laws.Part.{fill_none, fill_run, fill_length}
+use Rattle.list_laws.proofs.Laws.Part.{fill_none, fill_run, fill_length}
 use Rattle.list_laws.specs.Tabulate.{tabulate}
-use Rattle.list_laws.specs.Laws.Tabulate.{tabulate-length}
-use Rattle.refusals.specs.Laws.Couplings.{coupling-is}
+use Rattle.list_laws.proofs.Laws.Tabulate.{tabulate-length}
+use Rattle.refusals.proofs.Laws.Couplings.{coupling-is}
 use Rattle.couplings.specs.Couplings.{coupling_at, all_couplings}
 
 module _ (l betas mag : List Float) where

@@ -6,8 +6,8 @@ use Rattle.refusals.specs.Key.{Key}
 use Rattle.refusals.specs.Request.{coupling_request}
 use Rattle.refusals.specs.Refusal.{of_couplings}
 use Rattle.refusals.specs.Accepted.{Rising}
-use Rattle.refusals.specs.Laws.First.{passed-at}
-use Rattle.refusals.specs.Laws.Rising.{rising}
+use Rattle.refusals.proofs.Laws.First.{passed-at}
+use Rattle.refusals.proofs.Laws.Rising.{rising}
 use Rattle.couplings.specs.Couplings.{Coupled}
 
 pub couplings-rising : {n : ℕ} {a b : List ℕ} {m betas results results' : List Float} → Coupled n a b m betas 0 results results' → Rising betas

@@ -12,7 +12,7 @@ use Rattle.refusals.specs.Edges.{kept, kept_magnitudes}
 use Rattle.house_factors.specs.Factors.{paired_factors}
 use Rattle.house_factors.specs.Theorems.{signed}
 use Rattle.entry_correlations.specs.declared.Manner.{Manner}
-use Rattle.demands.specs.Configurations.{configuration, drawn_configuration}
+use Rattle.demands.proofs.Configurations.{configuration, drawn_configuration}
 
 -- The table's factors of a call for totals: for each beta and kept edge two, one a sign.
 abbrev pub table_factors : (a b : List ℕ) → (m betas : List Float) → List Float

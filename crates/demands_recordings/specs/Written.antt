@@ -6,7 +6,7 @@ use Rattle.limits.specs.Limits.{most_samples, most_named, most_betas, most_pairs
 use Rattle.limits.specs.declared.Caller.TheVariants.{Desk}
 use Rattle.list_laws.specs.Front.{over}
 use Rattle.list_laws.specs.Search.{some}
-use Rattle.list_laws.specs.Laws.Search.{none-at, none_of}
+use Rattle.list_laws.proofs.Laws.Search.{none-at, none_of}
 use Rattle.transfer_matrix.specs.Room.{room}
 use Rattle.refusals.specs.Edges.{kept}
 use Rattle.refusals.specs.Request.{Request, Source, sampled, sweep_request, bad_list, source_number, too_many_chunks}
@@ -14,10 +14,10 @@ use Rattle.refusals.specs.Refusal.{refusal, of_recording, of_sampling, sourced}
 use Rattle.refusals.specs.AcceptedJob.{AcceptedJob, buffers_refusal}
 use Rattle.refusals.specs.AcceptedTotals.{sampling_lists}
 use Rattle.refusals.specs.Accepted.{AcceptedBetas}
-use Rattle.refusals.specs.Laws.First.{unless}
-use Rattle.refusals.specs.Laws.Later.{or_else, both-passed}
-use Rattle.refusals.specs.Laws.AcceptedJob.{accepted_with, accepted-buffers}
-use Rattle.refusals.specs.Laws.AcceptedTotals.{sampling_in_parts}
+use Rattle.refusals.proofs.Laws.First.{unless}
+use Rattle.refusals.proofs.Laws.Later.{or_else, both-passed}
+use Rattle.refusals.proofs.Laws.AcceptedJob.{accepted_with, accepted-buffers}
+use Rattle.refusals.proofs.Laws.AcceptedTotals.{sampling_in_parts}
 use Rattle.plan_layout.specs.Arrangements.{arrangement_of}
 use Rattle.job_run.specs.Zeros.{zeros}
 use Rattle.entry_correlations.specs.Correlations.{manner_of, cleared}
@@ -27,10 +27,10 @@ use Rattle.totals_call.specs.Jobs.{job_sampled}
 use Rattle.totals_call.specs.Calls.{unsound_drawn}
 use Rattle.run_record.specs.Records.{record_length}
 use Rattle.record_checks.specs.Recording.{other_length}
-use Rattle.record_checks.specs.Laws.Parts.{Writable, recording_passed}
+use Rattle.record_checks.proofs.Laws.Parts.{Writable, recording_passed}
 use Rattle.record_call.specs.Calls.{settled_bytes, RecordedBy, head_for, record_for, refused_recording_by}
-use Rattle.record_call.specs.Laws.Calling.{record_parts}
-use Rattle.record_call.specs.Laws.Entering.{fits_record}
+use Rattle.record_call.proofs.Laws.Calling.{record_parts}
+use Rattle.record_call.proofs.Laws.Entering.{fits_record}
 
 module _ {g : Given} {seed from to samples : ℕ} {source : Source} {list : List Float} {count : ℕ} {bytes bytes' : List ℕ} {work work' : List Float}
     (call : RecordedBy g seed from to samples source list count 0 bytes bytes' work work') where

@@ -8,26 +8,26 @@ use Rattle.std.proofs.Math.Logic.{dite}
 use Rattle.std.specs.Float.{nan}
 use Rattle.std.proofs.Math.ListN.{drop}
 use Rattle.limits.specs.Limits.{most_samples}
-use Rattle.list_laws.specs.Laws.Tabulate.{tabulate_ext}
+use Rattle.list_laws.proofs.Laws.Tabulate.{tabulate_ext}
 use Rattle.little_endian.specs.Rows.{rows}
 use Rattle.transfer_matrix.specs.Arithmetic.{sum}
 use Rattle.transfer_matrix.specs.Rounded.{ieee}
 use Rattle.transfer_matrix.specs.Totals.{square, fourth, chunked, sampled, sampled_count}
-use Rattle.half_vectors.specs.Laws.Terms.{sum_same}
+use Rattle.half_vectors.proofs.Laws.Terms.{sum_same}
 use Rattle.totals_call.specs.Given.{Given, sums}
 use Rattle.totals_call.specs.Calls.{totals_of_drawn}
 use Rattle.run_record.specs.declared.Head.{Head}
 use Rattle.run_record.specs.Records.{head_bytes, row_bytes, chunk_rows}
 use Rattle.run_record.specs.Reading.{head_of, squares_in, fourths_in, bad_record}
 use Rattle.run_record_bytes.specs.Described.{Sums, Described}
-use Rattle.run_record_bytes.specs.Theorems.{described-is-accepted, head_as_written, squares_as_written, fourths_as_written}
-use Rattle.run_record_bytes.specs.Laws.Fields.{head-length}
+use Rattle.run_record_bytes.proofs.Theorems.{described-is-accepted, head_as_written, squares_as_written, fourths_as_written}
+use Rattle.run_record_bytes.proofs.Laws.Fields.{head-length}
 use Rattle.run_record_totals.specs.Totals.{totals_of, total_squares, total_fourths, record_count}
 use Rattle.run_record_join.specs.Joining.{in_turn}
-use Rattle.demands_records.specs.Laws.Rows.{rows_same, rows_both}
+use Rattle.demands_records.proofs.Laws.Rows.{rows_same, rows_both}
 use Rattle.record_call.specs.Calls.{head_for, sums_for, record_for}
-use Rattle.demands_recordings.specs.Sums.{drawn, chunk_is}
-use Rattle.demands_recordings.specs.Laws.Squares.{Even, even_square, even_fourth}
+use Rattle.demands_recordings.proofs.Sums.{drawn, chunk_is}
+use Rattle.demands_recordings.proofs.Laws.Squares.{Even, even_square, even_fourth}
 
 module _ (g : Given) (seed samples : ℕ) where
   -- The sums of a power in a chunk, by the chunk's own number.

@@ -16,10 +16,10 @@ use Rattle.run_record.specs.Reading.{head_of, bad_record}
 use Rattle.run_record_totals.specs.Totals.{total_squares, total_fourths, record_count}
 use Rattle.run_record_join.specs.Joining.{join_of, refused_join}
 use Rattle.demands_records.specs.Runs.{Joins}
-use Rattle.demands_records.specs.Laws.Accepted.{joins}
+use Rattle.demands_records.proofs.Laws.Accepted.{joins}
 use Rattle.record_call.specs.Calls.{RecordedBy, Recorded, HouseRecorded, lent_given, head_for, sums_for, record_for}
 use Rattle.demands_recordings.specs.Written.{record_is, range-is, few-betas, few-pairs}
-use Rattle.demands_recordings.specs.Sampled.{PlainSums, chunk_plain, house_chunk_plain}
+use Rattle.demands_recordings.proofs.Sampled.{PlainSums, chunk_plain, house_chunk_plain}
 use Rattle.demands_runs.specs.OneRun.{Run, run_passes, run_head, run_squares, run_fourths, run_count, runs_join, runs-one}
 
 -- A seed and an end of 64 bits, as those of every call are.

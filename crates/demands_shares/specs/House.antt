@@ -8,10 +8,10 @@ use Rattle.transfer_matrix.specs.Sweep as S
 use Rattle.refusals.specs.declared.Answer.TheVariants.{Number}
 use Rattle.entry_correlations.specs.declared.Manner.{Manner}
 use Rattle.totals_call.specs.Calls.{EnumeratedEach, HouseEnumeratedEach}
-use Rattle.demands.specs.Configurations.{free}
+use Rattle.demands.proofs.Configurations.{free}
 use Rattle.demands_house.specs.Factors.{table_factors, configuration_of}
-use Rattle.demands_house.specs.Lent.{house-storing-lent}
-use Rattle.demands_house.specs.Laws.Lent.{number_not}
+use Rattle.demands_house.proofs.Lent.{house-storing-lent}
+use Rattle.demands_house.proofs.Laws.Lent.{number_not}
 use Rattle.shares.specs.declared.answer.Answer.TheVariants.{Pooled}
 use Rattle.shares.specs.Shares.{most_lists, pooled, shares_of}
 use Rattle.shares.specs.Lists.{shares_by}

@@ -3,7 +3,7 @@ use Rattle.std.specs.Prelude.{◌≡◌, Bool, not, List, [], ◌∷◌, ℕ, �
 use Rattle.std.proofs.Common.{◌∙◌, mul-le-mul_right, arith, pow_pos, pow_mono}
 use Rattle.std.specs.Float.{nan}
 use Rattle.list_laws.specs.Part.{part}
-use Rattle.list_laws.specs.Laws.Part.{part_length, part_at}
+use Rattle.list_laws.proofs.Laws.Part.{part_length, part_at}
 use Rattle.plan_layout.specs.Arrangements.{arrangement_of}
 use Rattle.plan_layout.specs.declared.Arrangement.{Arrangement}
 use Rattle.limits.specs.declared.Caller.{Caller}
@@ -15,13 +15,13 @@ use Rattle.refusals.specs.Request.{most_stored}
 use Rattle.entry_correlations.specs.declared.Manner.{Manner}
 use Rattle.totals_call.specs.Jobs.{stored_count}
 use Rattle.totals_call.specs.Calls.{EnumeratedEach, refused_storing}
-use Rattle.demands.specs.Configurations as C
-use Rattle.demands.specs.Configurations.{accepted-number, few-free}
-use Rattle.demands.specs.Storing.{stored-at, stored-bounded}
+use Rattle.demands.proofs.Configurations as C
+use Rattle.demands.proofs.Configurations.{accepted-number, few-free}
+use Rattle.demands.proofs.Storing.{stored-at, stored-bounded}
 use Rattle.shares.specs.declared.answer.Answer.TheVariants.{Pooled}
 use Rattle.shares.specs.Shares.{most_lists, pooled, shares_of}
 use Rattle.shares.specs.Lists.{shares_by}
-use Rattle.shares.specs.Theorems.{equal_lists_answered, by_rule}
+use Rattle.shares.proofs.Theorems.{equal_lists_answered, by_rule}
 use Rattle.demands_shares.specs.Laws.{good_entry, settled-length}
 
 module _ {n floor : ℕ} {a b : List ℕ} {m : List Float} {us vs : List ℕ} {betas factors : List Float} {manner : Manner} {arrangement : Arrangement} {caller : Caller}

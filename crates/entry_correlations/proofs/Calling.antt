@@ -16,17 +16,17 @@ use Rattle.transfer_matrix.specs.Sweep as S
 use Rattle.refusals.specs.Edges.{kept, window_from, kept_early, kept_late}
 use Rattle.refusals.specs.Request.{Source, lent, house, call_request, correlation_request}
 use Rattle.refusals.specs.Refusal.{checks, refusal, of_job, of_lists, of_correlations, housed, sourced}
-use Rattle.refusals.specs.Laws.Later.{or_else, is_among}
+use Rattle.refusals.proofs.Laws.Later.{or_else, is_among}
 use Rattle.refusals.specs.AcceptedJob.{lists_refusal}
-use Rattle.refusals.specs.Laws.AcceptedJob.{correlations_in_parts, accepted-lists}
-use Rattle.kept_edges.specs.Laws.Fronts.{front-early, front-late}
+use Rattle.refusals.proofs.Laws.AcceptedJob.{correlations_in_parts, accepted-lists}
+use Rattle.kept_edges.proofs.Laws.Fronts.{front-early, front-late}
 use Rattle.job_checks.specs.Checked.{ReadyJob}
-use Rattle.job_checks.specs.Laws.Plannable.{edge_count, plannable}
+use Rattle.job_checks.proofs.Laws.Plannable.{edge_count, plannable}
 use Rattle.pair_correlations.specs.Sound.{unsound}
 use Rattle.job_run.specs.Zeros.{zeros}
 use Rattle.job_run.specs.Passed.{JobPassed, JobFinished}
 use Rattle.entry_correlations.specs.Correlations.{manner_of, job_given, settled, cleared, factors_from, CorrelatedBy}
-use Rattle.entry_correlations.specs.Laws.Settling.{settled_not, cleared_not, not_14}
+use Rattle.entry_correlations.proofs.Laws.Settling.{settled_not, cleared_not, not_14}
 use Rattle.entry_correlations.specs.declared.Manner.{Manner}
 
 module _ (source : Source) (n floor : ℕ) (a b : List ℕ) (m : List Float) (us vs : List ℕ) (list : List Float) (manner : Manner) (arrangement : Arrangement) (caller : Caller) (results work : List Float) where

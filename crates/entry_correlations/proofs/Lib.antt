@@ -1,1 +1,3 @@
 pub mod Calling
+-- and the laws of these definitions, which no reader needs to believe.
+pub mod Laws

@@ -10,16 +10,16 @@ use lib.ListN.{length, take}
 use borrow.Author.Tests.{eqb-true, not-false}
 use Rattle.coupling_grid.specs.Grid.{some_off_grid}
 use Rattle.house_factors.specs.Factors.{single_factors}
-use Rattle.house_factors.specs.Laws.Factors.{single-length}
-use Rattle.list_laws.specs.Laws.Search.{or-false}
+use Rattle.house_factors.proofs.Laws.Factors.{single-length}
+use Rattle.list_laws.proofs.Laws.Search.{or-false}
 use Rattle.transfer_matrix.specs.Room as Room
 use Rattle.refusals.specs.Request.{house, bad_coupling_list}
-use Rattle.refusals.specs.Laws.First.{unless}
+use Rattle.refusals.proofs.Laws.First.{unless}
 use Rattle.refusals.specs.AcceptedJob.{lists_refusal}
-use Rattle.refusals.specs.Laws.AcceptedJob.{accepted-buffers}
-use Rattle.kept_edges.specs.Laws.Fronts.{front-early}
+use Rattle.refusals.proofs.Laws.AcceptedJob.{accepted-buffers}
+use Rattle.kept_edges.proofs.Laws.Fronts.{front-early}
 use Rattle.job_checks.specs.Checked.{ReadyJob}
-use Rattle.job_checks.specs.Laws.Plannable.{edge_count, plannable}
+use Rattle.job_checks.proofs.Laws.Plannable.{edge_count, plannable}
 use Rattle.job_run.specs.Passed.{JobPassed}
 
 -- what 23, 12 and 13 pass

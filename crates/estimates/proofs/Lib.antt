@@ -1,3 +1,5 @@
 -- Laws that the proofs share.
 mod Sums
 mod Refusals
+-- and the laws of these definitions, which no reader needs to believe.
+pub mod Laws

@@ -1,2 +1,4 @@
 -- Laws that the proofs share.
 mod Refusals
+-- and the laws of these definitions, which no reader needs to believe.
+pub mod Laws

@@ -1,7 +1,7 @@
 -- The sweeps at exact fractions of whole numbers: their answer is the textbook ratio, also for a job of doubles read at what they stand for.
 use Rattle.std.specs.Prelude.{map, Float}
-use Rattle.fraction.specs.Fraction.{ℚ, zeroℚ, oneℚ, addℚ, mulℚ, negℚ, invℚ, posℚ}
-use Rattle.fraction.specs.Value.{value}
+use Rattle.fraction.proofs.Fraction.{ℚ, zeroℚ, oneℚ, addℚ, mulℚ, negℚ, invℚ, posℚ}
+use Rattle.fraction.proofs.Value.{value}
 use Rattle.transfer_matrix.specs.Arithmetic.{Ops}
 use Rattle.transfer_matrix.specs.Job.{Edge, Job}
 

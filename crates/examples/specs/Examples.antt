@@ -18,7 +18,7 @@ use Rattle.transfer_matrix.specs.Configuration.{configured, enumerated_minus}
 use Rattle.transfer_matrix.specs.Rounded.{ieee}
 use Rattle.strip_bonds.specs.Edges as Rules
 use Rattle.strip_bonds.specs.Edges.{edges, early_ends, late_ends, edges_below}
-use Rattle.strip_bonds.specs.Laws.Square.{square, square_edges, EdgesOfSquare, edges-of-square}
+use Rattle.strip_bonds.proofs.Laws.Square.{square, square_edges, EdgesOfSquare, edges-of-square}
 use Rattle.strip_window.specs.Window as Window
 use Rattle.sqrt.specs.Sqrt.{sqrt}
 use Rattle.estimate.specs.declared.answer.Estimate.TheVariants.{Estimated, TooFew}

@@ -12,7 +12,7 @@ use Rattle.graph.specs.declared.graph.Reached.{Reached}
 use Rattle.strip_bonds.specs.Edges.{edges}
 use Rattle.c_answers.specs.Numbers.{Tells}
 use Rattle.c_answers.specs.Graphs as Graphs
-use Rattle.c_answers.specs.Laws.Graphs as GraphsLaws
+use Rattle.c_answers.proofs.Laws.Graphs as GraphsLaws
 use Rattle.c_answers.specs.Distances as Distances
 use Rattle.export_graphs.specs.Graphs.{Listed}
 use Rattle.export_graphs.specs.Distances.{Told}

@@ -1,5 +1,3 @@
 -- Definitions,
 pub mod Records
 pub mod Jobs
--- and the laws of these definitions, which no reader needs to believe.
-pub mod Laws

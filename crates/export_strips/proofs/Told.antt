@@ -11,7 +11,7 @@ use Rattle.strip.specs.declared.strip.Strip.{Strip}
 use Rattle.strip_bonds.specs.Edges.{edges, early_ends, late_ends}
 use Rattle.strip_pairs.specs.PairSet.{Pair, firsts, seconds, label_bytes}
 use Rattle.c_answers.specs.Numbers.{Tells}
-use Rattle.c_answers.specs.Laws.Numbers.{told-number, told-held}
+use Rattle.c_answers.proofs.Laws.Numbers.{told-number, told-held}
 use Rattle.export_strips.specs.Strips.{StripEdges}
 use Rattle.export_strips.specs.PairSets.{Paired}
 

@@ -8,7 +8,7 @@ use Rattle.refusals.specs.declared.Answer.{Answer}
 use Rattle.totals_call.specs.Calls.{Totalled, Stored, Enumerated, EnumeratedEach, Sampled, HouseEnumerated, HouseEnumeratedEach, HouseSampled}
 use Rattle.c_values.specs.declared.options.Options.{Options}
 use Rattle.c_answers.specs.Numbers.{Tells}
-use Rattle.c_answers.specs.Laws.Numbers.{told-again, told-refused}
+use Rattle.c_answers.proofs.Laws.Numbers.{told-again, told-refused}
 
 -- what holds of options and an answer holds of what these equal
 carried : (F : Options → Answer → Type 0) {o o' : Options} {a a' : Answer} → o ≡ o' → a ≡ a' → F o a → F o' a'

@@ -8,8 +8,8 @@ use lib.ListN.{length}
 use Rattle.edge_bits.specs.Having.{tree}
 use Rattle.forest.specs.Labels.{is_tree}
 use Rattle.forest.specs.FreeEdges.{free_before, free_count, bit_of, bits_of}
-use Rattle.forest.specs.Laws.FreeEdges.{before_more}
-use Rattle.union_find.specs.Laws.Filled.{Filled, filled_all}
+use Rattle.forest.proofs.Laws.FreeEdges.{before_more}
+use Rattle.union_find.proofs.Laws.Filled.{Filled, filled_all}
 
 module _ (early late : List ℕ) where
   -- one edge more, whose test is r

@@ -4,5 +4,3 @@ pub mod Labels
 pub mod Components
 pub mod FreeEdges
 pub mod Lowest
--- and the laws of these definitions, which no reader needs to believe.
-pub mod Laws

@@ -9,15 +9,15 @@ use lib.ListN.{length, take}
 use Rattle.refusals.specs.Edges.{kept, kept_early, kept_late}
 use Rattle.refusals.specs.Request.{distance_request, outside}
 use Rattle.refusals.specs.Refusal.{refusal, of_distance}
-use Rattle.refusals.specs.Laws.Later.{then-pair, refused-before, refused_here, refused_not}
+use Rattle.refusals.proofs.Laws.Later.{then-pair, refused-before, refused_here, refused_not}
 use Rattle.forest.specs.Paths.{Edges}
 use Rattle.forest.specs.FreeEdges.{ForestBits}
 use Rattle.distance.specs.Walks.{Distance}
 use Rattle.distance.specs.declared.Reach.{Reach}
 use Rattle.kept_edges.specs.Keep.{Written, CheckedGraph, KeptEdges}
-pub use Rattle.kept_edges.specs.Laws.Fronts.{front-early, front-late, early-part, late-part, early-fits, late-fits}
-pub use Rattle.kept_edges.specs.Laws.Fronts.{of-kept, kept_fronts}
-pub use Rattle.kept_edges.specs.Laws.Buffers.{buffers-before, buffers_here, buffers_not}
+pub use Rattle.kept_edges.proofs.Laws.Fronts.{front-early, front-late, early-part, late-part, early-fits, late-fits}
+pub use Rattle.kept_edges.proofs.Laws.Fronts.{of-kept, kept_fronts}
+pub use Rattle.kept_edges.proofs.Laws.Buffers.{buffers-before, buffers_here, buffers_not}
 
 module _ {a b : List ℕ} {m : List Float} {k : ℕ} {early early' late late' : List ℕ} {mag mag' : List Float}
     (W : Written a b m (length a) k early early' late late' mag mag') where

@@ -1,2 +1,4 @@
 mod Building
 mod Setting
+-- and the laws of these definitions, which no reader needs to believe.
+pub mod Laws

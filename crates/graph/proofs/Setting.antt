@@ -6,14 +6,14 @@ use Prim.Native.Nat.{ℕ, ◌<◌}
 use lib.Dec.{leb}
 use lib.ListN.{length}
 use borrow.Author.Tests.{leb-false}
-use Rattle.list_laws.specs.Laws.Search.{or-false}
+use Rattle.list_laws.proofs.Laws.Search.{or-false}
 use Rattle.refusals.specs.Request.{outside}
 use Rattle.distance.specs.Walks.{Distance}
 use Rattle.distance.specs.declared.Reach.TheVariants as Reach
 use Rattle.forest.specs.Lowest.{lowest_marks}
-use Rattle.forest.specs.Laws.Marks.{marks-lowest, marks-counted}
+use Rattle.forest.proofs.Laws.Marks.{marks-lowest, marks-counted}
 use Rattle.kept_edges.specs.Keep.{KeptEdges}
-use Rattle.refusals.specs.Laws.Answers.{left_alone}
+use Rattle.refusals.proofs.Laws.Answers.{left_alone}
 use Rattle.graph.specs.Graphs.{measure_of, ComponentMarks}
 use Rattle.graph.specs.declared.graph.Measure.{Measure}
 use Rattle.graph.specs.Reached.{Distanced}

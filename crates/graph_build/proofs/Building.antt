@@ -11,12 +11,12 @@ use Rattle.list_laws.specs.Search.{some}
 use Rattle.refusals.specs.Edges.{kept, kept_early, kept_late}
 use Rattle.refusals.specs.Request.{job_request, bad_ends, joined_twice}
 use Rattle.refusals.specs.Refusal.{refusal, of_graph}
-use Rattle.refusals.specs.Laws.First.{told}
-use Rattle.refusals.specs.Laws.Later.{or_else}
+use Rattle.refusals.proofs.Laws.First.{told}
+use Rattle.refusals.proofs.Laws.Later.{or_else}
 use Rattle.refusals.specs.Accepted.{Lengths}
-use Rattle.refusals.specs.Laws.Accepted.{AcceptedRaw, accepted-raw, graph_in_parts, kept-inside, kept-most}
+use Rattle.refusals.proofs.Laws.Accepted.{AcceptedRaw, accepted-raw, graph_in_parts, kept-inside, kept-most}
 use Rattle.kept_edges.specs.Keep.{Written, Holds, CheckedRaw, CheckedGraph}
-pub use Rattle.kept_edges.specs.Laws.Fronts.{front-early, front-late, early-part, late-part, early-fits, late-fits, mag_part, mag_fits, few, of-kept}
+pub use Rattle.kept_edges.proofs.Laws.Fronts.{front-early, front-late, early-part, late-part, early-fits, late-fits, mag_part, mag_fits, few, of-kept}
 
 -- lists for the most edges hold the kept ones
 pub room_for : {a b : List ℕ} {m : List Float} {early late : List ℕ} {mag : List Float} → Lengths a b m

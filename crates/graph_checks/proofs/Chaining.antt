@@ -11,7 +11,7 @@ use lib.ListN.{length, get_or, set, replicate, length-set, length-replicate, get
 use lib.Seq.{get_or-set_same, get_or-set_other}
 use borrow.Author.Tests.{eq-eqb, ne_eqb}
 use Rattle.list_laws.specs.Search.{some}
-use Rattle.list_laws.specs.Laws.Search.{some_at, none_of, miss}
+use Rattle.list_laws.proofs.Laws.Search.{some_at, none_of, miss}
 use Rattle.refusals.specs.Request.{same_ends}
 use Rattle.graph_checks.specs.Chains.{LastAt, Chain, Heads}
 

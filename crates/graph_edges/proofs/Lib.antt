@@ -1,2 +1,4 @@
 mod Setting
 mod Turning
+-- and the laws of these definitions, which no reader needs to believe.
+pub mod Laws

@@ -7,11 +7,11 @@ use lib.Dec.{ltb}
 use lib.Ieee.{Float}
 use lib.ListN.{length}
 use borrow.Author.Tests.{ltb-false}
-use Rattle.list_laws.specs.Laws.Search.{or-false}
+use Rattle.list_laws.proofs.Laws.Search.{or-false}
 use Rattle.list_laws.specs.Front.{over}
 use Rattle.refusals.specs.Edges.{kept}
 use Rattle.kept_edges.specs.Keep.{Written, Placed, places_of, Holds}
-use Rattle.kept_edges.specs.Laws.Places.{places-alone, places-length}
+use Rattle.kept_edges.proofs.Laws.Places.{places-alone, places-length}
 use Rattle.graph_edges.specs.Graphs.{WrittenKept, too_short}
 
 -- buffers that are not too short hold the edges

@@ -9,15 +9,15 @@ use lib.Ieee.{Float}
 use lib.ListN.{length, get_or, set, length-set, length-map}
 use Rattle.list_laws.specs.Search.{some}
 use Rattle.list_laws.specs.Most.{most}
-use Rattle.list_laws.specs.Laws.Most.{most_ext}
+use Rattle.list_laws.proofs.Laws.Most.{most_ext}
 use Rattle.transfer_matrix.specs.Job.{longest, window_of}
 use Rattle.refusals.specs.Request.{bad_ends}
-use Rattle.refusals.specs.Laws.Accepted.{kept-inside}
-use Rattle.refusals.specs.Laws.Places.{column-at}
+use Rattle.refusals.proofs.Laws.Accepted.{kept-inside}
+use Rattle.refusals.proofs.Laws.Places.{column-at}
 use Rattle.list_laws.specs.Tabulate.{tabulate}
-use Rattle.list_laws.specs.Laws.Tabulate.{tabulate_suc, tabulate-length, tabulated}
+use Rattle.list_laws.proofs.Laws.Tabulate.{tabulate_suc, tabulate-length, tabulated}
 use Rattle.list_laws.specs.Front.{over}
-use Rattle.list_laws.specs.Laws.Front.{over-more, over-behind, over-front, over-over}
+use Rattle.list_laws.proofs.Laws.Front.{over-more, over-behind, over-front, over-over}
 use Rattle.refusals.specs.Edges.{Kept, kept, early_ends, late_ends, places, kept_early, kept_late}
 use Rattle.kept_edges.specs.Keep.{Written}
 use Rattle.graph_edges.specs.Graphs.{Set, Turned, turned, rotate}

@@ -2,5 +2,3 @@
 pub mod Graphs
 -- what the lists of an accepted call say of raw places,
 pub mod Places
--- and the laws of these definitions, which no reader needs to believe.
-pub mod Laws

@@ -4,10 +4,10 @@ use Rattle.std.proofs.Common.{sym, ap, ◌∙◌, arith}
 use Rattle.std.specs.Float.{nan}
 use Rattle.std.proofs.lemmas.List.{length-map}
 use Rattle.list_laws.specs.Front.{over}
-use Rattle.list_laws.specs.Laws.Front.{over-front}
+use Rattle.list_laws.proofs.Laws.Front.{over-front}
 use Rattle.refusals.specs.Edges.{Kept, kept_at, kept, is_zero, early_ends, late_ends, magnitudes, places}
 use Rattle.refusals.specs.Places.{edge_of, Remembers}
-use Rattle.refusals.specs.Laws.Places.{column-at, kept_remember, changed_remember}
+use Rattle.refusals.proofs.Laws.Places.{column-at, kept_remember, changed_remember}
 use Rattle.graph_edges.specs.Graphs.{Set, turned_edge, rotate}
 use Rattle.graph_edges.specs.declared.Made.{Made}
 

@@ -8,9 +8,9 @@ use native.Mathlib.Omega.{arith}
 use lib.Ieee.{Float, nan}
 use lib.ListN.{length, get_or, set, drop_of_length-le}
 use Rattle.list_laws.specs.Front.{over}
-use Rattle.list_laws.specs.Laws.Front.{over-more}
+use Rattle.list_laws.proofs.Laws.Front.{over-more}
 use Rattle.list_laws.specs.Tabulate.{tabulate}
-use Rattle.list_laws.specs.Laws.Tabulate.{tabulate_suc, tabulate-length}
+use Rattle.list_laws.proofs.Laws.Tabulate.{tabulate_suc, tabulate-length}
 use Rattle.house_factors.specs.Factors.{factor_of, single_factors}
 
 -- the first e of them

@@ -1,1 +1,3 @@
 mod Laying
+-- and the laws of these definitions, which no reader needs to believe.
+pub mod Laws

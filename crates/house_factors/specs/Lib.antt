@@ -1,5 +1,3 @@
 -- What to believe: Factors, and that Theorems say it in the words of a coupling's value.
 pub mod Factors
 pub mod Theorems
--- and the laws of these definitions, which no reader needs to believe.
-pub mod Laws

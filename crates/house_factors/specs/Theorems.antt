@@ -5,7 +5,7 @@ use Rattle.std.specs.Float.{nan, inf, fin}
 use Rattle.std.specs.Float.Ieee.Exact.{HasValue}
 use Rattle.std.proofs.lemmas.Bool.{not-true}
 use Rattle.coupling_grid.specs.Grid.{Place, place_of, off_grid, multiple}
-use Rattle.coupling_grid.specs.Theorems.{place_at}
+use Rattle.coupling_grid.proofs.Theorems.{place_at}
 use Rattle.house_table.specs.House.{house, entry_at}
 use Rattle.house_factors.specs.Factors.{factor_at, factor_of}
 

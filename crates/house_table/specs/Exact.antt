@@ -1,6 +1,6 @@
 -- The series for e ^ x as exact fractions: x ^ 0 / 0! + x ^ 1 / 1! + .. + x ^ n / n!.
 use Rattle.std.specs.Prelude.{ℕ, zero, suc, ◌-◌, ℤ, pos, negsuc}
-use Rattle.fraction.specs.Fraction.{ℚ, frac, oneℚ, addℚ, mulℚ, invℚ}
+use Rattle.fraction.proofs.Fraction.{ℚ, frac, oneℚ, addℚ, mulℚ, invℚ}
 use Rattle.house_table.specs.Series.{factorial}
 
 -- x ^ k

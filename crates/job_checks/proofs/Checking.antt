@@ -9,20 +9,20 @@ use lib.ListN.{length, get_or, take}
 use Rattle.limits.specs.declared.Caller.{Caller}
 use Rattle.limits.specs.declared.Caller.TheVariants.{Desk}
 use Rattle.limits.specs.Limits.{most_window}
-use Rattle.list_laws.specs.Laws.Most.{most-above}
+use Rattle.list_laws.proofs.Laws.Most.{most-above}
 use Rattle.transfer_matrix.specs.Job.{longest, window_of, too_many_near}
 use Rattle.transfer_matrix.specs.Configuration.{numbered}
 use Rattle.transfer_matrix.specs.Room.{Arrangement, room}
 use Rattle.refusals.specs.declared.Answer.TheVariants.{Number}
 use Rattle.refusals.specs.Answers.{answered}
-use Rattle.refusals.specs.Laws.Answers.{number_is}
+use Rattle.refusals.proofs.Laws.Answers.{number_is}
 use Rattle.refusals.specs.Edges.{kept, window_from, kept_early, kept_late}
 use Rattle.refusals.specs.Request.{call_request, room_request}
 use Rattle.refusals.specs.Refusal.{refusal, of_room, of_job}
-use Rattle.refusals.specs.Laws.Later.{or_else}
-use Rattle.refusals.specs.Laws.AcceptedJob.{window-wide, accepted_with, job_in_parts}
+use Rattle.refusals.proofs.Laws.Later.{or_else}
+use Rattle.refusals.proofs.Laws.AcceptedJob.{window-wide, accepted_with, job_in_parts}
 use Rattle.kept_edges.specs.Keep.{CheckedGraph, KeptEdges}
-use Rattle.kept_edges.specs.Laws.Fronts.{early-part, few, of-kept, kept-edges}
+use Rattle.kept_edges.proofs.Laws.Fronts.{early-part, few, of-kept, kept-edges}
 use Rattle.plan_steps.specs.Edges.{Edges}
 use Rattle.job_checks.specs.Checked.{kept_refusal, CheckedKept, CheckedJob}
 

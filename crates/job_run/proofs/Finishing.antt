@@ -8,7 +8,7 @@ use lib.Ieee.{Float, nan}
 use lib.ListN.{length, get_or, take, drop, length-drop, length-replicate}
 use lib.Seq.{ext_get_or, get_or-drop, length-take-le}
 use Rattle.list_laws.specs.Part.{put}
-use Rattle.list_laws.specs.Laws.Part.{part_at, part-put, put-length}
+use Rattle.list_laws.proofs.Laws.Part.{part_at, part-put, put-length}
 use Rattle.transfer_matrix.specs.Job.{Job, block, per_element}
 use Rattle.transfer_matrix.specs.Configuration.{job_of}
 use Rattle.transfer_matrix.specs.Room.{Arrangement, room}
@@ -17,7 +17,7 @@ use Rattle.transfer_matrix.specs.Sweep as S
 use Rattle.plan_layout.specs.Work.{Planned}
 use Rattle.vertex_step.specs.Ready.{PlanOf}
 use Rattle.pair_correlations.specs.Sound.{unsound}
-use Rattle.pair_correlations.specs.Laws.Planning.{plan_of, end_fits}
+use Rattle.pair_correlations.proofs.Laws.Planning.{plan_of, end_fits}
 use Rattle.job_run.specs.Zeros.{zeros}
 use Rattle.job_run.specs.Passed.{JobPassed, JobFinished}
 

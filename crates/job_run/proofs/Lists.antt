@@ -8,9 +8,9 @@ use lib.Ieee.{Float, nan}
 use lib.ListN.{length, get_or, length-replicate, get_or-replicate}
 use lib.Seq.{ext_get_or}
 use Rattle.list_laws.specs.Tabulate.{tabulate}
-use Rattle.list_laws.specs.Laws.Tabulate.{tabulate-length, tabulate-at, tabulated}
+use Rattle.list_laws.proofs.Laws.Tabulate.{tabulate-length, tabulate-at, tabulated}
 use Rattle.list_laws.specs.Part.{put}
-use Rattle.list_laws.specs.Laws.Part.{part_at, part-put, put-length}
+use Rattle.list_laws.proofs.Laws.Part.{part_at, part-put, put-length}
 use Rattle.transfer_matrix.specs.Rounded.{ieee}
 use Rattle.job_run.specs.Zeros.{zeros}
 

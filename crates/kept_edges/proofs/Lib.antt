@@ -1,2 +1,4 @@
 mod Keeping
 mod Placing
+-- and the laws of these definitions, which no reader needs to believe.
+pub mod Laws

@@ -1,4 +1,2 @@
 -- Definitions,
 pub mod Keep
--- and the laws of these definitions, which no reader needs to believe.
-pub mod Laws

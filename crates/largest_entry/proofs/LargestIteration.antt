@@ -9,15 +9,15 @@ use lib.ListN.{length, get_or}
 use lib.Dec.{T}
 use lib.Pow.{pow-add}
 use lib.Ieee.{Float, nan, binary64, fits}
-use Rattle.list_laws.specs.Laws.Tabulate.{tabulated, tabulate_ext}
+use Rattle.list_laws.proofs.Laws.Tabulate.{tabulated, tabulate_ext}
 use Rattle.list_laws.specs.Part.{part}
-use Rattle.list_laws.specs.Laws.Part.{part_length, part_at}
+use Rattle.list_laws.proofs.Laws.Part.{part_length, part_at}
 use Rattle.transfer_matrix.specs.Rounded.{ieee}
 use Rattle.transfer_matrix.specs.Sweep as S
 use Rattle.largest_entry.specs.Larger.{larger}
 use Rattle.largest_entry.specs.Top.{top}
-use Rattle.largest_entry.specs.Laws.Top.{Top, top-same, top_join, top-none, Among, top-is}
-use Rattle.largest_entry.specs.Laws.Lanes.{Fit, lane_iteration}
+use Rattle.largest_entry.proofs.Laws.Top.{Top, top-same, top_join, top-none, Among, top-is}
+use Rattle.largest_entry.proofs.Laws.Lanes.{Fit, lane_iteration}
 
 pub largest-is : (r : List Float) (at n : ℕ) → at + n ≤ length r → top (λ j. get_or r (at + j) nan) n ≡ S.largest ieee ieee.𝟘 (part r at n)
 largest-is r at n h =

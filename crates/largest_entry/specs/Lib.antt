@@ -1,5 +1,3 @@
 -- The larger of two numbers, the largest of many, and that it may be taken in any order.
 pub mod Larger
 pub mod Top
--- and the laws of these definitions, which no reader needs to believe.
-pub mod Laws

@@ -6,5 +6,3 @@ pub mod Count
 pub mod Most
 pub mod Front
 pub mod Part
--- and the laws of these definitions, which no reader needs to believe.
-pub mod Laws

@@ -10,9 +10,9 @@ use lib.ListN.{length, get_or, drop, set, length-set}
 use lib.Seq.{get_or-set_same, get_or-set_other}
 use lib.Ieee.{Float, nan, binary64, div}
 use Rattle.list_laws.specs.Search.{some}
-use Rattle.list_laws.specs.Laws.Search.{some_at, none_of}
+use Rattle.list_laws.proofs.Laws.Search.{some_at, none_of}
 use Rattle.list_laws.specs.Tabulate.{tabulate}
-use Rattle.list_laws.specs.Laws.Tabulate.{tabulated}
+use Rattle.list_laws.proofs.Laws.Tabulate.{tabulated}
 use Rattle.transfer_matrix.specs.Job.{Job}
 use Rattle.transfer_matrix.specs.Room.{earlier, later}
 use Rattle.transfer_matrix.specs.Rounded.{ieee}
@@ -22,13 +22,13 @@ use Rattle.pair_sums.specs.declared.sums.Source.{Source}
 use Rattle.pair_sums.specs.declared.sums.Sums.{Sums}
 use Rattle.pair_sums.specs.Pair.{SumsOf}
 use Rattle.vertex_step.specs.Ready.{Ready, PlanOf, BothSwept, Still}
-use Rattle.vertex_step.specs.Laws.Ready.{still-none, still-then}
+use Rattle.vertex_step.proofs.Laws.Ready.{still-none, still-then}
 use Rattle.propagation.specs.declared.current.CurrentVector.{CurrentVector}
 use Rattle.pair_correlations.specs.declared.pairs.AfterTwo.{AfterTwo}
 use Rattle.propagation.specs.declared.together.Pairing.{Pairing}
 use Rattle.pair_correlations.specs.Sound.{soundly, unsound, Outcome}
 use Rattle.propagation.specs.Current.{PlanSwept, CurrentKnown}
-use Rattle.propagation.specs.Laws.Current.{still-passed}
+use Rattle.propagation.proofs.Laws.Current.{still-passed}
 use Rattle.pair_correlations.specs.Aim.{SourceOf, Second}
 use Rattle.propagation.specs.Pairing.{Directs, Done, NextPairing}
 use Rattle.pair_correlations.specs.Two.{AnswerOf, Answered, Written, AnsweredTwo}

@@ -3,3 +3,5 @@ mod PairLaws
 mod Answering
 mod Two
 mod AtVertex
+-- and the laws of these definitions, which no reader needs to believe.
+pub mod Laws

@@ -18,13 +18,13 @@ use Rattle.half_vectors.specs.Antisymmetric.{AntisymmetricHalf}
 use Rattle.pair_sums.specs.Terms.{half_at, terms, signs}
 use Rattle.pair_sums.specs.declared.sums.Source.{Source}
 use Rattle.pair_sums.specs.Pair.{Sourced, SumsOf}
-use Rattle.pair_sums.specs.Laws.Vertex.{Z-is, direct_is, propagated-is}
+use Rattle.pair_sums.proofs.Laws.Vertex.{Z-is, direct_is, propagated-is}
 use Rattle.vertex_step.specs.Ready.{Ready}
-use Rattle.vertex_step.specs.Laws.Ready.{still-none, still-ready, moving-place}
+use Rattle.vertex_step.proofs.Laws.Ready.{still-none, still-ready, moving-place}
 use Rattle.propagation.specs.declared.current.CurrentVector.{CurrentVector}
 use Rattle.pair_correlations.specs.declared.pair.Aim.{Aim}
 use Rattle.propagation.specs.Current.{PlanSwept, Propagated}
-use Rattle.propagation.specs.Laws.Current.{still-passed}
+use Rattle.propagation.proofs.Laws.Current.{still-passed}
 use Rattle.pair_correlations.specs.Aim.{PairPlaces, VertexHalves, SourceOf, DirectSource, Aimed}
 
 -- of the halves at places f and b

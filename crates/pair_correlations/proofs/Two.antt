@@ -15,12 +15,12 @@ use Rattle.pair_sums.specs.declared.sums.Source.{Source}
 use Rattle.pair_sums.specs.declared.sums.Sums.{Sums}
 use Rattle.pair_sums.specs.Pair.{Sourced, SumsOf}
 use Rattle.vertex_step.specs.Ready.{Ready}
-use Rattle.vertex_step.specs.Laws.Ready.{still-ready}
+use Rattle.vertex_step.proofs.Laws.Ready.{still-ready}
 use Rattle.propagation.specs.declared.current.CurrentVector.{CurrentVector}
 use Rattle.pair_correlations.specs.declared.pair.Aim.{Aim}
 use Rattle.pair_correlations.specs.Sound.{soundly, unsound}
 use Rattle.propagation.specs.Current.{PlanSwept, CurrentKnown}
-use Rattle.propagation.specs.Laws.Current.{still-passed}
+use Rattle.propagation.proofs.Laws.Current.{still-passed}
 use Rattle.pair_correlations.specs.Aim.{PairPlaces, SourceOf, Aimed, Second, SecondSource}
 use Rattle.pair_correlations.specs.Two.{quotient, WroteOne, WroteTwo, Written, AnsweredTwo}
 use Rattle.pair_correlations.proofs.PairLaws.{forward-at, backward-at, swept-halves, direct-sourced, direct_of}

@@ -10,7 +10,7 @@ use native.Mathlib.Omega.{arith}
 use lib.ListN.{get_or, set}
 use lib.Seq.{get_or-set_same, get_or-set_other}
 use Rattle.list_laws.specs.Count.{count}
-use Rattle.list_laws.specs.Laws.Count.{count_ext}
+use Rattle.list_laws.proofs.Laws.Count.{count_ext}
 use Rattle.transfer_matrix.specs.Room.{Arrangement, keeps_forward, keeps_backward}
 use Rattle.plan_steps.specs.Layout.{numbers, forward_place_at, backward_place_at, index_of, Holds, SameStep}
 use Rattle.pair_places.specs.Places.{Marked, place_at, Numbered, moving, backward_from, places_of, Places, Placed}

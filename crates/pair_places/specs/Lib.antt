@@ -1,4 +1,2 @@
 -- Definitions,
 pub mod Places
--- and the laws of these definitions, which no reader needs to believe.
-pub mod Laws

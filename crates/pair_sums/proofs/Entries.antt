@@ -5,9 +5,9 @@ use Prim.Native.Nat.{ℕ, ◌+◌, ◌≤◌}
 use lib.ListN.{length}
 use lib.Ieee.{Float, nan}
 use Rattle.list_laws.specs.Part.{part}
-use Rattle.list_laws.specs.Laws.Part.{part_length, part_at}
+use Rattle.list_laws.proofs.Laws.Part.{part_length, part_at}
 use Rattle.list_laws.specs.Tabulate.{tabulate}
-use Rattle.list_laws.specs.Laws.Tabulate.{tabulated}
+use Rattle.list_laws.proofs.Laws.Tabulate.{tabulated}
 use Rattle.step_tables.specs.Rule.{entries}
 
 -- the entries of a part, by the rule that reads them

@@ -1,2 +1,4 @@
 mod Entries
 mod Way
+-- and the laws of these definitions, which no reader needs to believe.
+pub mod Laws

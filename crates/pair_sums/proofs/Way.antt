@@ -11,12 +11,12 @@ use lib.Dec.{eqb}
 use lib.ListN.{get_or}
 use lib.Pow.{shr-shr}
 use lib.Ieee.{Float, nan, binary64, add, sub, mul}
-use Rattle.list_laws.specs.Laws.Power.{pow_double}
+use Rattle.list_laws.proofs.Laws.Power.{pow_double}
 use Rattle.transfer_matrix.specs.Arithmetic.{sum, signed_sum}
 use Rattle.transfer_matrix.specs.Rounded.{ieee}
 use Rattle.step_tables.specs.Rule.{entries}
 use Rattle.half_vectors.specs.Half.{negated_if}
-use Rattle.rounding.specs.Laws.Negation.{add_neg, sub_neg}
+use Rattle.rounding.proofs.Laws.Negation.{add_neg, sub_neg}
 use Rattle.half_vectors.specs.Sums.{differ}
 use Rattle.pair_sums.specs.declared.sums.Source.{Source}
 use Rattle.pair_sums.specs.declared.sums.Sums.{Sums}

@@ -2,5 +2,3 @@
 pub mod Arrangements
 pub mod Work
 pub mod Plannable
--- and the laws of these definitions, which no reader needs to believe.
-pub mod Laws

@@ -9,12 +9,12 @@ use lib.Dec.{eqb, ltb}
 use lib.ListN.{length, get_or, set, length-set, replicate, length-replicate, get_or-replicate}
 use lib.Seq.{get_or-set_same, get_or-set_other}
 use borrow.Author.Tests.{le-ltb}
-use Rattle.list_laws.specs.Laws.Search as Search
+use Rattle.list_laws.proofs.Laws.Search as Search
 use Rattle.transfer_matrix.specs.Job.{Back, back_edges, too_many_near}
 use Rattle.transfer_matrix.specs.Configuration.{numbered}
 use Rattle.plan_steps.specs.Edges.{Edges}
 use Rattle.plan_steps.specs.Rows.{first_back, listed, back, insert, near_among, Counts}
-use Rattle.plan_steps.specs.Laws.Listed.{backs_listed, listed_ext}
+use Rattle.plan_steps.proofs.Laws.Listed.{backs_listed, listed_ext}
 use Rattle.plan_steps.proofs.Entering.{first_miss, listed-none, apart, near-insert}
 
 pub counts_start : (early late : List ℕ) (n w k : ℕ) → n ≤ k → Counts (replicate k 0) early late n w 0

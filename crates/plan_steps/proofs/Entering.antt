@@ -11,15 +11,15 @@ use lib.Dec.{eqb, eqb-suc-zero}
 use lib.ListN.{length, get_or, set, length-set}
 use lib.Seq.{get_or-set_same, get_or-set_other}
 use borrow.Author.Tests.{eq-eqb, ne_eqb, lt-ltb, le-ltb}
-use Rattle.list_laws.specs.Laws.Search as Search
+use Rattle.list_laws.proofs.Laws.Search as Search
 use Rattle.transfer_matrix.specs.Job.{prepend, back_edges, too_many_near}
 use Rattle.transfer_matrix.specs.Configuration.{numbered}
 use Rattle.plan_steps.specs.Layout.{left_edge_at, near_count_at, near_edges_at, near_bits_at, forward_place_at, index_of, number, Holds}
 use Rattle.plan_steps.specs.Layout.{named, left_edge, near_count, near_from}
-use Rattle.plan_steps.specs.Laws.Layout.{near-length, near_ext}
+use Rattle.plan_steps.proofs.Laws.Layout.{near-length, near_ext}
 use Rattle.plan_steps.specs.Edges.{Edges}
 use Rattle.plan_steps.specs.Rows.{goes_back, first_of, first_back, listed, back, near_row, insert, Rising, OnlyStep, Inserted, Row, Entered}
-use Rattle.plan_steps.specs.Laws.Listed.{backs_listed, listed_ext}
+use Rattle.plan_steps.proofs.Laws.Listed.{backs_listed, listed_ext}
 use Rattle.plan_steps.proofs.Backs.{rising-listed, listed-insert, listed_more}
 
 -- the rows of the first n vertices are empty

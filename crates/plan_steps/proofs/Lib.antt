@@ -4,3 +4,5 @@ mod Inserting
 mod Entering
 mod Steps
 mod Counting
+-- and the laws of these definitions, which no reader needs to believe.
+pub mod Laws

@@ -14,7 +14,7 @@ use Rattle.transfer_matrix.specs.Configuration.{job_of}
 use Rattle.plan_steps.specs.Layout.{near_at, near_count, near_edge, near_bit, near_from, named, step_in, Vertex}
 use Rattle.plan_steps.specs.Edges.{Steps}
 use Rattle.plan_steps.specs.Rows.{goes_back, first_of, first_back, listed, near_row, Rising, more, Row}
-use Rattle.plan_steps.specs.Laws.Listed.{back-first, backs_listed}
+use Rattle.plan_steps.proofs.Laws.Listed.{back-first, backs_listed}
 use Rattle.plan_steps.proofs.Entering.{row-rising}
 
 first_le : (early late : List ℕ) (t d m : ℕ) → first_back early late t d m ≤ m

@@ -8,25 +8,25 @@ use native.Mathlib.Omega.{arith}
 use lib.ListN.{length, get_or, drop}
 use lib.Ieee.{Float, nan}
 use Rattle.list_laws.specs.Tabulate.{tabulate}
-use Rattle.list_laws.specs.Laws.Tabulate.{tabulate-length}
+use Rattle.list_laws.proofs.Laws.Tabulate.{tabulate-length}
 use Rattle.transfer_matrix.specs.Job.{Job, Step, step_of}
 use Rattle.transfer_matrix.specs.Rounded.{ieee}
 use Rattle.transfer_matrix.specs.Sweep as S
 use Rattle.plan_steps.specs.Layout.{step_in, forward_place}
 use Rattle.step_tables.specs.Place.{Places, hold}
 use Rattle.half_vectors.specs.Antisymmetric.{AntisymmetricHalf, alternate_half}
-use Rattle.half_vectors.specs.Laws.Antisymmetric.{alternate_antisymmetric, forward_antisymmetric}
+use Rattle.half_vectors.proofs.Laws.Antisymmetric.{alternate_antisymmetric, forward_antisymmetric}
 use Rattle.pair_sums.specs.Terms.{half_at}
-use Rattle.vertex_step.specs.Laws.Same.{antisymmetric_ext}
-use Rattle.vertex_step.specs.Laws.Frame.{Wrote, wrote_half}
+use Rattle.vertex_step.proofs.Laws.Same.{antisymmetric_ext}
+use Rattle.vertex_step.proofs.Laws.Frame.{Wrote, wrote_half}
 use Rattle.vertex_step.specs.Ready.{Ready, Readable, Stepping, Still}
-use Rattle.vertex_step.specs.Laws.Ready.{still-none, still-then, still_wrote, still-ready, moving-place, tail-factors, tail-scale}
+use Rattle.vertex_step.proofs.Laws.Ready.{still-none, still-then, still_wrote, still-ready, moving-place, tail-factors, tail-scale}
 use Rattle.vertex_step.specs.Through.{Through, forward_by, through}
-use Rattle.vertex_step.specs.Laws.Through.{through-one, through-two}
-use Rattle.vertex_step.specs.Laws.Steady.{step-below}
+use Rattle.vertex_step.proofs.Laws.Through.{through-one, through-two}
+use Rattle.vertex_step.proofs.Laws.Steady.{step-below}
 use Rattle.propagation.specs.declared.current.CurrentVector.{CurrentVector}
 use Rattle.propagation.specs.Current.{PlanSwept, Reached, AdvanceSteps, Advanced, Propagated}
-use Rattle.propagation.specs.Laws.Current.{still-passed}
+use Rattle.propagation.proofs.Laws.Current.{still-passed}
 
 -- ---- the definition's propagated vectors
 

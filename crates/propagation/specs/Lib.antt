@@ -1,5 +1,3 @@
 -- The definitions that the contracts cite.
 pub mod Current
 pub mod Pairing
--- and the laws of these definitions, which no reader needs to believe.
-pub mod Laws

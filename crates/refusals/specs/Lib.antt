@@ -10,5 +10,3 @@ pub mod Accepted
 pub mod AcceptedJob
 pub mod AcceptedTotals
 pub mod StripRequest
--- and the laws of these definitions, which no reader needs to believe.
-pub mod Laws

@@ -8,8 +8,8 @@ use Rattle.list_laws.specs.Tabulate.{tabulate}
 use Rattle.little_endian.specs.Words.{word_at, bytes_of}
 use Rattle.run_record.specs.Records.{head_bytes, record_length, chunks_of, per_chunk}
 use Rattle.run_record.specs.Reading.{head_of, bad_head, bad_record}
-use Rattle.run_record.specs.Laws.Places.{no_rows}
-use Rattle.run_record.specs.Laws.Cases.{passed}
+use Rattle.run_record.proofs.Laws.Places.{no_rows}
+use Rattle.run_record.proofs.Laws.Cases.{passed}
 
 -- ---- A head of no beta, no pair or no chunk passes exactly where it is good and 32 bytes are there, whatever its range.
 

@@ -1,6 +1,3 @@
 -- What to believe: Shares, and that it says what Theorems do of the lists that were lent, one by one (Lists).
 pub mod Shares
 pub mod Lists
-pub mod Theorems
--- and the laws of these definitions, which no reader needs to believe.
-pub mod Laws

@@ -12,9 +12,9 @@ use lib.Ieee.Exact.{HasValue, odd_sign}
 use lib.Ieee.Positive.{value→cross, positive_of_value}
 use Rattle.sqrt.specs.WholeRoot.{WholeRoot}
 use Rattle.sqrt.specs.Sqrt.{sqrt, places}
-use Rattle.sqrt.specs.Laws.Halves.{Halves}
-use Rattle.sqrt.specs.Laws.Middles.{places-nearest}
-use Rattle.sqrt.specs.Theorems.{sqrt-only}
+use Rattle.sqrt.proofs.Laws.Halves.{Halves}
+use Rattle.sqrt.proofs.Laws.Middles.{places-nearest}
+use Rattle.sqrt.proofs.Theorems.{sqrt-only}
 use Rattle.sqrt.specs.Placed.{Fields, magnitude, Placed}
 use Rattle.sqrt.proofs.Placing.{placed-short, placed-halves}
 

@@ -8,8 +8,8 @@ use lib.Dec.{lit≤, lit<}
 use lib.Pow.{pow-add, pow_pos}
 use lib.Ieee.{binary64}
 use Rattle.sqrt.specs.WholeRoot.{WholeRoot}
-use Rattle.sqrt.specs.Laws.WholeRoot.{root_reaches, root-under}
-use Rattle.sqrt.specs.Laws.Halves.{Halves}
+use Rattle.sqrt.proofs.Laws.WholeRoot.{root_reaches, root-under}
+use Rattle.sqrt.proofs.Laws.Halves.{Halves}
 use Rattle.sqrt.specs.Placed.{Fields, magnitude, Placed}
 
 -- ---- a significand m, and a field d of 1 at least

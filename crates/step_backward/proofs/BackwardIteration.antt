@@ -11,20 +11,20 @@ use lib.Ieee.Fits.{cond-fits, add-fits}
 use lib.Dec.{ltb}
 use borrow.Author.Tests.{lt-ltb, le-ltb}
 use Rattle.list_laws.specs.Part.{Apart}
-use Rattle.list_laws.specs.Laws.Part.{apart-within}
+use Rattle.list_laws.proofs.Laws.Part.{apart-within}
 use Rattle.step_tables.specs.Step.{pattern_by}
 use Rattle.step_tables.specs.Rule.{entries, weights, alternating, mix, backward_rule}
-use Rattle.step_tables.specs.Laws.Rules.{alternating_even, alternating-odd}
+use Rattle.step_tables.proofs.Laws.Rules.{alternating_even, alternating-odd}
 use Rattle.step_runs.specs.AtRun.{Runs}
-use Rattle.step_runs.specs.Laws.AtRun.{AtRun, run_ends}
-use Rattle.step_runs.specs.Laws.RunWeights.{run_weight}
+use Rattle.step_runs.proofs.Laws.AtRun.{AtRun, run_ends}
+use Rattle.step_runs.proofs.Laws.RunWeights.{run_weight}
 use Rattle.largest_entry.specs.Larger.{larger}
 use Rattle.largest_entry.specs.Top.{top}
-use Rattle.largest_entry.specs.Laws.Top.{top-is}
-use Rattle.largest_entry.specs.Laws.Lanes.{Fit, two-parts, both_ends, larger_swap, Lanes, lanes_iteration, lanes_done}
+use Rattle.largest_entry.proofs.Laws.Top.{top-is}
+use Rattle.largest_entry.proofs.Laws.Lanes.{Fit, two-parts, both_ends, larger_swap, Lanes, lanes_iteration, lanes_done}
 use Rattle.step_backward.specs.Ends.{ends}
-use Rattle.step_backward.specs.Laws.Ends.{ends-one, ends_run, ends-apart, ends_together}
-use Rattle.largest_entry.specs.Laws.Filled.{filled_top}
+use Rattle.step_backward.proofs.Laws.Ends.{ends-one, ends_run, ends-apart, ends_together}
+use Rattle.largest_entry.proofs.Laws.Filled.{filled_top}
 
 -- what is rounded is a double
 pub backward_fit : (x y : Float) (p q v : ℕ → Float) → Fit (backward_rule x y p q v)

@@ -1,1 +1,3 @@
 mod BackwardIteration
+-- and the laws of these definitions, which no reader needs to believe.
+pub mod Laws

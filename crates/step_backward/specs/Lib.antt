@@ -1,5 +1,3 @@
 -- What a backward step fills, the definitions that its contract cites, and that the rule over the tables is that of the laws of halves.
 pub mod Ends
 pub mod Fold
--- and the laws of these definitions, which no reader needs to believe.
-pub mod Laws

@@ -10,16 +10,16 @@ use lib.Ieee.Fits.{cond-fits, mul-fits}
 use Rattle.list_laws.specs.Bits.{bit}
 use Rattle.list_laws.specs.Tabulate.{tabulate}
 use Rattle.list_laws.specs.Part.{Apart, put}
-use Rattle.list_laws.specs.Laws.Part.{apart-within, fill_two, fill_run, read_apart}
+use Rattle.list_laws.proofs.Laws.Part.{apart-within, fill_two, fill_run, read_apart}
 use Rattle.step_tables.specs.Step.{pattern_by}
 use Rattle.step_tables.specs.Rule.{entries, from_end, weights, alternating, blend, forward_rule}
-use Rattle.step_tables.specs.Laws.Rules.{alternating_even, alternating-odd, rule_even, rule-odd, rule-from}
+use Rattle.step_tables.proofs.Laws.Rules.{alternating_even, alternating-odd, rule_even, rule-odd, rule-from}
 use Rattle.step_runs.specs.AtRun.{Runs}
-use Rattle.step_runs.specs.Laws.AtRun.{AtRun, run_ends}
-use Rattle.step_runs.specs.Laws.RunWeights.{run_weight}
+use Rattle.step_runs.proofs.Laws.AtRun.{AtRun, run_ends}
+use Rattle.step_runs.proofs.Laws.RunWeights.{run_weight}
 use Rattle.largest_entry.specs.Larger.{larger}
 use Rattle.largest_entry.specs.Top.{top}
-use Rattle.largest_entry.specs.Laws.Lanes.{Fit, two_lanes, two-parts, Lanes, lanes_iteration, lanes_done}
+use Rattle.largest_entry.proofs.Laws.Lanes.{Fit, two_lanes, two-parts, Lanes, lanes_iteration, lanes_done}
 
 -- what is rounded is a double
 forward_fit : (ep sem em sep : Float) (p q a b : ℕ → Float) → Fit (forward_rule ep sem em sep p q a b)

@@ -1,2 +1,1 @@
--- and the laws of these definitions, which no reader needs to believe.
-pub mod Laws
+

@@ -8,7 +8,7 @@ use lib.ListN.{length, get_or, set}
 use lib.Ieee.{Float, nan, neg}
 use Rattle.list_laws.specs.Tabulate.{tabulate}
 use Rattle.list_laws.specs.Part.{Apart, put}
-use Rattle.list_laws.specs.Laws.Part.{fill_none, fill_one, fill_two, read_apart}
+use Rattle.list_laws.proofs.Laws.Part.{fill_none, fill_one, fill_two, read_apart}
 use Rattle.step_tables.specs.Rule.{entries}
 use Rattle.half_vectors.specs.Antisymmetric.{alternate_half}
 

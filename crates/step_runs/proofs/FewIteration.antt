@@ -8,14 +8,14 @@ use lib.ListN.{length, set}
 use lib.Ieee.{Float}
 use Rattle.list_laws.specs.Tabulate.{tabulate}
 use Rattle.list_laws.specs.Part.{put}
-use Rattle.list_laws.specs.Laws.Part.{fill_none, fill_one, fill_two}
+use Rattle.list_laws.proofs.Laws.Part.{fill_none, fill_one, fill_two}
 use Rattle.step_tables.specs.Rule.{alternating}
-use Rattle.step_tables.specs.Laws.Rules.{alternating_even, alternating-odd}
+use Rattle.step_tables.proofs.Laws.Rules.{alternating_even, alternating-odd}
 use Rattle.transfer_matrix.specs.Rounded.{ieee}
 use Rattle.largest_entry.specs.Larger.{larger}
 use Rattle.largest_entry.specs.Top.{top}
-use Rattle.largest_entry.specs.Laws.Top.{top-none}
-use Rattle.largest_entry.specs.Laws.Lanes.{lane_iteration}
+use Rattle.largest_entry.proofs.Laws.Top.{top-none}
+use Rattle.largest_entry.proofs.Laws.Lanes.{lane_iteration}
 
 module _ (d : List Float) (at half : ℕ) (a b : Float) (fits : at + half ≤ length d) where
   pub few-one : half ≡ 1 → set d at a ≡ put d at (tabulate (alternating a b) half)

@@ -14,7 +14,7 @@ use lib.Ieee.{Float, nan, binary64, mul, div, of_bits}
 use Rattle.transfer_matrix.specs.Job.{Back}
 use Rattle.transfer_matrix.specs.Rounded.{ieee}
 use Rattle.transfer_matrix.specs.Sweep as S
-use Rattle.step_tables.specs.Laws.Constants.{one-is}
+use Rattle.step_tables.proofs.Laws.Constants.{one-is}
 use Rattle.step_tables.specs.Step.{Filled, near_edges, left_edge}
 
 near-length : (x : List Float) (bits : List ℕ) (i n : ℕ) → length (near_edges x bits i n) ≡ n

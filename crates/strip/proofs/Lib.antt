@@ -2,3 +2,5 @@
 mod Quotient
 mod Siting
 mod Naming
+-- and the laws of these definitions, which no reader needs to believe.
+pub mod Laws

@@ -7,7 +7,7 @@ use Prim.Native.String.{String}
 use native.Mathlib.Omega.{arith}
 use lib.Dec.{eqb}
 use borrow.Author.Tests.{eq-eqb, eqb-true}
-use Rattle.refusals.specs.Laws.First.{told}
+use Rattle.refusals.proofs.Laws.First.{told}
 use Rattle.strip.specs.Spelling.{spelled}
 use Rattle.strip.specs.Names.{same, is_word, parsed}
 use Rattle.strip.specs.declared.kinds.Kind.TheVariants.{Square, Tri, Honey, Eight}

@@ -5,5 +5,3 @@ pub mod Requests
 pub mod Kinds
 pub mod Spelling
 pub mod Names
--- and the laws of these definitions, which no reader needs to believe.
-pub mod Laws

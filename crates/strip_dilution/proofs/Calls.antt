@@ -9,12 +9,12 @@ use lib.Ieee.Scale.{finite}
 use lib.ListN.{length}
 use Rattle.refusals.specs.Request.{oversized}
 use Rattle.refusals.specs.StripRequest.{Dilution}
-use Rattle.refusals.specs.Laws.First.{here, past, told}
+use Rattle.refusals.proofs.Laws.First.{here, past, told}
 use Rattle.strip.specs.Requests.{odd_cylinder}
 use Rattle.strip.specs.declared.strip.Strip.{Strip}
 use Rattle.strip_bonds.specs.Edges.{edges}
 use Rattle.strip_edges.specs.Listing.{too_short}
-use Rattle.strip_edges.specs.Laws.Listing.{short-is}
+use Rattle.strip_edges.proofs.Laws.Listing.{short-is}
 use Rattle.strip_dilution.specs.Diluted.{diluted_refusal}
 
 pub finite_test : (x : Float) → (lt (neg (div binary64 (of_bits binary64 4607182418800017408) (of_bits binary64 0))) x

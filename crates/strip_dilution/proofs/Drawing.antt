@@ -10,9 +10,9 @@ use lib.Ieee.{Float, binary64, add, sub, mul, lt, of_bits}
 use lib.ListN.{length, drop, set, length-set, length-map}
 use lib.Seq.{drop_at}
 use Rattle.list_laws.specs.Front.{over}
-use Rattle.list_laws.specs.Laws.Front.{over-more}
+use Rattle.list_laws.proofs.Laws.Front.{over-more}
 use Rattle.list_laws.specs.Tabulate.{tabulate}
-use Rattle.list_laws.specs.Laws.Tabulate.{tabulate_suc, tabulate-length}
+use Rattle.list_laws.proofs.Laws.Tabulate.{tabulate_suc, tabulate-length}
 use Rattle.rng.specs.Xoshiro.{output, next, seeded}
 use Rattle.rng.specs.Uniform.{unit}
 use Rattle.refusals.specs.StripRequest.{Dilution}

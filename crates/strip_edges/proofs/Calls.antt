@@ -6,12 +6,12 @@ use Prim.Native.Nat.{ℕ, ◌*◌}
 use lib.Dec.{eqb, ltb}
 use lib.Ieee.{Float}
 use lib.ListN.{length}
-use Rattle.refusals.specs.Laws.First.{here, past, told}
+use Rattle.refusals.proofs.Laws.First.{here, past, told}
 use Rattle.strip.specs.Requests.{odd_cylinder}
 use Rattle.strip.specs.declared.strip.Strip.{Strip}
 use Rattle.strip_bonds.specs.Edges.{edges}
 use Rattle.strip_edges.specs.Listing.{too_short}
-use Rattle.strip_edges.specs.Laws.Listing.{short-is}
+use Rattle.strip_edges.proofs.Laws.Listing.{short-is}
 use Rattle.strip_edges.specs.RawEdges.{raw_refusal}
 
 module _ (s : Strip) (early late : List ℕ) (mag : List Float) {sides : Bool}

@@ -7,28 +7,28 @@ use native.Mathlib.Omega.{arith}
 use lib.Ieee.{Float}
 use lib.ListN.{length, take, length-map, length-take}
 use Rattle.list_laws.specs.Front.{over}
-use Rattle.list_laws.specs.Laws.Tabulate.{tabulate-length}
+use Rattle.list_laws.proofs.Laws.Tabulate.{tabulate-length}
 use Rattle.transfer_matrix.specs.Job.{window_of}
 use Rattle.refusals.specs.Answers.{answered, left}
 use Rattle.refusals.specs.StripRequest.{Dilution}
 use Rattle.refusals.specs.Edges.{Kept, kept}
-use Rattle.refusals.specs.Laws.Accepted.{kept-most}
+use Rattle.refusals.proofs.Laws.Accepted.{kept-most}
 use Rattle.refusals.specs.declared.Answer.{Answer}
 use Rattle.refusals.specs.declared.Answer.TheVariants.{Number, Refused}
 use Rattle.kept_edges.specs.Keep.{places_of, Placed, Ordered}
-use Rattle.kept_edges.specs.Laws.Places.{places-length}
+use Rattle.kept_edges.proofs.Laws.Places.{places-length}
 use Rattle.graph_edges.specs.Graphs.{too_short, Set}
-use Rattle.graph_edges.specs.Laws.Setting.{refused-set}
+use Rattle.graph_edges.proofs.Laws.Setting.{refused-set}
 use Rattle.graph_edges.specs.declared.Made.{Made}
 use Rattle.strip.specs.declared.strip.Strip.{Strip}
 use Rattle.strip_bonds.specs.Edges.{edges, early_ends, late_ends}
 use Rattle.strip_dilution.specs.Diluted.{magnitude, state_at, magnitudes, diluted_refusal}
 use Rattle.strip_window.specs.Window as Strips
-use Rattle.strip_window.specs.Laws.EdgeLaws.{few-edges}
+use Rattle.strip_window.proofs.Laws.EdgeLaws.{few-edges}
 use Rattle.strip_graph.specs.DilutedGraph.{diluted_edges, graph_refusal}
-use Rattle.strip_graph.specs.Laws.Accepted.{AcceptedStrip, list_accepted, list_refused}
-use Rattle.strip_graph.specs.Laws.Lists.{front, same_kept}
-use Rattle.strip_graph.specs.Laws.Window.{strip_ordered, strip_window}
+use Rattle.strip_graph.proofs.Laws.Accepted.{AcceptedStrip, list_accepted, list_refused}
+use Rattle.strip_graph.proofs.Laws.Lists.{front, same_kept}
+use Rattle.strip_graph.proofs.Laws.Window.{strip_ordered, strip_window}
 
 -- ---- the kept edges are counted by their places
 

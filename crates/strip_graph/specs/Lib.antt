@@ -1,6 +1,2 @@
 -- The definitions that the contracts cite,
 pub mod DilutedGraph
--- what holds of an accepted call,
-pub mod Places
--- and the laws of these definitions, which no reader needs to believe.
-pub mod Laws

@@ -7,8 +7,8 @@ use native.Mathlib.Omega.{arith}
 use lib.Dec.{eqb, ltb}
 use lib.ListN.{length}
 use borrow.Author.Tests.{ltb-false}
-use Rattle.refusals.specs.Laws.First.{here, past, told}
-use Rattle.list_laws.specs.Laws.Search.{or-false}
+use Rattle.refusals.proofs.Laws.First.{here, past, told}
+use Rattle.list_laws.proofs.Laws.Search.{or-false}
 use Rattle.strip_pairs.specs.PairSet.{pair_set, label_bytes, pairs_refusal}
 use Rattle.strip_pairs.specs.PairListing.{PairRoom}
 use Rattle.strip.specs.declared.strip.Strip.{Strip}

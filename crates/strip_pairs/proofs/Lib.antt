@@ -1,2 +1,4 @@
 pub mod Pairing
 pub mod Calls
+-- and the laws of these definitions, which no reader needs to believe.
+pub mod Laws

@@ -11,8 +11,8 @@ use lib.ListN.{length, take, drop, get_or, set, length-append, length-drop, leng
 use lib.Seq.{take-suc}
 use borrow.Author.Tests.{ltb-true}
 use Rattle.list_laws.specs.Front.{over}
-use Rattle.list_laws.specs.Laws.Front.{over-more, over-length}
-use Rattle.strip.specs.Laws.Tests.{and-true}
+use Rattle.list_laws.proofs.Laws.Front.{over-more, over-length}
+use Rattle.strip.proofs.Laws.Tests.{and-true}
 use Rattle.strip.specs.Vertices.{vertex}
 use Rattle.strip.specs.Sides.{Sides}
 use Rattle.strip_candidates.specs.Candidates.{candidate_at}

@@ -13,7 +13,7 @@ use Rattle.transfer_matrix.specs.Room.{earlier, later}
 use Rattle.transfer_matrix.specs.Rounded.{ieee}
 use Rattle.transfer_matrix.specs.Sweep as S
 use Rattle.plan_steps.specs.Layout.{forward_place, backward_place}
-use Rattle.vertex_step.specs.Laws.Same.{symmetric_as}
+use Rattle.vertex_step.proofs.Laws.Same.{symmetric_as}
 use Rattle.vertex_step.specs.Ready.{Ready, PlanOf, Forward, Backward}
 use Rattle.sweep_places.specs.Begun.{Stands, Stayed, Nearer, GoneOn}
 use Rattle.sweep_places.specs.BackwardInvariant.{NewestBackward, BackwardInvariant}

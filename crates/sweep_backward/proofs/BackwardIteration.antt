@@ -9,25 +9,25 @@ use native.Mathlib.Omega.{arith}
 use lib.ListN.{length, drop}
 use lib.Ieee.{Float, binary64, div}
 use Rattle.list_laws.specs.Tabulate.{tabulate}
-use Rattle.list_laws.specs.Laws.Tabulate.{tabulate-length}
+use Rattle.list_laws.proofs.Laws.Tabulate.{tabulate-length}
 use Rattle.transfer_matrix.specs.Job.{Job, Manner, Step, block, per_element, step_of}
 use Rattle.transfer_matrix.specs.Rounded.{ieee}
 use Rattle.transfer_matrix.specs.Sweep as S
 use Rattle.plan_steps.specs.Layout.{step_in, forward_place, backward_place}
 use Rattle.step_tables.specs.Place.{hold}
 use Rattle.half_vectors.specs.Symmetric.{SymmetricHalf}
-use Rattle.half_vectors.specs.Laws.Symmetric.{start-half}
-use Rattle.half_vectors.specs.Laws.Largest.{stored_symmetric}
+use Rattle.half_vectors.proofs.Laws.Symmetric.{start-half}
+use Rattle.half_vectors.proofs.Laws.Largest.{stored_symmetric}
 use Rattle.pair_sums.specs.Terms.{half_at}
-use Rattle.step_backward.specs.Laws.Fold.{fold_symmetric}
-use Rattle.vertex_step.specs.Laws.Same.{symmetric_ext, symmetric_as}
+use Rattle.step_backward.proofs.Laws.Fold.{fold_symmetric}
+use Rattle.vertex_step.proofs.Laws.Same.{symmetric_ext, symmetric_as}
 use Rattle.vertex_step.specs.Frame.{Fits}
-use Rattle.vertex_step.specs.Laws.Frame.{half-held, Wrote, wrote_half, wrote_other}
+use Rattle.vertex_step.proofs.Laws.Frame.{half-held, Wrote, wrote_half, wrote_other}
 use Rattle.vertex_step.specs.Ready.{Ready, PlanOf, Stepping, Backward}
-use Rattle.vertex_step.specs.Laws.Ready.{tail-factors}
-use Rattle.vertex_step.specs.Laws.Steady.{step-below}
+use Rattle.vertex_step.proofs.Laws.Ready.{tail-factors}
+use Rattle.vertex_step.proofs.Laws.Steady.{step-below}
 use Rattle.vertex_step.specs.Through.{Through, backward_by, through}
-use Rattle.vertex_step.specs.Laws.Through.{through-one, through-two}
+use Rattle.vertex_step.proofs.Laws.Through.{through-one, through-two}
 use Rattle.sweep_places.specs.Target.{Target, Free}
 use Rattle.sweep_places.specs.Kept.{Since}
 use Rattle.sweep_places.specs.Steps.{BackwardTwo, BackwardSteps}

@@ -11,23 +11,23 @@ use lib.ListN.{length, get_or, drop, set, length-set}
 use lib.Seq.{get_or-set_same, get_or-set_other, drop-set-lt}
 use lib.Ieee.{Float, nan, binary64, div}
 use Rattle.list_laws.specs.Tabulate.{tabulate}
-use Rattle.list_laws.specs.Laws.Tabulate.{tabulate-length}
+use Rattle.list_laws.proofs.Laws.Tabulate.{tabulate-length}
 use Rattle.transfer_matrix.specs.Job.{Job, Manner, Step, block, per_element, step_of}
 use Rattle.transfer_matrix.specs.Rounded.{ieee}
 use Rattle.transfer_matrix.specs.Sweep as S
 use Rattle.plan_steps.specs.Layout.{step_in, forward_place, backward_place}
 use Rattle.step_tables.specs.Place.{held, hold}
 use Rattle.half_vectors.specs.Symmetric.{SymmetricHalf}
-use Rattle.half_vectors.specs.Laws.Symmetric.{start-half, forward-half}
-use Rattle.half_vectors.specs.Laws.Largest.{stored_symmetric}
+use Rattle.half_vectors.proofs.Laws.Symmetric.{start-half, forward-half}
+use Rattle.half_vectors.proofs.Laws.Largest.{stored_symmetric}
 use Rattle.pair_sums.specs.Terms.{half_at}
-use Rattle.vertex_step.specs.Laws.Same.{symmetric_ext, symmetric_as}
+use Rattle.vertex_step.proofs.Laws.Same.{symmetric_ext, symmetric_as}
 use Rattle.vertex_step.specs.Frame.{Fits}
-use Rattle.vertex_step.specs.Laws.Frame.{moving-fits, half-held, Wrote, wrote_length, wrote_half, wrote_other, wrote_at, wrote_drop, set-held}
+use Rattle.vertex_step.proofs.Laws.Frame.{moving-fits, half-held, Wrote, wrote_length, wrote_half, wrote_other, wrote_at, wrote_drop, set-held}
 use Rattle.vertex_step.specs.Ready.{Ready, PlanOf, Stepping}
-use Rattle.vertex_step.specs.Laws.Steady.{step-below}
+use Rattle.vertex_step.proofs.Laws.Steady.{step-below}
 use Rattle.vertex_step.specs.Through.{Through, forward_by, through}
-use Rattle.vertex_step.specs.Laws.Through.{through-one, through-two}
+use Rattle.vertex_step.proofs.Laws.Through.{through-one, through-two}
 use Rattle.sweep_places.specs.Target.{Target}
 use Rattle.sweep_places.specs.Kept.{Since}
 use Rattle.sweep_places.specs.Steps.{ForwardTwo, ForwardSteps}

@@ -8,11 +8,11 @@ use lib.Ieee.{Float}
 use Rattle.transfer_matrix.specs.Job.{Job}
 use Rattle.plan_steps.specs.Layout.{forward_place, backward_place}
 use Rattle.step_tables.specs.Place.{Place}
-use Rattle.vertex_step.specs.Laws.Same.{symmetric_ext}
+use Rattle.vertex_step.proofs.Laws.Same.{symmetric_ext}
 use Rattle.vertex_step.specs.Frame.{Fits}
-use Rattle.vertex_step.specs.Laws.Frame.{half-held, Wrote, wrote_length, wrote_other, wrote_drop}
+use Rattle.vertex_step.proofs.Laws.Frame.{half-held, Wrote, wrote_length, wrote_other, wrote_drop}
 use Rattle.vertex_step.specs.Ready.{Ready, Own, Stepping, Forward, Backward}
-use Rattle.vertex_step.specs.Laws.Ready.{tail-scale}
+use Rattle.vertex_step.proofs.Laws.Ready.{tail-scale}
 use Rattle.sweep_places.specs.Kept.{Since}
 
 -- ---- what is asked

@@ -2,3 +2,5 @@
 pub mod Targets
 pub mod Frames
 pub mod Unscaled
+-- and the laws of these definitions, which no reader needs to believe.
+pub mod Laws

@@ -5,7 +5,7 @@ use Prim.Native.Nat.{ℕ, ◌*◌, ◌^◌, ◌≤◌, ◌<◌}
 use native.Mathlib.Decide.{dec_lt}
 use native.Mathlib.Omega.{arith}
 use Rattle.vertex_step.specs.Frame.{Fits}
-use Rattle.vertex_step.specs.Laws.Frame.{moving-fits}
+use Rattle.vertex_step.proofs.Laws.Frame.{moving-fits}
 use Rattle.vertex_step.specs.Ready.{Own}
 use Rattle.sweep_places.specs.Target.{Target, Free}
 

@@ -6,5 +6,3 @@ pub mod Begun
 pub mod ForwardInvariant
 pub mod BackwardInvariant
 pub mod Reuse
--- and the laws of these definitions, which no reader needs to believe.
-pub mod Laws

@@ -10,9 +10,9 @@ use borrow.Author.Tests.{lt-ltb, le-ltb}
 use Rattle.transfer_matrix.specs.Job.{Job}
 use Rattle.transfer_matrix.specs.Room.{earlier, later}
 use Rattle.pair_order.specs.Order.{InOrder}
-use Rattle.pair_places.specs.Laws.Places.{later-inside}
+use Rattle.pair_places.proofs.Laws.Places.{later-inside}
 use Rattle.vertex_step.specs.Ready.{Ready, PlanOf, Forward, Backward, BothSwept, Still}
-use Rattle.vertex_step.specs.Laws.Ready.{still-swept, tail-factors}
+use Rattle.vertex_step.proofs.Laws.Ready.{still-swept, tail-factors}
 use Rattle.plan_steps.specs.Layout.{forward_place, backward_place}
 use Rattle.sweep_places.specs.Begun.{Stands}
 use Rattle.sweep_places.specs.Kept.{Since, SameFrom}

@@ -13,7 +13,7 @@ use Rattle.transfer_matrix.specs.Job.{Job}
 use Rattle.transfer_matrix.specs.Totals.{chunk_size, chunked, sampled}
 use Rattle.totals_configuration.specs.declared.JobShape.{JobShape}
 use Rattle.totals_configuration.specs.Signed.{PlanOfRun}
-use Rattle.totals_configuration.specs.Laws.Chunked.{Chunked}
+use Rattle.totals_configuration.proofs.Laws.Chunked.{Chunked}
 use Rattle.totals_enumerated.specs.Configurations.{enumerated_signs, PlanFrom}
 use Rattle.totals_sampled.specs.Samples.{sampled_signs, PlanOfSamples}
 use Rattle.totals_chunks.specs.declared.Chunks.{Chunks}

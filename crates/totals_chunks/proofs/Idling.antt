@@ -7,14 +7,14 @@ use Prim.Native.Nat.{ℕ, ◌+◌, ◌-◌, ◌*◌, ◌<◌}
 use native.Mathlib.Omega.{arith}
 use lib.Ieee.{Float}
 use lib.ListN.{length}
-use Rattle.list_laws.specs.Laws.Search.{none_of}
+use Rattle.list_laws.proofs.Laws.Search.{none_of}
 use Rattle.list_laws.specs.Tabulate.{tabulate}
-use Rattle.list_laws.specs.Laws.Tabulate.{tabulate_ext}
+use Rattle.list_laws.proofs.Laws.Tabulate.{tabulate_ext}
 use Rattle.transfer_matrix.specs.Arithmetic.{sum}
 use Rattle.transfer_matrix.specs.Job.{Job}
 use Rattle.transfer_matrix.specs.Rounded.{ieee}
 use Rattle.transfer_matrix.specs.Totals.{square, fourth, chunked, sampled}
-use Rattle.totals_configuration.specs.Laws.Nothing.{none-unsound, no_chunk, no_sample}
+use Rattle.totals_configuration.proofs.Laws.Nothing.{none-unsound, no_chunk, no_sample}
 use Rattle.totals_configuration.specs.Powers.{unsound_betas}
 use Rattle.totals_chunks.specs.declared.Chunks.{Chunks}
 use Rattle.totals_chunks.specs.Totals.{unsound_chunks, Idle, Totals}

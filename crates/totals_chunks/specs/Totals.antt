@@ -9,7 +9,7 @@ use Rattle.totals_signs.specs.Fit.{BitsFit}
 use Rattle.totals_configuration.specs.declared.JobShape.{JobShape}
 use Rattle.totals_configuration.specs.Powers.{correlation_at, unsound_betas}
 use Rattle.totals_configuration.specs.Signed.{PlanOfRun}
-use Rattle.totals_configuration.specs.Laws.Chunked.{Chunked}
+use Rattle.totals_configuration.proofs.Laws.Chunked.{Chunked}
 use Rattle.totals_enumerated.specs.Configurations.{enumerated_signs}
 use Rattle.totals_sampled.specs.Samples.{sampled_signs}
 use Rattle.totals_chunks.specs.declared.Chunks.{Chunks}

@@ -9,21 +9,21 @@ use native.Mathlib.Omega.{arith}
 use lib.Ieee.{Float, nan, binary64, add}
 use lib.ListN.{length, get_or, drop_of_length-le}
 use Rattle.list_laws.specs.Part.{put}
-use Rattle.list_laws.specs.Laws.Part.{put_out, fill_none, fill_run}
+use Rattle.list_laws.proofs.Laws.Part.{put_out, fill_none, fill_run}
 use Rattle.list_laws.specs.Search.{some}
-use Rattle.list_laws.specs.Laws.Search as Search
+use Rattle.list_laws.proofs.Laws.Search as Search
 use Rattle.list_laws.specs.Tabulate.{tabulate}
-use Rattle.list_laws.specs.Laws.Tabulate.{tabulate-length, tabulate-at, tabulate_ext}
+use Rattle.list_laws.proofs.Laws.Tabulate.{tabulate-length, tabulate-at, tabulate_ext}
 use Rattle.transfer_matrix.specs.Job.{Job}
 use Rattle.transfer_matrix.specs.Rounded.{ieee}
 use Rattle.transfer_matrix.specs.Sweep as S
 use Rattle.transfer_matrix.specs.Totals.{square, fourth}
 use Rattle.pair_correlations.specs.Sound.{unsound, Outcome}
 use Rattle.totals_sums.specs.Added.{added_at, added_to}
-use Rattle.totals_configuration.specs.Laws.Passing.{one-passed, one_failed}
+use Rattle.totals_configuration.proofs.Laws.Passing.{one-passed, one_failed}
 use Rattle.totals_configuration.specs.Powers.{pair_at, correlation_at, AddedPowers}
-use Rattle.totals_configuration.specs.Laws.Powers.{pair-numbered}
-use Rattle.totals_configuration.specs.Laws.Lists.{put_all}
+use Rattle.totals_configuration.proofs.Laws.Powers.{pair-numbered}
+use Rattle.totals_configuration.proofs.Laws.Lists.{put_all}
 use Rattle.totals_configuration.specs.SoFar.{partly, SoFar}
 
 -- ---- lists

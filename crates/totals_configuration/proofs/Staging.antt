@@ -10,19 +10,19 @@ use lib.Ieee.{Float, nan}
 use lib.ListN.{length, get_or, drop, length-drop}
 use lib.Seq.{ext_get_or, get_or-drop}
 use Rattle.list_laws.specs.Part.{put}
-use Rattle.list_laws.specs.Laws.Part.{part_at, part-put, part_put_out, put-length}
+use Rattle.list_laws.proofs.Laws.Part.{part_at, part-put, part_put_out, put-length}
 use Rattle.transfer_matrix.specs.Job.{Job}
 use Rattle.plan_steps.specs.Layout.{backward_place}
 use Rattle.step_tables.specs.Place.{held}
-use Rattle.vertex_step.specs.Laws.Same.{symmetric_ext}
+use Rattle.vertex_step.proofs.Laws.Same.{symmetric_ext}
 use Rattle.vertex_step.specs.Frame.{Fits}
-use Rattle.vertex_step.specs.Laws.Frame.{half-held}
+use Rattle.vertex_step.proofs.Laws.Frame.{half-held}
 use Rattle.vertex_step.specs.Ready.{Ready, PlanOf, Backward}
 use Rattle.sweep_places.specs.Begun.{Stands}
 use Rattle.pair_correlations.specs.Sound.{Outcome}
 use Rattle.totals_configuration.specs.declared.JobShape.{JobShape}
 use Rattle.totals_configuration.specs.Stage.{Stage}
-use Rattle.totals_configuration.specs.Laws.Lists.{part_of}
+use Rattle.totals_configuration.proofs.Laws.Lists.{part_of}
 
 -- a list laid at another's end is what lies there
 pub laid-last : (d x : List Float) (at : ℕ) → at + length x ≡ length d → drop at (put d at x) ≡ x

@@ -9,20 +9,20 @@ use native.Mathlib.Omega.{arith}
 use lib.Ieee.{Float, nan}
 use lib.ListN.{length, get_or, take, drop}
 use lib.Seq.{drop-drop}
-use Rattle.list_laws.specs.Laws.Search as Search
+use Rattle.list_laws.proofs.Laws.Search as Search
 use Rattle.list_laws.specs.Search.{some}
-use Rattle.list_laws.specs.Laws.Search.{none_of}
+use Rattle.list_laws.proofs.Laws.Search.{none_of}
 use Rattle.list_laws.specs.Part.{put}
-use Rattle.list_laws.specs.Laws.Part.{put_out, part-put, part_at}
-use Rattle.list_laws.specs.Laws.Tabulate.{tabulated, tabulate-at}
+use Rattle.list_laws.proofs.Laws.Part.{put_out, part-put, part_at}
+use Rattle.list_laws.proofs.Laws.Tabulate.{tabulated, tabulate-at}
 use Rattle.transfer_matrix.specs.Arithmetic.{sum}
 use Rattle.transfer_matrix.specs.Job.{Job}
 use Rattle.transfer_matrix.specs.Rounded.{ieee}
 use Rattle.transfer_matrix.specs.Totals.{square, fourth}
 use Rattle.pair_correlations.specs.Sound.{unsound}
-use Rattle.totals_configuration.specs.Laws.Passing.{one-passed, one_failed}
+use Rattle.totals_configuration.proofs.Laws.Passing.{one-passed, one_failed}
 use Rattle.totals_configuration.specs.Powers.{pair_at, correlation_at}
-use Rattle.totals_configuration.specs.Laws.Powers.{pair-numbered}
+use Rattle.totals_configuration.proofs.Laws.Powers.{pair-numbered}
 use Rattle.totals_configuration.specs.Sums.{Sums, sums_of}
 use Rattle.totals_enumerated.specs.Configurations.{Summed}
 

@@ -9,12 +9,12 @@ use native.Mathlib.Omega.{arith}
 use lib.Ieee.{Float, nan}
 use lib.ListN.{length, get_or}
 use Rattle.edge_bits.specs.Having.{has_bit}
-use Rattle.list_laws.specs.Laws.Tabulate.{tabulate-length, tabulate-at}
+use Rattle.list_laws.proofs.Laws.Tabulate.{tabulate-length, tabulate-at}
 use Rattle.transfer_matrix.specs.Job.{Job}
 use Rattle.transfer_matrix.specs.Configuration.{enumerated_minus, lent_at}
 use Rattle.vertex_step.specs.Ready.{Ready, Backward}
 use Rattle.sweep_places.specs.Begun.{Stands}
-use Rattle.sweep_places.specs.Laws.Reuse.{reads_map, backward-stands}
+use Rattle.sweep_places.proofs.Laws.Reuse.{reads_map, backward-stands}
 use Rattle.totals_signs.specs.Signed.{factors_in_use}
 use Rattle.totals_configuration.specs.declared.JobShape.{JobShape}
 use Rattle.totals_configuration.specs.Signed.{PlanOfSigns}

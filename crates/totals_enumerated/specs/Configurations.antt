@@ -14,7 +14,7 @@ use Rattle.pair_correlations.specs.Sound.{unsound}
 use Rattle.totals_configuration.specs.declared.JobShape.{JobShape}
 use Rattle.totals_configuration.specs.Signed.{PlanOfSigns, PlanOfRun}
 use Rattle.totals_configuration.specs.Powers.{pair_at, correlation_at}
-use Rattle.totals_configuration.specs.Laws.Sums.{PassedSoFar}
+use Rattle.totals_configuration.proofs.Laws.Sums.{PassedSoFar}
 
 -- A bit or none, and a sign, for each edge; bits and numbers that fit.
 pub record Enumerates (bits : List ℕ) (signs first size : ℕ) : Type 0 where

@@ -1,4 +1,2 @@
 -- The definitions that the contracts cite,
 pub mod Betas
--- and the laws of these definitions, which no reader needs to believe.
-pub mod Laws

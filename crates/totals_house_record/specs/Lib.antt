@@ -1,2 +1,1 @@
--- The laws of what the contracts cite, which no reader needs to believe.
-pub mod Laws
+

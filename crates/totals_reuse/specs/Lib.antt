@@ -1,4 +1,2 @@
 -- Definitions,
 pub mod Settled
--- and the laws of these definitions, which no reader needs to believe.
-pub mod Laws

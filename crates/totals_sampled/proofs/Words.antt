@@ -8,7 +8,7 @@ use native.Mathlib.Omega.{arith}
 use Rattle.rng.specs.Xoshiro.{output, streamed}
 use Rattle.list_laws.specs.Bits.{bit}
 use Rattle.list_laws.specs.Tabulate.{tabulate}
-use Rattle.list_laws.specs.Laws.Tabulate.{tabulate_ext}
+use Rattle.list_laws.proofs.Laws.Tabulate.{tabulate_ext}
 use Rattle.transfer_matrix.specs.Configuration.{drawn, words_per_sample, sampled_minus}
 use Rattle.totals_sampled.specs.Samples.{sampled_signs}
 

@@ -9,7 +9,7 @@ use Rattle.pair_correlations.specs.Sound.{unsound}
 use Rattle.totals_configuration.specs.declared.JobShape.{JobShape}
 use Rattle.totals_configuration.specs.Signed.{PlanOfRun}
 use Rattle.totals_configuration.specs.Powers.{correlation_at}
-use Rattle.totals_configuration.specs.Laws.Sums.{PassedSoFar}
+use Rattle.totals_configuration.proofs.Laws.Sums.{PassedSoFar}
 
 -- The signs of a chunk's sample, of m edges.
 abbrev pub sampled_signs : (seed m chunk sample : ℕ) → List Bool

@@ -9,9 +9,9 @@ use native.Mathlib.Numerals.{add-one}
 use native.Mathlib.Omega.{arith}
 use lib.ListN.{length, get_or, drop, set, drop_of_length-le}
 use Rattle.list_laws.specs.Front.{over}
-use Rattle.list_laws.specs.Laws.Front.{over-more, over-behind}
+use Rattle.list_laws.proofs.Laws.Front.{over-more, over-behind}
 use Rattle.list_laws.specs.Tabulate.{tabulate}
-use Rattle.list_laws.specs.Laws.Tabulate.{tabulate_suc, tabulate-length, tabulate-at}
+use Rattle.list_laws.proofs.Laws.Tabulate.{tabulate_suc, tabulate-length, tabulate-at}
 use Rattle.totals_signs.specs.Last.{LastChanged, SamePast}
 
 module _ {A : Type 0} (f : ℕ → A) (before : List A) where

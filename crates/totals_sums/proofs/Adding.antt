@@ -8,11 +8,11 @@ use native.Mathlib.Omega.{arith}
 use lib.Ieee.{Float, nan, binary64, add}
 use lib.ListN.{length, get_or, drop, set, drop_of_length-le}
 use Rattle.list_laws.specs.Front.{over}
-use Rattle.list_laws.specs.Laws.Front.{over-more, over-behind}
+use Rattle.list_laws.proofs.Laws.Front.{over-more, over-behind}
 use Rattle.list_laws.specs.Part.{put}
-use Rattle.list_laws.specs.Laws.Part.{put_out, fill_none, fill_one, fill_length}
+use Rattle.list_laws.proofs.Laws.Part.{put_out, fill_none, fill_one, fill_length}
 use Rattle.list_laws.specs.Tabulate.{tabulate}
-use Rattle.list_laws.specs.Laws.Tabulate.{tabulate_suc, tabulate-length}
+use Rattle.list_laws.proofs.Laws.Tabulate.{tabulate_suc, tabulate-length}
 
 module _ (l : List Float) (term : ℕ → Float) where
   -- ---- from an index on

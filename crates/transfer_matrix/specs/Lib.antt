@@ -9,5 +9,3 @@ pub mod Totals
 pub mod Rounded
 pub mod Replay
 pub mod Original
--- and the laws of these definitions, which no reader needs to believe.
-pub mod Laws

@@ -6,15 +6,15 @@ use native.Mathlib.Omega.{arith}
 use lib.ListN.{length, get_or, set}
 use lib.Ieee.{Float, nan}
 use Rattle.list_laws.specs.Part.{Apart}
-use Rattle.list_laws.specs.Laws.Part.{apart-within}
+use Rattle.list_laws.proofs.Laws.Part.{apart-within}
 use Rattle.step_tables.specs.Rule.{entries, alternating, mix, backward_rule}
-use Rattle.step_tables.specs.Laws.Rules.{alternating_even, alternating-odd}
+use Rattle.step_tables.proofs.Laws.Rules.{alternating_even, alternating-odd}
 use Rattle.step_runs.specs.declared.runs.Four.{Four}
 use Rattle.step_runs.specs.Rule.{in_four}
-use Rattle.step_runs.specs.Laws.InFour.{four-0, four-1, four-2, four-3}
+use Rattle.step_runs.proofs.Laws.InFour.{four-0, four-1, four-2, four-3}
 use Rattle.two_steps_backward.specs.Rule.{front_twice, end_twice}
 use Rattle.two_steps_backward.specs.Inward.{Parts, inward}
-use Rattle.two_steps_backward.specs.Laws.Inward.{inward-two, inward-apart}
+use Rattle.two_steps_backward.proofs.Laws.Inward.{inward-two, inward-apart}
 
 -- what is known at place i of the later vertex's weights and of the entries
 record At (e f v : ℕ → Float) (i : ℕ) (e₀ e₁ f₀ f₁ v₀ v₁ v₂ v₃ : Float) : Type 0 where

@@ -6,20 +6,20 @@ use native.Mathlib.Omega.{arith}
 use lib.ListN.{length, get_or}
 use lib.Ieee.{Float, nan}
 use Rattle.list_laws.specs.Part.{Apart}
-use Rattle.list_laws.specs.Laws.Part.{apart-within}
+use Rattle.list_laws.proofs.Laws.Part.{apart-within}
 use Rattle.step_tables.specs.Step.{pattern_by}
 use Rattle.step_tables.specs.Rule.{entries, weights, backward_rule}
 use Rattle.step_runs.specs.declared.runs.Four.{Four}
 use Rattle.step_runs.specs.Rule.{in_four, Picked}
 use Rattle.step_runs.specs.AtRun.{TwoRuns}
-use Rattle.step_runs.specs.Laws.AtRun.{AtRun, run_ends}
-use Rattle.step_runs.specs.Laws.RunWeights.{second_is}
+use Rattle.step_runs.proofs.Laws.AtRun.{AtRun, run_ends}
+use Rattle.step_runs.proofs.Laws.RunWeights.{second_is}
 use Rattle.step_runs.specs.OpposedRule.{end_weights, Opposed}
-use Rattle.step_runs.specs.Laws.Opposite.{run_is, opposite_is}
+use Rattle.step_runs.proofs.Laws.Opposite.{run_is, opposite_is}
 use Rattle.two_steps_backward.specs.Rule.{front_twice, end_twice}
-use Rattle.two_steps_backward.specs.Laws.Rule.{backward-same, end_same}
+use Rattle.two_steps_backward.proofs.Laws.Rule.{backward-same, end_same}
 use Rattle.two_steps_backward.specs.Inward.{Parts, inward}
-use Rattle.two_steps_backward.specs.Laws.Inward.{inward_run, inward-apart}
+use Rattle.two_steps_backward.proofs.Laws.Inward.{inward_run, inward-apart}
 use Rattle.two_steps_backward.proofs.BackwardIteration.{front_run, end_run}
 
 -- what both steps make from the half at src of d, from pairs at the front and from pairs at the end

@@ -1,5 +1,3 @@
 -- The definitions that the contracts cite, and that two steps at once are the one at the earlier vertex of the one at the later.
 pub mod Rule
 pub mod Inward
--- and the laws of these definitions, which no reader needs to believe.
-pub mod Laws

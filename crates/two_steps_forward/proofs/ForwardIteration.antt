@@ -7,13 +7,13 @@ use lib.ListN.{length, get_or, set}
 use lib.Ieee.{Float, nan}
 use Rattle.list_laws.specs.Tabulate.{tabulate}
 use Rattle.list_laws.specs.Part.{Apart, put}
-use Rattle.list_laws.specs.Laws.Part.{fill_two, read_apart}
+use Rattle.list_laws.proofs.Laws.Part.{fill_two, read_apart}
 use Rattle.step_tables.specs.Rule.{entries, from_end, alternating, blend}
-use Rattle.step_tables.specs.Laws.Rules.{alternating_even, alternating-odd}
+use Rattle.step_tables.proofs.Laws.Rules.{alternating_even, alternating-odd}
 use Rattle.step_runs.specs.declared.runs.Four.{Four}
 use Rattle.step_runs.specs.Rule.{in_four}
 use Rattle.two_steps_forward.specs.Rule.{half_twice}
-use Rattle.step_runs.specs.Laws.InFour.{four-0, four-1, four-2, four-3}
+use Rattle.step_runs.proofs.Laws.InFour.{four-0, four-1, four-2, four-3}
 use Rattle.two_steps_forward.proofs.Rules.{At, twice-0, twice-1, twice-2, twice-3}
 
 -- ---- four elements more, and eight

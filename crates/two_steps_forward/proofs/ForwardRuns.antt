@@ -7,17 +7,17 @@ use lib.ListN.{length, get_or}
 use lib.Ieee.{Float, nan}
 use Rattle.list_laws.specs.Tabulate.{tabulate}
 use Rattle.list_laws.specs.Part.{Apart, put}
-use Rattle.list_laws.specs.Laws.Part.{apart-within, fill_run, read_apart}
+use Rattle.list_laws.proofs.Laws.Part.{apart-within, fill_run, read_apart}
 use Rattle.step_tables.specs.Step.{pattern_by}
 use Rattle.step_tables.specs.Rule.{entries, from_end, weights, alternating, forward_rule}
-use Rattle.step_tables.specs.Laws.Rules.{rule-from}
+use Rattle.step_tables.proofs.Laws.Rules.{rule-from}
 use Rattle.step_runs.specs.declared.runs.Four.{Four}
 use Rattle.step_runs.specs.Rule.{Picked}
-use Rattle.step_runs.specs.Laws.RunWeights.{second_is}
+use Rattle.step_runs.proofs.Laws.RunWeights.{second_is}
 use Rattle.step_runs.specs.AtRun.{TwoRuns}
-use Rattle.step_runs.specs.Laws.AtRun.{AtRun, run_ends}
+use Rattle.step_runs.proofs.Laws.AtRun.{AtRun, run_ends}
 use Rattle.step_runs.specs.OpposedRule.{end_weights, Opposed}
-use Rattle.step_runs.specs.Laws.Opposite.{run_is, opposite_is}
+use Rattle.step_runs.proofs.Laws.Opposite.{run_is, opposite_is}
 use Rattle.two_steps_forward.specs.Rule.{half_twice}
 use Rattle.two_steps_forward.proofs.ForwardIteration.{run_rule}
 

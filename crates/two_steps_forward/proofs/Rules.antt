@@ -4,7 +4,7 @@ use Prim.Native.Nat.{ℕ, ◌+◌, ◌*◌}
 use native.Mathlib.Omega.{arith}
 use lib.Ieee.{Float}
 use Rattle.step_tables.specs.Rule.{blend, forward_rule}
-use Rattle.step_tables.specs.Laws.Rules.{rule_even, rule-odd}
+use Rattle.step_tables.proofs.Laws.Rules.{rule_even, rule-odd}
 use Rattle.two_steps_forward.specs.Rule.{half_twice}
 
 -- what is known at place i of the weights and entries of two forward steps

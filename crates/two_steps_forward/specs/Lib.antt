@@ -1,4 +1,2 @@
 -- The rule that the contracts cite, and that two steps at once are the second of the first.
 pub mod Rule
--- and the laws of these definitions, which no reader needs to believe.
-pub mod Laws

@@ -13,7 +13,7 @@ use Rattle.plan_steps.specs.Layout.{Vertex, named, near_from, step_in, left_edge
 use Rattle.transfer_matrix.specs.Rounded.{ieee}
 use Rattle.transfer_matrix.specs.Sweep as S
 use Rattle.step_tables.specs.Step.{near_edges, left_edge, step_from, Rising, tables, Filled, Tabled}
-use Rattle.step_tables.specs.Laws.Tables.{tabled}
+use Rattle.step_tables.proofs.Laws.Tables.{tabled}
 
 pub factor-is : (r : List Float) (f e k : ℕ) → e ≡ k → get_or r (f + e) nan ≡ get_or (drop f r) k nan
 factor-is r f e k p = ap (λ (i : ℕ). get_or r (f + i) nan) p ∙ sym (get_or-drop f r k nan)

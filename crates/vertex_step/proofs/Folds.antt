@@ -4,14 +4,14 @@ use mathlib.Core.List.{List}
 use Prim.Native.Nat.{ℕ, ◌+◌, ◌*◌, ◌-◌, ◌^◌, ◌≤◌, ◌<◌, min}
 use native.Mathlib.Omega.{arith}
 use lib.Ieee.{Float}
-use Rattle.list_laws.specs.Laws.Power.{pow_double}
+use Rattle.list_laws.proofs.Laws.Power.{pow_double}
 use Rattle.list_laws.specs.Tabulate.{tabulate}
-use Rattle.list_laws.specs.Laws.Tabulate.{tabulate_ext}
+use Rattle.list_laws.proofs.Laws.Tabulate.{tabulate_ext}
 use Rattle.transfer_matrix.specs.Job.{Step}
 use Rattle.step_tables.specs.Place.{hold}
 use Rattle.half_vectors.specs.Half.{backward_half}
 use Rattle.step_backward.specs.Fold.{backward_fold}
-use Rattle.step_backward.specs.Laws.Fold.{fold_wide}
+use Rattle.step_backward.proofs.Laws.Fold.{fold_wide}
 
 -- the room r with the half h at place p
 abbrev pub half-to : List Float → ℕ → ℕ → ℕ → (ℕ → Float) → List Float

@@ -2,9 +2,9 @@ use mathlib.Core.Path.{◌≡◌, refl, sym, ap, ◌∙◌}
 use Prim.Native.Nat.{ℕ, ◌+◌}
 use native.Mathlib.Omega.{arith}
 use lib.ListN.{length}
-use Rattle.list_laws.specs.Laws.Count.{count_zero, count_hit, count_miss}
+use Rattle.list_laws.proofs.Laws.Count.{count_zero, count_hit, count_miss}
 use Rattle.forest.specs.Paths.{Edges}
-use Rattle.forest.specs.Laws.Growth.{edges-of, lowest-begun, union_takes, lower-tree, lower-labels}
+use Rattle.forest.proofs.Laws.Growth.{edges-of, lowest-begun, union_takes, lower-tree, lower-labels}
 use Rattle.components.proofs.join_ends.Goals as goal
 
 pub loop-e-init : goal.loop-e-init

@@ -2,8 +2,8 @@
 use mathlib.Core.Path.{sym, ◌∙◌}
 use native.Mathlib.Omega.{arith}
 use lib.Seq.{length-take-le}
-use Rattle.forest.specs.Laws.Components.{trees_and_components}
-use Rattle.forest.specs.Laws.Growth.{edges-of, labelled-of}
+use Rattle.forest.proofs.Laws.Components.{trees_and_components}
+use Rattle.forest.proofs.Laws.Growth.{edges-of, labelled-of}
 use Rattle.components.proofs.Words.{roots-marked}
 use Rattle.components.proofs.mark_components.Goals as goal
 

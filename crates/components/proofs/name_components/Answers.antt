@@ -2,8 +2,8 @@ use mathlib.Core.Path.{◌≡◌, sym, ◌∙◌}
 use native.Mathlib.Omega.{arith}
 use lib.Seq.{length-take-le}
 use lib.ListN.{length}
-use Rattle.forest.specs.Laws.Growth.{labels-none, union_takes, union_labels, found-label, found-keeps}
-use Rattle.union_find.specs.Laws.Filled.{filled_none, filled_more, filled_all}
+use Rattle.forest.proofs.Laws.Growth.{labels-none, union_takes, union_labels, found-label, found-keeps}
+use Rattle.union_find.proofs.Laws.Filled.{filled_none, filled_more, filled_all}
 use Rattle.components.proofs.name_components.Goals as goal
 
 pub slice_bounds-p-end : goal.slice_bounds-p-end

@@ -3,7 +3,7 @@ use Prim.Native.Nat.{◌-◌, ◌≤◌}
 use lib.ListN.{length}
 use Rattle.forest.specs.Labels.{labels}
 use Rattle.union_find.specs.Forest.{Labelled}
-use Rattle.union_find.specs.Laws.Filled.{Filled}
+use Rattle.union_find.proofs.Laws.Filled.{Filled}
 use Rattle.components.proofs.name_components.Given as goal
 
 abbrev pub invariant-loop-e : goal.invariant-loop-e

@@ -5,7 +5,7 @@ use lib.Ieee.{nan, binary64, mul}
 use lib.ListN.{length, get_or}
 use Rattle.list_laws.specs.Tabulate.{tabulate}
 use Rattle.list_laws.specs.Part.{put}
-use Rattle.list_laws.specs.Laws.Part.{fill_none, fill_one, fill_length}
+use Rattle.list_laws.proofs.Laws.Part.{fill_none, fill_one, fill_length}
 use Rattle.couplings.proofs.couple_at.Goals as goal
 
 pub loop-e-init : goal.loop-e-init

@@ -1,11 +1,11 @@
 -- Each `return` is a law of Cases.
 use mathlib.Core.Path.{◌≡◌, sym, ◌∙◌}
 use mathlib.Core.Bool.{true, false}
-use Rattle.rounding.specs.Laws.Scaled.{castable}
+use Rattle.rounding.proofs.Laws.Scaled.{castable}
 use borrow.Author.Tests.{not-true, not-false}
 use Rattle.estimate.specs.Estimates.{number, bad_count, is_in_order}
-use Rattle.estimate.specs.Laws.Counted.{few-enough}
-use Rattle.estimate.specs.Laws.Cases.{refused-count, refused-order, too_few, enough}
+use Rattle.estimate.proofs.Laws.Counted.{few-enough}
+use Rattle.estimate.proofs.Laws.Cases.{refused-count, refused-order, too_few, enough}
 use Rattle.estimate.proofs.estimate.Goals as goal
 
 pub returns-then-bad_count : goal.returns-then-bad_count

@@ -1,11 +1,11 @@
 -- Each `return` is a law of Cases.
 use mathlib.Core.Path.{◌≡◌, sym, ◌∙◌}
 use mathlib.Core.Bool.{true}
-use Rattle.rounding.specs.Laws.Scaled.{castable}
+use Rattle.rounding.proofs.Laws.Scaled.{castable}
 use borrow.Author.Tests.{not-true, not-false}
 use Rattle.estimate_complete.specs.Complete.{is_complete}
-use Rattle.estimate_complete.specs.Laws.Counted.{complete_power, few-enough}
-use Rattle.estimate_complete.specs.Laws.Cases.{refused-count, refused-order, complete}
+use Rattle.estimate_complete.proofs.Laws.Counted.{complete_power, few-enough}
+use Rattle.estimate_complete.proofs.Laws.Cases.{refused-count, refused-order, complete}
 use Rattle.estimate_complete.proofs.estimate_complete.Goals as goal
 
 pub returns-then-not-is_complete : goal.returns-then-not-is_complete

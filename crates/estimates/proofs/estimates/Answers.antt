@@ -2,8 +2,8 @@
 use mathlib.Core.Path.{sym, ◌∙◌}
 use lib.ListN.{length}
 use borrow.Author.Rules.{rules}
-use Rattle.refusals.specs.Laws.Answers.{left_alone}
-use Rattle.estimates.specs.Laws.Accepted.{fitting}
+use Rattle.refusals.proofs.Laws.Answers.{left_alone}
+use Rattle.estimates.proofs.Laws.Accepted.{fitting}
 use Rattle.estimates.proofs.estimates.Goals as goal
 
 pub refuse-refused-requires : goal.refuse-refused-requires

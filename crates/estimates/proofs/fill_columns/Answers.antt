@@ -7,7 +7,7 @@ use lib.ListN.{length, get_or, set}
 use Rattle.list_laws.specs.Tabulate.{tabulate}
 use Rattle.estimate.specs.declared.answer.Estimate.{Estimate}
 use Rattle.estimate.specs.Estimates.{mean_in, error_in}
-use Rattle.estimates.specs.Laws.Rows.{rows, no_rows, rows-length, one_more, all-rows}
+use Rattle.estimates.proofs.Laws.Rows.{rows, no_rows, rows-length, one_more, all-rows}
 use Rattle.estimates.proofs.fill_columns.Invariants.{mean_at, error_at}
 use Rattle.estimates.proofs.fill_columns.Goals as goal
 

@@ -6,7 +6,7 @@ use lib.Ieee.{Float}
 use lib.ListN.{length}
 use Rattle.estimate.specs.Estimates.{mean_in, error_in}
 use Rattle.estimates.specs.Columns.{estimate_at}
-use Rattle.estimates.specs.Laws.Rows.{rows}
+use Rattle.estimates.proofs.Laws.Rows.{rows}
 use Rattle.estimates.proofs.fill_columns.Given as goal
 
 abbrev pub mean_at : ℕ → List Float → List Float → ℕ → Float → Float

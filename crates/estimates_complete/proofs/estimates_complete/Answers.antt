@@ -1,11 +1,11 @@
 -- A refused call leaves the columns; of another the lists fit and the count is a double, and the columns are filled.
 use mathlib.Core.Path.{◌≡◌, sym, ◌∙◌}
 use lib.ListN.{length}
-use Rattle.rounding.specs.Laws.Scaled.{castable}
-use Rattle.refusals.specs.Laws.Answers.{left_alone}
-use Rattle.estimate_complete.specs.Laws.Counted.{complete_power, few-enough}
+use Rattle.rounding.proofs.Laws.Scaled.{castable}
+use Rattle.refusals.proofs.Laws.Answers.{left_alone}
+use Rattle.estimate_complete.proofs.Laws.Counted.{complete_power, few-enough}
 use Rattle.estimates_complete.specs.Columns.{refusal_of}
-use Rattle.estimates_complete.specs.Laws.Accepted.{fitting, counted}
+use Rattle.estimates_complete.proofs.Laws.Accepted.{fitting, counted}
 use Rattle.estimates_complete.proofs.estimates_complete.Goals as goal
 
 pub returns-then-refused-ne0 : goal.returns-then-refused-ne0

@@ -6,7 +6,7 @@ use lib.Ieee.{Float}
 use lib.ListN.{length, set}
 use Rattle.list_laws.specs.Tabulate.{tabulate}
 use Rattle.estimate.specs.declared.answer.MeanSpread.{MeanSpread}
-use Rattle.estimates.specs.Laws.Rows.{rows, no_rows, rows-length, one_more, all-rows}
+use Rattle.estimates.proofs.Laws.Rows.{rows, no_rows, rows-length, one_more, all-rows}
 use Rattle.estimates_complete.proofs.fill_columns.Invariants.{mean_at, error_at, spread_at}
 use Rattle.estimates_complete.proofs.fill_columns.Goals as goal
 

@@ -7,7 +7,7 @@ use lib.ListN.{length}
 use Rattle.estimate.specs.Estimates.{+0·0, mean_of}
 use Rattle.estimate_complete.specs.Complete.{spread_of}
 use Rattle.estimates.specs.Columns.{at}
-use Rattle.estimates.specs.Laws.Rows.{rows}
+use Rattle.estimates.proofs.Laws.Rows.{rows}
 use Rattle.estimates_complete.proofs.fill_columns.Given as goal
 
 -- what a row leaves, whatever stood there

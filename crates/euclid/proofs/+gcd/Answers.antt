@@ -1,5 +1,5 @@
 use Rattle.std.proofs.Common.{sym, ◌∙◌}
-use Rattle.euclid.specs.Laws.Turns.{gcd_zero, gcd-rest}
+use Rattle.euclid.proofs.Laws.Turns.{gcd_zero, gcd-rest}
 use Rattle.euclid.proofs.+gcd.Goals as goal
 
 pub returns-then-b-eq0 : goal.returns-then-b-eq0

@@ -8,7 +8,7 @@ use Rattle.refusals.specs.Answers.{answered}
 use Rattle.refusals.specs.declared.Answer.{Answer}
 use Rattle.run_record_totals.specs.Totals.{refused_totals, record_count, Totalled}
 use Rattle.c_answers.specs.Numbers.{Tells}
-use Rattle.c_answers.specs.Laws.Numbers.{told-again, told-refused}
+use Rattle.c_answers.proofs.Laws.Numbers.{told-again, told-refused}
 use Rattle.export_records.proofs.copperhook_record_totals.Goals as goal
 
 again : {bytes : List ℕ} {answer : Answer} {r count count' : ℕ} {squares squares' fourths fourths' : List Float}

@@ -1,9 +1,9 @@
 use mathlib.Core.Path.{sym, ◌∙◌}
 use native.Mathlib.Omega.{arith}
 use lib.Seq.{length-take-le}
-use Rattle.forest.specs.Laws.FreeEdges.{before-none, before-most}
-use Rattle.forest.specs.Laws.Growth.{lowest-begun, union_takes, lower-tree, lower-labels}
-use Rattle.union_find.specs.Laws.Filled.{filled_none, filled_more}
+use Rattle.forest.proofs.Laws.FreeEdges.{before-none, before-most}
+use Rattle.forest.proofs.Laws.Growth.{lowest-begun, union_takes, lower-tree, lower-labels}
+use Rattle.union_find.proofs.Laws.Filled.{filled_none, filled_more}
 use Rattle.forest.proofs.Numbers.{next_bit, next-count, all-bits, all-counted}
 use Rattle.forest.proofs.number_free_edges.Goals as goal
 

@@ -5,7 +5,7 @@ use lib.ListN.{length}
 use Rattle.forest.specs.Lowest.{lowest}
 use Rattle.forest.specs.FreeEdges.{free_before, bit_of}
 use Rattle.union_find.specs.Forest.{Labelled}
-use Rattle.union_find.specs.Laws.Filled.{Filled}
+use Rattle.union_find.proofs.Laws.Filled.{Filled}
 use Rattle.forest.proofs.number_free_edges.Given as goal
 
 abbrev pub invariant-loop-e : goal.invariant-loop-e

@@ -1,5 +1,5 @@
 -- Past the end no magnitude is dropped.
-use Rattle.refusals.specs.Laws.Dropping.{dropping-none}
+use Rattle.refusals.proofs.Laws.Dropping.{dropping-none}
 use Rattle.graph_build.proofs.check_graph.Goals as goal
 
 pub returns : goal.returns

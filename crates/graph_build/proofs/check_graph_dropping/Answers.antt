@@ -2,7 +2,7 @@
 use Rattle.graph_build.proofs.Building.{room_for, early-part, late-part, early-fits, late-fits, few, ends_low}
 use Rattle.graph_build.proofs.Building.{raw-accepted, raw-refused, twice-refused, none-refused}
 use mathlib.Core.Path.{sym, ◌∙◌}
-use Rattle.refusals.specs.Laws.Dropping.{dropping-length}
+use Rattle.refusals.proofs.Laws.Dropping.{dropping-length}
 use native.Mathlib.Omega.{arith}
 use Rattle.graph_build.proofs.check_graph_dropping.Goals as goal
 

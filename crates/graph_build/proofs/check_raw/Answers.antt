@@ -1,9 +1,9 @@
 -- The tests, one after the other.
 use Rattle.refusals.specs.Request.{Request, job_request, bad_vertices, bad_lists, bad_edges, bad_sizes}
-use Rattle.refusals.specs.Laws.Accepted.{accepted-lengths}
+use Rattle.refusals.proofs.Laws.Accepted.{accepted-lengths}
 use Rattle.refusals.specs.Edges.{dropping}
-use Rattle.refusals.specs.Laws.Dropping.{dropping-lists}
-use Rattle.refusals.specs.Laws.First.{here, past, told}
+use Rattle.refusals.proofs.Laws.Dropping.{dropping-lists}
+use Rattle.refusals.proofs.Laws.First.{here, past, told}
 use Prim.Native.Nat.{ℕ}
 use mathlib.Core.Bool.{cond}
 use mathlib.Core.Path.{◌≡◌, refl, ◌∙◌}

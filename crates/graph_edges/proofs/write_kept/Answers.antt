@@ -3,7 +3,7 @@ use mathlib.Core.Bool.{false}
 use mathlib.Core.Path.{◌≡◌}
 use lib.ListN.{length}
 use Rattle.refusals.specs.Edges.{kept}
-use Rattle.refusals.specs.Laws.First.{told}
+use Rattle.refusals.proofs.Laws.First.{told}
 use Rattle.graph_edges.specs.Graphs.{too_short}
 use Rattle.graph_edges.proofs.Setting.{holds-all, holds-places, written-short, written_all}
 use Rattle.graph_edges.proofs.write_kept.Goals as goal

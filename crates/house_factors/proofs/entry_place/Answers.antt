@@ -3,7 +3,7 @@ use mathlib.Core.Path.{sym, ap, ◌∙◌}
 use mathlib.Core.Bool.{true, false}
 use native.Mathlib.Omega.{arith}
 use Rattle.house_factors.specs.Factors.{factor_of}
-use Rattle.house_factors.specs.Laws.Entries.{entry-is}
+use Rattle.house_factors.proofs.Laws.Entries.{entry-is}
 use Rattle.house_factors.proofs.entry_place.Goals as goal
 
 pub returns-then-minus : goal.returns-then-minus

@@ -2,7 +2,7 @@ use mathlib.Core.Path.{refl, ◌∙◌}
 use native.Mathlib.Omega.{arith}
 use lib.Ieee.{nan}
 use lib.ListN.{length, get_or, length-set}
-use Rattle.list_laws.specs.Laws.Search.{none-at}
+use Rattle.list_laws.proofs.Laws.Search.{none-at}
 use Rattle.coupling_grid.specs.Grid.{off_grid}
 use Rattle.house_factors.proofs.Laying.{laid_none, laid_more, laid-all}
 use Rattle.house_factors.proofs.lay_from.Goals as goal

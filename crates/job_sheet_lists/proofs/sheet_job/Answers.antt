@@ -1,8 +1,8 @@
 -- The counts, the lists' lengths, and each list by its own loop.
 use mathlib.Core.Path.{sym, ◌∙◌}
 use native.Mathlib.Omega.{arith}
-use Rattle.job_sheet_lists.specs.Laws.Calls.{counted_is, refused-sheet, short-first, short-second, short-third, Roomy, places_fit}
-use Rattle.job_sheet_lists.specs.Laws.Calls.{load_ones, load_others, load_magnitudes, load_betas, load_firsts, load_seconds, loaded}
+use Rattle.job_sheet_lists.proofs.Laws.Calls.{counted_is, refused-sheet, short-first, short-second, short-third, Roomy, places_fit}
+use Rattle.job_sheet_lists.proofs.Laws.Calls.{load_ones, load_others, load_magnitudes, load_betas, load_firsts, load_seconds, loaded}
 use Rattle.job_sheet_lists.proofs.sheet_job.Goals as goal
 
 pub returns-then-refusal-ne0 : goal.returns-then-refusal-ne0

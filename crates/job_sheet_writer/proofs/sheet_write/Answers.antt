@@ -1,6 +1,6 @@
 -- The checks of the job, the length of the buffer, and the sheet.
 use native.Mathlib.Omega.{arith}
-use Rattle.job_sheet_writer.specs.Laws.Calls.{refused, few, too_short, room, done}
+use Rattle.job_sheet_writer.proofs.Laws.Calls.{refused, few, too_short, room, done}
 use Rattle.job_sheet_writer.proofs.sheet_write.Goals as goal
 
 pub returns-then-refusal-ne0 : goal.returns-then-refusal-ne0

@@ -1,5 +1,5 @@
 -- Each lane starts at +0.0.
-use Rattle.step_tables.specs.Laws.Constants.{zero_is}
+use Rattle.step_tables.proofs.Laws.Constants.{zero_is}
 use Rattle.largest_entry.proofs.no_entries.Goals as goal
 
 pub returns : goal.returns

@@ -1,7 +1,7 @@
 use mathlib.Core.Path.{◌≡◌, ◌∙◌}
-use Rattle.step_tables.specs.Laws.Constants.{zero_is}
-use Rattle.largest_entry.specs.Laws.Top.{top-none}
-use Rattle.largest_entry.specs.Laws.Lanes.{lane_iteration}
+use Rattle.step_tables.proofs.Laws.Constants.{zero_is}
+use Rattle.largest_entry.proofs.Laws.Top.{top-none}
+use Rattle.largest_entry.proofs.Laws.Lanes.{lane_iteration}
 use Rattle.largest_entry.proofs.LargestIteration.{largest-is}
 use native.Mathlib.Omega.{arith}
 use Rattle.largest_entry.proofs.one_lane.Goals as goal

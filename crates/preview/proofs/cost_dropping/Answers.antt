@@ -1,6 +1,6 @@
 -- A job that no check refuses has the window and the room of its kept edges, and their free edges.
-use Rattle.preview.specs.Laws.Costing.{refused-told, joined, few_fronts, costed}
-use Rattle.kept_edges.specs.Laws.Fronts.{early-part, late-part, early-fits, late-fits}
+use Rattle.preview.proofs.Laws.Costing.{refused-told, joined, few_fronts, costed}
+use Rattle.kept_edges.proofs.Laws.Fronts.{early-part, late-part, early-fits, late-fits}
 use Rattle.preview.proofs.cost_dropping.Goals as goal
 
 pub returns-then-refusal-ne0 : goal.returns-then-refusal-ne0

@@ -3,9 +3,9 @@ use mathlib.Core.Path.{◌≡◌, ◌∙◌}
 use borrow.Author.Tests.{le-leb, lt-leb}
 use Rattle.refusals.specs.Edges.{dropping}
 use Rattle.refusals.specs.Request.{job_request, bad_lists}
-use Rattle.refusals.specs.Laws.Dropping.{dropping-lists}
-use Rattle.refusals.specs.Laws.First.{told}
-use Rattle.preview.specs.Laws.Cases.{no_vertices, misfit, no_edge, an_edge}
+use Rattle.refusals.proofs.Laws.Dropping.{dropping-lists}
+use Rattle.refusals.proofs.Laws.First.{told}
+use Rattle.preview.proofs.Laws.Cases.{no_vertices, misfit, no_edge, an_edge}
 use Rattle.preview.proofs.preview.Goals as goal
 
 pub returns-then-bad_vertices : goal.returns-then-bad_vertices

@@ -1,5 +1,5 @@
 -- By the tests in turn.
-use Rattle.run_record_join.specs.Laws.Cases.{other-seed, other-samples, other-betas, other-pairs, first_ends, by_second}
+use Rattle.run_record_join.proofs.Laws.Cases.{other-seed, other-samples, other-betas, other-pairs, first_ends, by_second}
 use Rattle.run_record_join.proofs.are_apart.Goals as goal
 
 pub returns-then-g-h : goal.returns-then-g-h

@@ -4,9 +4,9 @@ use mathlib.Core.Bool.{false}
 use borrow.Author.Tests.{eq-eqb, ne_eqb, not-true, not-false}
 use Rattle.run_record.specs.declared.Head.{Head}
 use Rattle.run_record.specs.Reading.{head_of, bad_record}
-use Rattle.run_record.specs.Laws.Cases.{passed}
+use Rattle.run_record.proofs.Laws.Cases.{passed}
 use Rattle.run_record_join.specs.Joining.{apart}
-use Rattle.run_record_join.specs.Laws.Cases.{in-turn, turned, first-broken, second-broken, set_apart, one-first, two-first}
+use Rattle.run_record_join.proofs.Laws.Cases.{in-turn, turned, first-broken, second-broken, set_apart, one-first, two-first}
 use Rattle.run_record_join.proofs.record_join.Goals as goal
 
 pub returns-then-not-is_record : goal.returns-then-not-is_record

@@ -1,6 +1,6 @@
 -- By the tests in turn.
 use mathlib.Core.Path.{◌∙◌}
-use Rattle.run_record.specs.Laws.Cases.{many-betas, many-pairs, backwards, by_samples}
+use Rattle.run_record.proofs.Laws.Cases.{many-betas, many-pairs, backwards, by_samples}
 use Rattle.run_record_reader.proofs.bad_head.Goals as goal
 
 pub returns-then-h-gt-BETAS : goal.returns-then-h-gt-BETAS

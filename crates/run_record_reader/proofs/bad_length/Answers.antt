@@ -1,8 +1,8 @@
 -- No row, too few bytes, or the product, which they then hold.
 use native.Mathlib.Omega.{arith}
 use Prim.Native.Nat.{◌*◌, ◌-◌}
-use Rattle.run_record.specs.Laws.Places.{quotient-bounds}
-use Rattle.run_record.specs.Laws.Cases.{no_row, past, by_product}
+use Rattle.run_record.proofs.Laws.Places.{quotient-bounds}
+use Rattle.run_record.proofs.Laws.Cases.{no_row, past, by_product}
 use Rattle.run_record_reader.proofs.bad_length.Goals as goal
 
 pub returns-then-per-eq0 : goal.returns-then-per-eq0

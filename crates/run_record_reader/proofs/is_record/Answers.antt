@@ -9,8 +9,8 @@ use Rattle.little_endian.specs.Words.{Bytes}
 use Rattle.run_record.specs.declared.Head.{Head}
 use Rattle.run_record.specs.Records.{chunks_of, per_chunk, record_length}
 use Rattle.run_record.specs.Reading.{bad_head, bad_rows, bad_record}
-use Rattle.run_record.specs.Laws.Places.{no_rows}
-use Rattle.run_record.specs.Laws.Cases.{Good, good_head, few-rows, few-named, end_fits, too_short, no_head, head-bad, length-bad, by_rows}
+use Rattle.run_record.proofs.Laws.Places.{no_rows}
+use Rattle.run_record.proofs.Laws.Cases.{Good, good_head, few-rows, few-named, end_fits, too_short, no_head, head-bad, length-bad, by_rows}
 use mathlib.Core.Bool.{not}
 use Rattle.run_record_reader.proofs.is_record.Goals as goal
 

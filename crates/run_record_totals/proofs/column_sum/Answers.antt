@@ -2,7 +2,7 @@ use native.Mathlib.Omega.{arith}
 use mathlib.Core.Path.{◌≡◌, ap, ◌∙◌}
 use Prim.Native.Nat.{◌+◌, ◌*◌, ◌<◌}
 use Rattle.run_record_totals.specs.Totals.{column_sum}
-use Rattle.run_record_totals.specs.Laws.Columns.{column-none, column-more, row_in}
+use Rattle.run_record_totals.proofs.Laws.Columns.{column-none, column-more, row_in}
 use Rattle.run_record_totals.proofs.column_sum.Goals as goal
 
 pub loop-c-init : goal.loop-c-init

@@ -2,7 +2,7 @@ use borrow.Author.Rules.{rules}
 use native.Mathlib.Omega.{arith}
 use mathlib.Core.Path.{refl}
 use lib.ListN.{length}
-use Rattle.little_endian.specs.Laws.Loaded.{loaded_none, loaded_more, loaded_length, loaded_all}
+use Rattle.little_endian.proofs.Laws.Loaded.{loaded_none, loaded_more, loaded_length, loaded_all}
 use Rattle.run_record_totals.specs.Totals.{column_sum}
 use Rattle.run_record_totals.proofs.fill_totals.Goals as goal
 

@@ -9,9 +9,9 @@ use Rattle.refusals.specs.AcceptedTotals.{misfits}
 use Rattle.run_record.specs.declared.Head.{Head}
 use Rattle.run_record.specs.Records.{record_length, chunks_of, per_chunk}
 use Rattle.run_record.specs.Reading.{head_of, bad_record}
-use Rattle.run_record.specs.Laws.Cases.{Good, few-rows, passed}
-use Rattle.run_record_totals.specs.Laws.Columns.{rows_lie, squares_filled, fourths_filled}
-use Rattle.run_record_totals.specs.Laws.Calls.{both_fit, refused-26, refused-12, accepted}
+use Rattle.run_record.proofs.Laws.Cases.{Good, few-rows, passed}
+use Rattle.run_record_totals.proofs.Laws.Columns.{rows_lie, squares_filled, fourths_filled}
+use Rattle.run_record_totals.proofs.Laws.Calls.{both_fit, refused-26, refused-12, accepted}
 use Rattle.run_record_totals.proofs.record_totals.Goals as goal
 
 pub returns-then-not-is_record : goal.returns-then-not-is_record

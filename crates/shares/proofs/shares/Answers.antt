@@ -5,7 +5,7 @@ use Prim.Native.Nat.{◌+◌, ◌≤◌}
 use native.Mathlib.Omega.{arith}
 use lib.ListN.{length}
 use Rattle.shares.specs.Shares.{bad_entry, bad_lists, counted}
-use Rattle.shares.specs.Laws.Cases.{none-bad, refused-lists, refused-entry, accepted}
+use Rattle.shares.proofs.Laws.Cases.{none-bad, refused-lists, refused-entry, accepted}
 use Rattle.shares.proofs.shares.Goals as goal
 
 pub returns-then-bad_lists : goal.returns-then-bad_lists

@@ -2,8 +2,8 @@ use mathlib.Core.Path.{◌≡◌, refl}
 use Prim.Native.Nat.{◌+◌, ◌<◌}
 use lib.ListN.{length-set}
 use Rattle.step_tables.specs.Rule.{mix}
-use Rattle.largest_entry.specs.Laws.Lanes.{lanes_none}
-use Rattle.step_backward.specs.Laws.Ends.{ends-none}
+use Rattle.largest_entry.proofs.Laws.Lanes.{lanes_none}
+use Rattle.step_backward.proofs.Laws.Ends.{ends-none}
 use Rattle.step_backward.proofs.BackwardIteration.{run_iteration, run_lanes, run_most}
 use native.Mathlib.Omega.{arith}
 use Rattle.step_backward.proofs.backward_run.Goals as goal

@@ -3,7 +3,7 @@ use mathlib.Core.Path.{◌≡◌}
 use Prim.Native.Nat.{◌-◌, ◌%◌, ◌≤◌}
 use lib.ListN.{length}
 use Rattle.step_tables.specs.Rule.{entries, alternating, backward_rule}
-use Rattle.largest_entry.specs.Laws.Lanes.{Lanes}
+use Rattle.largest_entry.proofs.Laws.Lanes.{Lanes}
 use Rattle.step_backward.specs.Ends.{ends}
 use Rattle.step_backward.proofs.backward_run.Given as goal
 

@@ -1,10 +1,10 @@
 use mathlib.Core.Path.{◌≡◌, refl, ◌∙◌}
 use Prim.Native.Nat.{◌+◌, ◌^◌, ◌<◌}
-use Rattle.step_runs.specs.Laws.AtRun.{readable, first_run, run_size, run_even, run_ends, run_16, next_run}
-use Rattle.step_tables.specs.Laws.Constants.{zero_is}
-use Rattle.largest_entry.specs.Laws.Top.{tops_none}
+use Rattle.step_runs.proofs.Laws.AtRun.{readable, first_run, run_size, run_even, run_ends, run_16, next_run}
+use Rattle.step_tables.proofs.Laws.Constants.{zero_is}
+use Rattle.largest_entry.proofs.Laws.Top.{tops_none}
 use Rattle.step_backward.specs.Ends.{ends}
-use Rattle.step_backward.specs.Laws.Ends.{ends-none}
+use Rattle.step_backward.proofs.Laws.Ends.{ends-none}
 use Rattle.step_backward.proofs.BackwardIteration.{backward_fit, run_apart, runs_iteration, runs-most, ends-most}
 use native.Mathlib.Omega.{arith}
 use Rattle.step_backward.proofs.backward_runs.Goals as goal

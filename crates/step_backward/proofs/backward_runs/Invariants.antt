@@ -5,7 +5,7 @@ use lib.ListN.{length}
 use Rattle.list_laws.specs.Part.{Apart}
 use Rattle.step_tables.specs.Rule.{entries, weights, backward_rule}
 use Rattle.step_runs.specs.AtRun.{Runs}
-use Rattle.step_runs.specs.Laws.AtRun.{AtRun}
+use Rattle.step_runs.proofs.Laws.AtRun.{AtRun}
 use Rattle.largest_entry.specs.Larger.{larger}
 use Rattle.largest_entry.specs.Top.{top}
 use Rattle.step_backward.specs.Ends.{ends}

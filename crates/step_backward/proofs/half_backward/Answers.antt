@@ -4,9 +4,9 @@ use Prim.Native.Nat.{◌+◌, ◌*◌, ◌-◌, ◌^◌}
 use lib.Pow.{pow_pos}
 use Rattle.list_laws.specs.Part.{put}
 use Rattle.step_tables.specs.Rule.{mix}
-use Rattle.step_runs.specs.Laws.Quarter.{half_is}
-use Rattle.step_backward.specs.Laws.BackwardIs.{backward_filled, few-is}
-use Rattle.step_runs.specs.Laws.Halves.{halves-apart, short-half}
+use Rattle.step_runs.proofs.Laws.Quarter.{half_is}
+use Rattle.step_backward.proofs.Laws.BackwardIs.{backward_filled, few-is}
+use Rattle.step_runs.proofs.Laws.Halves.{halves-apart, short-half}
 use native.Mathlib.Omega.{arith}
 use Rattle.step_backward.proofs.half_backward.Goals as goal
 

@@ -1,9 +1,9 @@
 use mathlib.Core.Path.{◌≡◌, refl}
 use Prim.Native.Nat.{◌+◌, ◌<◌}
 use lib.ListN.{length-set}
-use Rattle.list_laws.specs.Laws.Part.{fill_none}
+use Rattle.list_laws.proofs.Laws.Part.{fill_none}
 use Rattle.step_tables.specs.Rule.{blend}
-use Rattle.largest_entry.specs.Laws.Lanes.{lanes_none}
+use Rattle.largest_entry.proofs.Laws.Lanes.{lanes_none}
 use Rattle.step_forward.proofs.ForwardIteration.{run_iteration, run_lanes, run_most}
 use native.Mathlib.Omega.{arith}
 use Rattle.step_forward.proofs.forward_run.Goals as goal

@@ -5,7 +5,7 @@ use lib.ListN.{length}
 use Rattle.list_laws.specs.Part.{put}
 use Rattle.list_laws.specs.Tabulate.{tabulate}
 use Rattle.step_tables.specs.Rule.{entries, from_end, alternating, forward_rule}
-use Rattle.largest_entry.specs.Laws.Lanes.{Lanes}
+use Rattle.largest_entry.proofs.Laws.Lanes.{Lanes}
 use Rattle.step_forward.proofs.forward_run.Given as goal
 
 abbrev pub invariant-loop-i : goal.invariant-loop-i

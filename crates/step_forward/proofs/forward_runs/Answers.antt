@@ -1,12 +1,12 @@
 use mathlib.Core.Path.{◌≡◌, refl, ◌∙◌}
 use Prim.Native.Nat.{◌+◌, ◌^◌, ◌<◌}
 use lib.Pow.{pow_pos}
-use Rattle.list_laws.specs.Laws.Part.{fill_none}
-use Rattle.step_runs.specs.Laws.AtRun.{readable, first_run, run_size, run_even, run_ends, run_16, next_run}
-use Rattle.step_tables.specs.Laws.Constants.{zero_is}
-use Rattle.largest_entry.specs.Laws.Top.{top-none}
+use Rattle.list_laws.proofs.Laws.Part.{fill_none}
+use Rattle.step_runs.proofs.Laws.AtRun.{readable, first_run, run_size, run_even, run_ends, run_16, next_run}
+use Rattle.step_tables.proofs.Laws.Constants.{zero_is}
+use Rattle.largest_entry.proofs.Laws.Top.{top-none}
 use Rattle.step_forward.proofs.ForwardIteration.{run_apart, runs_iteration, runs-most}
-use Rattle.largest_entry.specs.Laws.Filled.{filled_top}
+use Rattle.largest_entry.proofs.Laws.Filled.{filled_top}
 use native.Mathlib.Omega.{arith}
 use Rattle.step_forward.proofs.forward_runs.Goals as goal
 

@@ -6,7 +6,7 @@ use Rattle.list_laws.specs.Part.{Apart, put}
 use Rattle.list_laws.specs.Tabulate.{tabulate}
 use Rattle.step_tables.specs.Rule.{entries, from_end, weights, forward_rule}
 use Rattle.step_runs.specs.AtRun.{Runs}
-use Rattle.step_runs.specs.Laws.AtRun.{AtRun}
+use Rattle.step_runs.proofs.Laws.AtRun.{AtRun}
 use Rattle.largest_entry.specs.Top.{top}
 use Rattle.step_forward.proofs.forward_runs.Given as goal
 

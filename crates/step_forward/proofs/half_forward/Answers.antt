@@ -4,10 +4,10 @@ use Prim.Native.Nat.{◌+◌, ◌*◌, ◌-◌, ◌^◌}
 use lib.Pow.{pow_pos}
 use Rattle.list_laws.specs.Part.{put}
 use Rattle.step_tables.specs.Rule.{blend}
-use Rattle.step_runs.specs.Laws.Quarter.{half_is}
+use Rattle.step_runs.proofs.Laws.Quarter.{half_is}
 use Rattle.half_vectors.specs.Half.{negated_if}
-use Rattle.step_forward.specs.Laws.ForwardIs.{forward_filled, few-is}
-use Rattle.step_runs.specs.Laws.Halves.{halves-apart, short-half}
+use Rattle.step_forward.proofs.Laws.ForwardIs.{forward_filled, few-is}
+use Rattle.step_runs.proofs.Laws.Halves.{halves-apart, short-half}
 use native.Mathlib.Omega.{arith}
 use Rattle.step_forward.proofs.half_forward.Goals as goal
 

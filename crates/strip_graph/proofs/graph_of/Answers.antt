@@ -1,7 +1,7 @@
 -- The kept edges are counted by their places; then they are written out, if the lists hold them.
 use mathlib.Core.Path.{◌∙◌}
-use Rattle.graph_edges.specs.Laws.Setting.{short-set, kept_set}
-use Rattle.strip_graph.specs.Laws.Window.{window_stays}
+use Rattle.graph_edges.proofs.Laws.Setting.{short-set, kept_set}
+use Rattle.strip_graph.proofs.Laws.Window.{window_stays}
 use Rattle.strip_graph.proofs.Diluting.{few-places, places-counted}
 use Rattle.strip_graph.proofs.graph_of.Goals as goal
 

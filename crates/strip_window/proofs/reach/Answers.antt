@@ -1,6 +1,6 @@
 -- The reach, as its tests come out.
 use Rattle.strip_window.proofs.Reaching.{reach_far, reach-rising, reach-along, reach_round, reach-short}
-use Rattle.strip.specs.Laws.Sides.{sides_narrow}
+use Rattle.strip.proofs.Laws.Sides.{sides_narrow}
 use native.Mathlib.Omega.{arith}
 use Rattle.strip_window.proofs.reach.Goals as goal
 

@@ -1,10 +1,10 @@
 -- The checks in order; the window is the reach.
 use native.Mathlib.Omega.{arith}
 use mathlib.Core.Path.{refl, sym, ◌∙◌}
-use Rattle.strip.specs.Laws.Sides.{sides_passed}
-use Rattle.strip_window.specs.WindowLaw.{window-is}
-use Rattle.refusals.specs.Laws.First.{here, past, told}
-use Rattle.refusals.specs.Laws.Answers.{refused-is, number_is}
+use Rattle.strip.proofs.Laws.Sides.{sides_passed}
+use Rattle.strip_window.proofs.WindowLaw.{window-is}
+use Rattle.refusals.proofs.Laws.First.{here, past, told}
+use Rattle.refusals.proofs.Laws.Answers.{refused-is, number_is}
 use borrow.Author.Rules.{rules}
 use Rattle.strip_window.proofs.window.Goals as goal
 

@@ -5,7 +5,7 @@ use native.Mathlib.Decide.{dec_lt}
 use native.Mathlib.Omega.{arith}
 use lib.ListN.{get_or}
 use Rattle.transfer_matrix.specs.Room.{later}
-use Rattle.vertex_step.specs.Laws.Ready.{tail-factors}
+use Rattle.vertex_step.proofs.Laws.Ready.{tail-factors}
 use Rattle.sweep_places.proofs.Frames.{since-then, since-forward}
 use Rattle.sweep_backward.proofs.BackwardIteration.{begun-since, begun_invariant, begun-stands, kept-from-first, invariant_then}
 use Rattle.sweep_answering.proofs.Passings.{passed_none, passed_further, vertex-ahead, fewer, vertex-asked, passed_on}

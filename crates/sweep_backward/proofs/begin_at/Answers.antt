@@ -2,8 +2,8 @@
 use mathlib.Core.Path.{refl}
 use mathlib.Core.Logic.{inl, inr}
 use native.Mathlib.Omega.{arith}
-use Rattle.step_tables.specs.Laws.Constants.{one-is}
-use Rattle.pair_sums.specs.Laws.Stored.{stored_if}
+use Rattle.step_tables.proofs.Laws.Constants.{one-is}
+use Rattle.pair_sums.proofs.Laws.Stored.{stored_if}
 use Rattle.sweep_backward.proofs.begin_at.Goals as goal
 
 pub returns-then-t-n : goal.returns-then-t-n

@@ -3,7 +3,7 @@ use mathlib.Core.Path.{refl}
 use mathlib.Core.Logic.{inl, inr}
 use native.Mathlib.Omega.{arith}
 use Rattle.sweep_places.proofs.Frames.{place_of}
-use Rattle.pair_sums.specs.Laws.Stored.{stored_if}
+use Rattle.pair_sums.proofs.Laws.Stored.{stored_if}
 use Rattle.sweep_backward.proofs.go_on_from.Goals as goal
 
 pub returns-then-newest-c : goal.returns-then-newest-c

@@ -2,8 +2,8 @@ use mathlib.Core.Path.{◌≡◌, refl}
 use Prim.Native.Nat.{◌+◌, ◌-◌, ◌≤◌, ◌<◌}
 use native.Mathlib.Omega.{arith}
 use Rattle.plan_steps.specs.Layout.{backward_place}
-use Rattle.step_tables.specs.Laws.Constants.{one-is}
-use Rattle.pair_sums.specs.Laws.Stored.{stored_if}
+use Rattle.step_tables.proofs.Laws.Constants.{one-is}
+use Rattle.pair_sums.proofs.Laws.Stored.{stored_if}
 use Rattle.sweep_places.specs.Target.{Target}
 use Rattle.sweep_backward.proofs.BackwardIteration.{going_on, steps-inside, backward-stepping, backward-steps, backward_iteration}
 use Rattle.sweep_backward.proofs.sweep_down.Goals as goal

@@ -3,9 +3,9 @@ use Prim.Native.Nat.{◌≤◌, ◌<◌}
 use native.Mathlib.Omega.{arith}
 use lib.ListN.{length-set}
 use Rattle.plan_steps.specs.Layout.{forward_place}
-use Rattle.step_tables.specs.Laws.Constants.{one-is}
-use Rattle.pair_sums.specs.Laws.Stored.{stored_if}
-use Rattle.vertex_step.specs.Laws.Frame.{moving-fits}
+use Rattle.step_tables.proofs.Laws.Constants.{one-is}
+use Rattle.pair_sums.proofs.Laws.Stored.{stored_if}
+use Rattle.vertex_step.proofs.Laws.Frame.{moving-fits}
 use Rattle.sweep_places.specs.Target.{Target}
 use Rattle.sweep_places.proofs.Frames.{place_of, since-then}
 use Rattle.sweep_forward.proofs.ForwardIteration.{start-same, forward-start, steps-inside, forward-stepping, forward-steps, forward_iteration}

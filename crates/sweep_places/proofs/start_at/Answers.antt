@@ -2,8 +2,8 @@
 use mathlib.Core.Path.{◌≡◌, ◌∙◌}
 use Prim.Native.Nat.{ℕ, ◌-◌, ◌/◌, ◌^◌, ◌≤◌}
 use native.Mathlib.Omega.{arith}
-use Rattle.list_laws.specs.Laws.Power.{pow_double}
-use Rattle.step_tables.specs.Laws.Constants.{one-is}
+use Rattle.list_laws.proofs.Laws.Power.{pow_double}
+use Rattle.step_tables.proofs.Laws.Constants.{one-is}
 use Rattle.sweep_places.proofs.start_at.Goals as goal
 
 half : (w : ℕ) → 1 ≤ w → 2 ^ w / 2 ≡ 2 ^ (w - 1)

@@ -2,7 +2,7 @@
 use mathlib.Core.Path.{sym, ◌∙◌, subst}
 use Prim.Native.Nat.{ℕ}
 use Rattle.vertex_step.specs.Ready.{Ready}
-use Rattle.vertex_step.specs.Laws.Ready.{tail-factors}
+use Rattle.vertex_step.proofs.Laws.Ready.{tail-factors}
 use Rattle.sweeps.proofs.Arrangements.{few, passing-pairs, places_behind, both-same, passed-unsound, then-answered}
 use Rattle.sweeps.proofs.sweep_and_answer.Goals as goal
 

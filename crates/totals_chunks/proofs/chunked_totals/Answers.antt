@@ -5,11 +5,11 @@ use native.Mathlib.Omega.{arith}
 use lib.Ieee.{Float}
 use lib.ListN.{length}
 use borrow.Author.Tests.{not-true, not-false}
-use Rattle.step_tables.specs.Laws.Constants.{zero_is}
+use Rattle.step_tables.proofs.Laws.Constants.{zero_is}
 use Rattle.list_laws.specs.Search.{some}
 use Rattle.transfer_matrix.specs.Job.{Job}
-use Rattle.totals_configuration.specs.Laws.Chunked.{chunked-none, chunked-more, not_chunked}
-use Rattle.totals_configuration.specs.Laws.Lists.{filled, stage_with}
+use Rattle.totals_configuration.proofs.Laws.Chunked.{chunked-none, chunked-more, not_chunked}
+use Rattle.totals_configuration.proofs.Laws.Lists.{filled, stage_with}
 use Rattle.totals_configuration.specs.Powers.{correlation_at, unsound_betas}
 use Rattle.totals_configuration.specs.Sums.{Sums}
 use Rattle.totals_chunks.specs.Totals.{PlanOfChunks}

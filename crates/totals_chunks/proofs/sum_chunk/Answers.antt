@@ -1,7 +1,7 @@
 -- A chunk's samples, or the configurations with its numbers.
 use mathlib.Core.Path.{refl}
 use native.Mathlib.Omega.{arith}
-use Rattle.totals_configuration.specs.Laws.Lists.{stage_with, factors_with}
+use Rattle.totals_configuration.proofs.Laws.Lists.{stage_with, factors_with}
 use Rattle.totals_chunks.proofs.Adding.{drawn_plan, numbered_plan, numbers_fit}
 use Rattle.totals_chunks.proofs.sum_chunk.Goals as goal
 

@@ -4,7 +4,7 @@ use Prim.Native.Nat.{ℕ, ◌+◌, ◌-◌, ◌*◌, ◌≤◌, ◌<◌}
 use lib.ListN.{length}
 use borrow.Author.Tests.{not-true, not-false}
 use borrow.Rule.Slice.PartMut.{mid_len}
-use Rattle.totals_configuration.specs.Laws.Lists.{stage_with, factors-first, part_of}
+use Rattle.totals_configuration.proofs.Laws.Lists.{stage_with, factors-first, part_of}
 use Rattle.totals_enumerated.proofs.Ranges.{came_back, summed-none, summed-more, not_summed, summed-all}
 use native.Mathlib.Omega.{arith}
 use Rattle.totals_enumerated.proofs.enumerated_chunk.Goals as goal

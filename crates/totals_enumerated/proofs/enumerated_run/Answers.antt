@@ -3,11 +3,11 @@ use mathlib.Core.Bool.{true, false, not}
 use Prim.Native.Nat.{ℕ, ◌+◌, ◌<◌}
 use lib.Ieee.{Float}
 use borrow.Author.Tests.{not-true, not-false}
-use Rattle.step_tables.specs.Laws.Constants.{zero_is}
+use Rattle.step_tables.proofs.Laws.Constants.{zero_is}
 use Rattle.transfer_matrix.specs.Job.{Job}
 use Rattle.totals_configuration.specs.Powers.{AddedBeta}
-use Rattle.totals_configuration.specs.Laws.Sums.{passed_none, passed-more, not_passed}
-use Rattle.totals_configuration.specs.Laws.Lists.{filled, stage_with, factors_with}
+use Rattle.totals_configuration.proofs.Laws.Sums.{passed_none, passed-more, not_passed}
+use Rattle.totals_configuration.proofs.Laws.Lists.{filled, stage_with, factors_with}
 use Rattle.totals_enumerated.specs.Configurations.{PlanOfBeta}
 use Rattle.totals_enumerated.proofs.Standing.{edges_in, run_stands, signed-at}
 use native.Mathlib.Omega.{arith}

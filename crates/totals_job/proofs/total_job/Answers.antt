@@ -8,8 +8,8 @@ use Rattle.plan_steps.specs.Layout.{Holds}
 use Rattle.job_run.specs.Zeros.{zeros}
 use Rattle.totals_call.specs.Jobs.{job_in}
 use Rattle.totals_call.specs.Finished.{stepping}
-use Rattle.totals_call.specs.Laws.Signing.{chunked_plan}
-use Rattle.totals_call.specs.Laws.Staging.{enough-factors, few-sums, staged, summable, room_fits, finished, cleared-answers}
+use Rattle.totals_call.proofs.Laws.Signing.{chunked_plan}
+use Rattle.totals_call.proofs.Laws.Staging.{enough-factors, few-sums, staged, summable, room_fits, finished, cleared-answers}
 use Rattle.totals_job.proofs.total_job.Goals as goal
 
 -- ---- the lists that are made here are long enough

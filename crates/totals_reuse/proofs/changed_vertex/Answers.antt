@@ -1,4 +1,4 @@
-use Rattle.totals_reuse.specs.Laws.Settled.{edges-first, settled-more}
+use Rattle.totals_reuse.proofs.Laws.Settled.{edges-first, settled-more}
 use native.Mathlib.Omega.{arith}
 use Rattle.totals_reuse.proofs.changed_vertex.Goals as goal
 

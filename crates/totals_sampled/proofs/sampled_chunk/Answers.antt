@@ -4,9 +4,9 @@ use Prim.Native.Nat.{ℕ, ◌<◌}
 use native.Mathlib.Omega.{arith}
 use lib.ListN.{length}
 use borrow.Author.Tests.{not-true, not-false}
-use Rattle.step_tables.specs.Laws.Constants.{zero_is}
-use Rattle.totals_configuration.specs.Laws.Sums.{passed_none, passed-more, not_passed}
-use Rattle.totals_configuration.specs.Laws.Lists.{filled, stage_with, factors_with, signed_of}
+use Rattle.step_tables.proofs.Laws.Constants.{zero_is}
+use Rattle.totals_configuration.proofs.Laws.Sums.{passed_none, passed-more, not_passed}
+use Rattle.totals_configuration.proofs.Laws.Lists.{filled, stage_with, factors_with, signed_of}
 use Rattle.list_laws.specs.Tabulate.{tabulate}
 use Rattle.transfer_matrix.specs.Configuration.{drawn, words_per_sample}
 use Rattle.totals_sampled.proofs.Words.{words_none, words_more, signs_are}

@@ -5,11 +5,11 @@ use native.Mathlib.Omega.{arith}
 use lib.ListN.{length}
 use lib.Pow.{pow_mono, pow_pos}
 use borrow.Author.Tests.{not-true, not-false}
-use Rattle.list_laws.specs.Laws.Search as Search
-use Rattle.totals_configuration.specs.Laws.Lists.{stage_with, factors_with, signed_of}
-use Rattle.totals_configuration.specs.Laws.Nothing.{never, none-unsound, no_product, empty_list}
-use Rattle.totals_configuration.specs.Laws.Passing.{one-passed, one_failed}
-use Rattle.totals_stored.specs.Laws.Stored.{stored-none, stored_next, stored-all}
+use Rattle.list_laws.proofs.Laws.Search as Search
+use Rattle.totals_configuration.proofs.Laws.Lists.{stage_with, factors_with, signed_of}
+use Rattle.totals_configuration.proofs.Laws.Nothing.{never, none-unsound, no_product, empty_list}
+use Rattle.totals_configuration.proofs.Laws.Passing.{one-passed, one_failed}
+use Rattle.totals_stored.proofs.Laws.Stored.{stored-none, stored_next, stored-all}
 use Rattle.totals_stored.proofs.stored_correlations.Goals as goal
 
 pub returns-then-stored-eq0 : goal.returns-then-stored-eq0

@@ -1,6 +1,6 @@
 use mathlib.Core.Path.{◌≡◌}
 use Prim.Native.Nat.{◌-◌, ◌^◌}
-use Rattle.list_laws.specs.Laws.Search as Search
+use Rattle.list_laws.proofs.Laws.Search as Search
 use Rattle.totals_stored.specs.Keeping.{Keeping}
 use Rattle.totals_stored.proofs.stored_correlations.Given as goal
 

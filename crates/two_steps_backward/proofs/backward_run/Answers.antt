@@ -4,10 +4,10 @@ use native.Mathlib.Omega.{arith}
 use lib.ListN.{length}
 use borrow.Author.Rules.{scaled_Fits}
 use Rattle.step_tables.specs.Rule.{mix}
-use Rattle.step_runs.specs.Laws.Fours.{after_one, after_two, after-three, after-four, after_five, after_six, after_seven, same-eight}
-use Rattle.step_runs.specs.Laws.Iteration.{Iteration, iteration_of, word, less_by_two, even_next, two-more}
-use Rattle.step_runs.specs.Laws.OpposedIteration.{Last, last_of, held}
-use Rattle.two_steps_backward.specs.Laws.Inward.{inward-none}
+use Rattle.step_runs.proofs.Laws.Fours.{after_one, after_two, after-three, after-four, after_five, after_six, after_seven, same-eight}
+use Rattle.step_runs.proofs.Laws.Iteration.{Iteration, iteration_of, word, less_by_two, even_next, two-more}
+use Rattle.step_runs.proofs.Laws.OpposedIteration.{Last, last_of, held}
+use Rattle.two_steps_backward.proofs.Laws.Inward.{inward-none}
 use Rattle.two_steps_backward.proofs.BackwardIteration.{run_iteration}
 use Rattle.two_steps_backward.proofs.backward_run.Goals as goal
 

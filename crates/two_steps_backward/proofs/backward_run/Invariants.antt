@@ -2,7 +2,7 @@
 use mathlib.Core.Path.{◌≡◌}
 use Prim.Native.Nat.{◌-◌, ◌%◌, ◌≤◌}
 use lib.ListN.{length}
-use Rattle.step_runs.specs.Laws.Fours.{four}
+use Rattle.step_runs.proofs.Laws.Fours.{four}
 use Rattle.two_steps_backward.proofs.BackwardIteration.{run_list}
 use Rattle.two_steps_backward.proofs.backward_run.Given as goal
 

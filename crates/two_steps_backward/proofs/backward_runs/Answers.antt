@@ -1,9 +1,9 @@
 use mathlib.Core.Path.{◌≡◌, refl, ◌∙◌}
 use Prim.Native.Nat.{◌+◌, ◌*◌, ◌-◌, ◌^◌, ◌≤◌, ◌<◌}
 use native.Mathlib.Omega.{arith}
-use Rattle.step_runs.specs.Laws.AtRun.{readable, first_run, next_run, run_size, run_even, run_ends, second-16}
-use Rattle.step_runs.specs.Laws.Opposite.{opposed_16}
-use Rattle.two_steps_backward.specs.Laws.Inward.{inward-none}
+use Rattle.step_runs.proofs.Laws.AtRun.{readable, first_run, next_run, run_size, run_even, run_ends, second-16}
+use Rattle.step_runs.proofs.Laws.Opposite.{opposed_16}
+use Rattle.two_steps_backward.proofs.Laws.Inward.{inward-none}
 use Rattle.two_steps_backward.proofs.BackwardRuns.{run_targets, run_apart, runs_iteration}
 use Rattle.two_steps_backward.proofs.backward_runs.Goals as goal
 

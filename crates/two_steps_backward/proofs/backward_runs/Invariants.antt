@@ -4,7 +4,7 @@ use Prim.Native.Nat.{◌*◌, ◌-◌, ◌^◌}
 use lib.ListN.{length}
 use Rattle.list_laws.specs.Part.{Apart}
 use Rattle.step_runs.specs.AtRun.{TwoRuns}
-use Rattle.step_runs.specs.Laws.AtRun.{AtRun}
+use Rattle.step_runs.proofs.Laws.AtRun.{AtRun}
 use Rattle.two_steps_backward.proofs.BackwardRuns.{stepped}
 use Rattle.two_steps_backward.proofs.backward_runs.Given as goal
 

@@ -2,11 +2,11 @@
 use mathlib.Core.Path.{◌≡◌}
 use Prim.Native.Nat.{◌+◌, ◌-◌}
 use native.Mathlib.Omega.{arith}
-use Rattle.list_laws.specs.Laws.Power.{pow_double}
-use Rattle.list_laws.specs.Laws.Part.{apart-within}
-use Rattle.step_tables.specs.Laws.Place.{places-apart}
-use Rattle.step_runs.specs.Laws.Quarter.{whole_is}
-use Rattle.two_steps_backward.specs.Laws.BackwardTwice.{backward_twice_filled}
+use Rattle.list_laws.proofs.Laws.Power.{pow_double}
+use Rattle.list_laws.proofs.Laws.Part.{apart-within}
+use Rattle.step_tables.proofs.Laws.Place.{places-apart}
+use Rattle.step_runs.proofs.Laws.Quarter.{whole_is}
+use Rattle.two_steps_backward.proofs.Laws.BackwardTwice.{backward_twice_filled}
 use Rattle.two_steps_backward.proofs.half_stride_backward.Goals as goal
 
 pub overflow_mul-src : goal.overflow_mul-src

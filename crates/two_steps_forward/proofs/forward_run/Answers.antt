@@ -2,12 +2,12 @@ use mathlib.Core.Path.{◌≡◌, refl, ◌∙◌}
 use Prim.Native.Nat.{◌+◌, ◌*◌, ◌-◌, ◌^◌, ◌<◌}
 use native.Mathlib.Omega.{arith}
 use lib.ListN.{length}
-use Rattle.list_laws.specs.Laws.Part.{fill_none}
+use Rattle.list_laws.proofs.Laws.Part.{fill_none}
 use borrow.Author.Rules.{scaled_Fits}
 use Rattle.step_tables.specs.Rule.{blend}
-use Rattle.step_runs.specs.Laws.Fours.{after_one, after_two, after-three, after-four, after_five, after_six, after_seven, same-eight}
-use Rattle.step_runs.specs.Laws.OpposedIteration.{Last, last_of, held}
-use Rattle.step_runs.specs.Laws.Iteration.{Iteration, iteration_of, word, less_by_two, even_next, two-more}
+use Rattle.step_runs.proofs.Laws.Fours.{after_one, after_two, after-three, after-four, after_five, after_six, after_seven, same-eight}
+use Rattle.step_runs.proofs.Laws.OpposedIteration.{Last, last_of, held}
+use Rattle.step_runs.proofs.Laws.Iteration.{Iteration, iteration_of, word, less_by_two, even_next, two-more}
 use Rattle.two_steps_forward.proofs.ForwardIteration.{run_iteration}
 use Rattle.two_steps_forward.proofs.forward_run.Goals as goal
 

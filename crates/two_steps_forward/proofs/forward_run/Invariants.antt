@@ -4,7 +4,7 @@ use Prim.Native.Nat.{◌*◌, ◌-◌, ◌%◌, ◌≤◌}
 use lib.ListN.{length}
 use Rattle.list_laws.specs.Part.{put}
 use Rattle.list_laws.specs.Tabulate.{tabulate}
-use Rattle.step_runs.specs.Laws.Fours.{four}
+use Rattle.step_runs.proofs.Laws.Fours.{four}
 use Rattle.two_steps_forward.proofs.ForwardIteration.{run_rule}
 use Rattle.two_steps_forward.proofs.forward_run.Given as goal
 

@@ -1,9 +1,9 @@
 use mathlib.Core.Path.{◌≡◌, refl, ◌∙◌}
 use Prim.Native.Nat.{◌+◌, ◌*◌, ◌^◌, ◌≤◌, ◌<◌}
 use native.Mathlib.Omega.{arith}
-use Rattle.list_laws.specs.Laws.Part.{fill_none}
-use Rattle.step_runs.specs.Laws.AtRun.{readable, first_run, next_run, run_size, run_even, run_ends, second-16}
-use Rattle.step_runs.specs.Laws.Opposite.{opposed_16}
+use Rattle.list_laws.proofs.Laws.Part.{fill_none}
+use Rattle.step_runs.proofs.Laws.AtRun.{readable, first_run, next_run, run_size, run_even, run_ends, second-16}
+use Rattle.step_runs.proofs.Laws.Opposite.{opposed_16}
 use Rattle.two_steps_forward.proofs.ForwardRuns.{run_apart, runs_iteration}
 use Rattle.two_steps_forward.proofs.forward_runs.Goals as goal
 

@@ -5,7 +5,7 @@ use lib.ListN.{length}
 use Rattle.list_laws.specs.Part.{Apart, put}
 use Rattle.list_laws.specs.Tabulate.{tabulate}
 use Rattle.step_runs.specs.AtRun.{TwoRuns}
-use Rattle.step_runs.specs.Laws.AtRun.{AtRun}
+use Rattle.step_runs.proofs.Laws.AtRun.{AtRun}
 use Rattle.two_steps_forward.proofs.ForwardRuns.{step_rule}
 use Rattle.two_steps_forward.proofs.forward_runs.Given as goal
 

@@ -2,10 +2,10 @@
 use mathlib.Core.Path.{◌≡◌}
 use Prim.Native.Nat.{◌+◌, ◌-◌}
 use native.Mathlib.Omega.{arith}
-use Rattle.list_laws.specs.Laws.Part.{apart-within}
-use Rattle.step_tables.specs.Laws.Place.{places-apart}
-use Rattle.step_runs.specs.Laws.Quarter.{whole_is}
-use Rattle.two_steps_forward.specs.Laws.ForwardTwice.{forward_twice_filled}
+use Rattle.list_laws.proofs.Laws.Part.{apart-within}
+use Rattle.step_tables.proofs.Laws.Place.{places-apart}
+use Rattle.step_runs.proofs.Laws.Quarter.{whole_is}
+use Rattle.two_steps_forward.proofs.Laws.ForwardTwice.{forward_twice_filled}
 use Rattle.two_steps_forward.proofs.half_stride_forward.Goals as goal
 
 pub overflow_mul-src : goal.overflow_mul-src

@@ -1,6 +1,6 @@
 use mathlib.Core.Path.{refl}
 use native.Mathlib.Omega.{arith}
-use Rattle.union_find.specs.Laws.Halve.{kept_refl, shallower, parent-inside, turn, ends}
+use Rattle.union_find.proofs.Laws.Halve.{kept_refl, shallower, parent-inside, turn, ends}
 use Rattle.union_find.proofs.find.Goals as goal
 
 pub loop-x-init : goal.loop-x-init

@@ -1,7 +1,7 @@
 -- The climb keeps every root and the root of where it stands; it ends since each turn stands less deep.
 use Rattle.union_find.specs.Forest.{links}
-use Rattle.union_find.specs.Laws.Halve.{Climbing}
-use Rattle.union_find.specs.Laws.Climb.{depth}
+use Rattle.union_find.proofs.Laws.Halve.{Climbing}
+use Rattle.union_find.proofs.Laws.Climb.{depth}
 use Rattle.union_find.proofs.find.Given as goal
 
 abbrev pub invariant-loop-x : goal.invariant-loop-x

@@ -1,6 +1,6 @@
 use mathlib.Core.Path.{refl}
 use native.Mathlib.Omega.{arith}
-use Rattle.union_find.specs.Laws.Filled.{filled_none, filled_more}
+use Rattle.union_find.proofs.Laws.Filled.{filled_none, filled_more}
 use Rattle.union_find.proofs.start.Goals as goal
 
 pub loop-i-init : goal.loop-i-init

@@ -1,7 +1,7 @@
 -- The list is filled from the front, each vertex with itself.
 use Prim.Native.Nat.{◌-◌}
 use lib.ListN.{length}
-use Rattle.union_find.specs.Laws.Filled.{Filled}
+use Rattle.union_find.proofs.Laws.Filled.{Filled}
 use Rattle.union_find.proofs.start.Given as goal
 
 abbrev pub invariant-loop-i : goal.invariant-loop-i

@@ -1,5 +1,5 @@
 -- Two calls of `find`: where the roots are one, nothing is left to do, and else one is hung below the other.
-use Rattle.union_find.specs.Laws.Hang.{one_set, two_sets}
+use Rattle.union_find.proofs.Laws.Hang.{one_set, two_sets}
 use Rattle.union_find.proofs.union.Goals as goal
 
 pub returns-then-ra-rb : goal.returns-then-ra-rb

@@ -1,5 +1,5 @@
 -- Two calls of `find`: of two roots the higher is hung below the lower, and where the roots are one nothing is left to do.
-use Rattle.union_find.specs.Laws.Hang.{first-lower, other-lower, lower-one}
+use Rattle.union_find.proofs.Laws.Hang.{first-lower, other-lower, lower-one}
 use Rattle.union_find.proofs.union_lower.Goals as goal
 
 pub returns-then-x-y : goal.returns-then-x-y

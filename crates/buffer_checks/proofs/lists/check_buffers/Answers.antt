@@ -1,5 +1,5 @@
 -- The tests, one after the other.
-use Rattle.refusals.specs.Laws.First.{here, past}
+use Rattle.refusals.proofs.Laws.First.{here, past}
 use borrow.Author.Tests.{lt-ltb, le-ltb}
 use mathlib.Core.Path.{refl}
 use Rattle.buffer_checks.proofs.lists.check_buffers.Goals as goal

@@ -1,5 +1,5 @@
 -- The tests, one after the other.
-use Rattle.refusals.specs.Laws.First.{here, past, told}
+use Rattle.refusals.proofs.Laws.First.{here, past, told}
 use Rattle.buffer_checks.proofs.lists.check_lists.Goals as goal
 
 pub returns-then-bad_factors : goal.returns-then-bad_factors

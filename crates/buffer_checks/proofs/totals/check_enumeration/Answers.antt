@@ -1,6 +1,6 @@
 -- The tests, one after the other; the factors are few enough to be counted.
 use Rattle.buffer_checks.proofs.Checking.{few-factors, retold}
-use Rattle.refusals.specs.Laws.First.{here, past, told}
+use Rattle.refusals.proofs.Laws.First.{here, past, told}
 use borrow.Author.Tests.{lt-ltb, le-ltb}
 use native.Mathlib.Omega.{arith}
 use Rattle.buffer_checks.proofs.totals.check_enumeration.Goals as goal

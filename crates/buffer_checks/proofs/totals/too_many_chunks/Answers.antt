@@ -1,5 +1,5 @@
 -- No chunk or no sample, or else the quotient tells.
-use Rattle.refusals.specs.Laws.AcceptedTotals.{chunks-over, no_chunks, no_samples}
+use Rattle.refusals.proofs.Laws.AcceptedTotals.{chunks-over, no_chunks, no_samples}
 use native.Mathlib.Omega.{arith}
 use Rattle.buffer_checks.proofs.totals.too_many_chunks.Goals as goal
 

@@ -1,6 +1,6 @@
 use mathlib.Core.Path.{refl}
 use native.Mathlib.Omega.{arith}
-use Rattle.union_find.specs.Laws.Filled.{filled_none, filled_more, filled_all}
+use Rattle.union_find.proofs.Laws.Filled.{filled_none, filled_more, filled_all}
 use Rattle.components.proofs.marks.mark_roots.Goals as goal
 
 pub loop-k-init : goal.loop-k-init

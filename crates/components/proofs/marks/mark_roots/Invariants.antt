@@ -2,7 +2,7 @@
 use Prim.Native.Nat.{◌*◌, ◌-◌}
 use Rattle.forest.specs.Lowest.{bits}
 use Rattle.components.specs.Marks.{is_root}
-use Rattle.union_find.specs.Laws.Filled.{Filled}
+use Rattle.union_find.proofs.Laws.Filled.{Filled}
 use Rattle.components.proofs.marks.mark_roots.Given as goal
 
 abbrev pub invariant-loop-k : goal.invariant-loop-k

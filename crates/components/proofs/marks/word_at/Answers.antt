@@ -3,7 +3,7 @@ use mathlib.Core.Bool.{Bool, cond}
 use Prim.Native.Nat.{◌+◌, ◌-◌, ◌*◌, ◌^◌, ◌<◌}
 use native.Mathlib.Omega.{arith}
 use Rattle.components.specs.Marks.{is_root}
-use Rattle.forest.specs.Laws.Marks.{bits_none}
+use Rattle.forest.proofs.Laws.Marks.{bits_none}
 use Rattle.components.proofs.Words.{next_word, word_fits}
 use Rattle.components.proofs.marks.word_at.Goals as goal
 

@@ -1,7 +1,7 @@
 use mathlib.Core.Path.{◌≡◌, sym, ◌∙◌}
 use native.Mathlib.Omega.{arith}
 use lib.ListN.{length}
-use Rattle.kept_edges.specs.Laws.Fronts.{early-part, late-part, early-fits, late-fits}
+use Rattle.kept_edges.proofs.Laws.Fronts.{early-part, late-part, early-fits, late-fits}
 use Rattle.refusals.specs.Request.{lent}
 use Rattle.entry_correlations.proofs.Calling.{refused-early, refused-lists, accepted, refused-14, lists_of, passed-of, finished_of}
 use Rattle.entry_correlations.proofs.entry.correlations.Goals as goal

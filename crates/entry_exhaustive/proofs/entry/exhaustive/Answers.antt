@@ -10,14 +10,14 @@ use Rattle.transfer_matrix.specs.Totals.{square, fourth}
 use Rattle.transfer_matrix.specs.Room.{arranged}
 use Rattle.refusals.specs.AcceptedTotals.{misfits}
 use Rattle.refusals.specs.Request.{most_counted}
-use Rattle.kept_edges.specs.Laws.Fronts.{early-part, late-part, early-fits, late-fits}
+use Rattle.kept_edges.proofs.Laws.Fronts.{early-part, late-part, early-fits, late-fits}
 use Rattle.entry_correlations.specs.Correlations.{manner_of}
 use Rattle.totals_call.specs.Given.{Given, early, late, free, window, end, sums}
 use Rattle.totals_call.specs.Calls.{unsound_all, totals_of_all}
 use Rattle.totals_call.specs.Finished.{Passed, Finished}
-use Rattle.totals_call.specs.Laws.Refusing.{lists_of_all, all_parts}
-use Rattle.totals_call.specs.Laws.Calling.{refused-early, refused-lists, all-added, refused-14}
-use Rattle.totals_call.specs.Laws.Entering.{few-products, fits_both, front_fits, front-is, joined, all-lists, all-passed, all-numbered, all_are, free-kept, totals_kept}
+use Rattle.totals_call.proofs.Laws.Refusing.{lists_of_all, all_parts}
+use Rattle.totals_call.proofs.Laws.Calling.{refused-early, refused-lists, all-added, refused-14}
+use Rattle.totals_call.proofs.Laws.Entering.{few-products, fits_both, front_fits, front-is, joined, all-lists, all-passed, all-numbered, all_are, free-kept, totals_kept}
 use Rattle.entry_exhaustive.proofs.entry.exhaustive.Goals as goal
 
 pub returns-then-refused-ne0 : goal.returns-then-refused-ne0

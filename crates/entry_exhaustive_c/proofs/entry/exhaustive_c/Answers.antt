@@ -8,14 +8,14 @@ use lib.Seq.{length-take-le}
 use Rattle.transfer_matrix.specs.Room.{arranged}
 use Rattle.refusals.specs.AcceptedTotals.{misfits}
 use Rattle.refusals.specs.Request.{most_stored}
-use Rattle.kept_edges.specs.Laws.Fronts.{early-part, late-part, early-fits, late-fits}
+use Rattle.kept_edges.proofs.Laws.Fronts.{early-part, late-part, early-fits, late-fits}
 use Rattle.totals_call.specs.Given.{Given, early, late, free, end, sums}
 use Rattle.totals_call.specs.Jobs.{stored_count}
 use Rattle.totals_call.specs.Calls.{unsound_all, correlations_of_all, misfit_stored}
 use Rattle.totals_call.specs.Finished.{Passed, Finished}
-use Rattle.totals_call.specs.Laws.Refusing.{lists_of_all, all_parts}
-use Rattle.totals_call.specs.Laws.Calling.{refused-early, refused-lists, all-added, refused-14, once}
-use Rattle.totals_call.specs.Laws.Entering.{few-products, fits_both, front_fits, front-is, joined, stored-lists, all-passed, free-kept, stored-kept}
+use Rattle.totals_call.proofs.Laws.Refusing.{lists_of_all, all_parts}
+use Rattle.totals_call.proofs.Laws.Calling.{refused-early, refused-lists, all-added, refused-14, once}
+use Rattle.totals_call.proofs.Laws.Entering.{few-products, fits_both, front_fits, front-is, joined, stored-lists, all-passed, free-kept, stored-kept}
 use Rattle.entry_exhaustive_c.proofs.entry.exhaustive_c.Goals as goal
 
 pub returns-then-refused-ne0 : goal.returns-then-refused-ne0

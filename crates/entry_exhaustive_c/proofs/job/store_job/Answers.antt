@@ -8,8 +8,8 @@ use Rattle.plan_steps.specs.Layout.{Holds}
 use Rattle.job_run.specs.Zeros.{zeros}
 use Rattle.totals_call.specs.Jobs.{job_enumerated}
 use Rattle.totals_call.specs.Finished.{stepping}
-use Rattle.totals_call.specs.Laws.Signing.{as_long, numbered_plan}
-use Rattle.totals_call.specs.Laws.Staging.{enough-factors, staged, enumerates, room_fits, finished, cleared-stored}
+use Rattle.totals_call.proofs.Laws.Signing.{as_long, numbered_plan}
+use Rattle.totals_call.proofs.Laws.Staging.{enough-factors, staged, enumerates, room_fits, finished, cleared-stored}
 use Rattle.entry_exhaustive_c.proofs.job.store_job.Goals as goal
 
 -- ---- the lists that are made here are long enough

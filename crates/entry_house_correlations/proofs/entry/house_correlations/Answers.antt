@@ -4,7 +4,7 @@ use lib.ListN.{length}
 use lib.Seq.{length-take-le}
 use Rattle.transfer_matrix.specs.Room.{arranged}
 use Rattle.house_factors.specs.Factors.{single_factors}
-use Rattle.kept_edges.specs.Laws.Fronts.{early-part, late-part, early-fits, late-fits}
+use Rattle.kept_edges.proofs.Laws.Fronts.{early-part, late-part, early-fits, late-fits}
 use Rattle.refusals.specs.Request.{house}
 use Rattle.entry_correlations.proofs.Calling.{refused-early, refused-lists, accepted, refused-14, lists_of, finished_of}
 use Rattle.entry_house_correlations.proofs.Laying.{Housed, housed-of, job-passed}

@@ -14,16 +14,16 @@ use Rattle.refusals.specs.AcceptedTotals.{misfits}
 use Rattle.refusals.specs.Couplings.{all_couplings}
 use Rattle.refusals.specs.Edges.{kept_magnitudes}
 use Rattle.refusals.specs.Request.{house, most_counted}
-use Rattle.kept_edges.specs.Laws.Fronts.{early-part, late-part, mag_part, early-fits, late-fits, mag_fits}
+use Rattle.kept_edges.proofs.Laws.Fronts.{early-part, late-part, mag_part, early-fits, late-fits, mag_fits}
 use Rattle.entry_correlations.specs.Correlations.{manner_of}
 use Rattle.totals_call.specs.Given.{Given, early, late, free, window, end, sums}
 use Rattle.totals_call.specs.Calls.{unsound_all, totals_of_all, house_given}
 use Rattle.totals_call.specs.Finished.{Finished}
-use Rattle.totals_call.specs.Laws.Refusing.{lists_of_all_by, all_parts_by}
-use Rattle.totals_call.specs.Laws.Calling.{refused-early, refused-lists, all-added, refused-14}
-use Rattle.totals_call.specs.Laws.Entering.{few-products, fits_both, front_fits, front-is, joined, all-numbered, all_are, free-kept}
+use Rattle.totals_call.proofs.Laws.Refusing.{lists_of_all_by, all_parts_by}
+use Rattle.totals_call.proofs.Laws.Calling.{refused-early, refused-lists, all-added, refused-14}
+use Rattle.totals_call.proofs.Laws.Entering.{few-products, fits_both, front_fits, front-is, joined, all-numbered, all_are, free-kept}
 use Rattle.totals_house_betas.specs.Betas.{HousePassed}
-use Rattle.totals_house_betas.specs.Laws.Entering.{all-housed, all-house-passed, totals_housed}
+use Rattle.totals_house_betas.proofs.Laws.Entering.{all-housed, all-house-passed, totals_housed}
 use Rattle.entry_house_exhaustive.proofs.entry.house_exhaustive.Goals as goal
 
 pub returns-then-refused-ne0 : goal.returns-then-refused-ne0

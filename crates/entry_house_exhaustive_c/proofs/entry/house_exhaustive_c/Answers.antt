@@ -12,16 +12,16 @@ use Rattle.refusals.specs.AcceptedTotals.{misfits}
 use Rattle.refusals.specs.Couplings.{all_couplings}
 use Rattle.refusals.specs.Edges.{kept_magnitudes}
 use Rattle.refusals.specs.Request.{house, most_stored}
-use Rattle.kept_edges.specs.Laws.Fronts.{early-part, late-part, mag_part, early-fits, late-fits, mag_fits}
+use Rattle.kept_edges.proofs.Laws.Fronts.{early-part, late-part, mag_part, early-fits, late-fits, mag_fits}
 use Rattle.totals_call.specs.Given.{Given, early, late, free, end, sums}
 use Rattle.totals_call.specs.Jobs.{stored_count}
 use Rattle.totals_call.specs.Calls.{unsound_all, correlations_of_all, misfit_stored, house_given}
 use Rattle.totals_call.specs.Finished.{Finished}
-use Rattle.totals_call.specs.Laws.Refusing.{lists_of_all_by, all_parts_by}
-use Rattle.totals_call.specs.Laws.Calling.{refused-early, refused-lists, all-added, refused-14, once}
-use Rattle.totals_call.specs.Laws.Entering.{few-products, fits_both, front_fits, front-is, joined, free-kept}
+use Rattle.totals_call.proofs.Laws.Refusing.{lists_of_all_by, all_parts_by}
+use Rattle.totals_call.proofs.Laws.Calling.{refused-early, refused-lists, all-added, refused-14, once}
+use Rattle.totals_call.proofs.Laws.Entering.{few-products, fits_both, front_fits, front-is, joined, free-kept}
 use Rattle.totals_house_betas.specs.Betas.{HousePassed}
-use Rattle.totals_house_betas.specs.Laws.Entering.{stored-house-lists, all-house-passed, stored-housed}
+use Rattle.totals_house_betas.proofs.Laws.Entering.{stored-house-lists, all-house-passed, stored-housed}
 use Rattle.entry_house_exhaustive_c.proofs.entry.house_exhaustive_c.Goals as goal
 
 pub returns-then-refused-ne0 : goal.returns-then-refused-ne0

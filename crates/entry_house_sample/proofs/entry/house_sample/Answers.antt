@@ -9,15 +9,15 @@ use Rattle.refusals.specs.AcceptedTotals.{misfits}
 use Rattle.refusals.specs.Couplings.{all_couplings}
 use Rattle.refusals.specs.Edges.{kept_magnitudes}
 use Rattle.refusals.specs.Request.{house}
-use Rattle.kept_edges.specs.Laws.Fronts.{early-part, late-part, mag_part, early-fits, late-fits, mag_fits}
+use Rattle.kept_edges.proofs.Laws.Fronts.{early-part, late-part, mag_part, early-fits, late-fits, mag_fits}
 use Rattle.totals_chunks.specs.Totals.{drawn_chunks}
 use Rattle.totals_call.specs.Given.{Given, sums}
 use Rattle.totals_call.specs.Calls.{house_given}
-use Rattle.totals_call.specs.Laws.Refusing.{drawn_parts_by}
-use Rattle.totals_call.specs.Laws.Calling.{refused-early, refused-lists, all-added, refused-14}
-use Rattle.totals_call.specs.Laws.Entering.{few-products, fits_both, drawn-numbered}
+use Rattle.totals_call.proofs.Laws.Refusing.{drawn_parts_by}
+use Rattle.totals_call.proofs.Laws.Calling.{refused-early, refused-lists, all-added, refused-14}
+use Rattle.totals_call.proofs.Laws.Entering.{few-products, fits_both, drawn-numbered}
 use Rattle.totals_house_betas.specs.Betas.{HousePassed}
-use Rattle.totals_house_betas.specs.Laws.Entering.{drawn-housed, drawn-house-passed, totals_housed}
+use Rattle.totals_house_betas.proofs.Laws.Entering.{drawn-housed, drawn-house-passed, totals_housed}
 use Rattle.entry_house_sample.proofs.entry.house_sample.Goals as goal
 
 pub returns-then-refused-ne0 : goal.returns-then-refused-ne0

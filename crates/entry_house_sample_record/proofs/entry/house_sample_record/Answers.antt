@@ -12,19 +12,19 @@ use Rattle.refusals.specs.Couplings.{all_couplings}
 use Rattle.refusals.specs.Edges.{kept, kept_magnitudes}
 use Rattle.refusals.specs.Request.{house}
 use Rattle.plan_layout.specs.Arrangements.{arrangement_of}
-use Rattle.kept_edges.specs.Laws.Fronts.{early-part, late-part, mag_part, early-fits, late-fits, mag_fits}
+use Rattle.kept_edges.proofs.Laws.Fronts.{early-part, late-part, mag_part, early-fits, late-fits, mag_fits}
 use Rattle.entry_correlations.specs.Correlations.{manner_of}
 use Rattle.totals_call.specs.Given.{Given, early, late, window}
 use Rattle.totals_call.specs.Calls.{house_given}
 use Rattle.totals_house_betas.specs.Betas.{HousePassed}
-use Rattle.totals_call.specs.Laws.Refusing.{Parts}
+use Rattle.totals_call.proofs.Laws.Refusing.{Parts}
 use Rattle.run_record.specs.declared.Head.{Head}
 use Rattle.run_record.specs.Records.{record_length}
 use Rattle.record_checks.specs.Recording.{other_length}
 use Rattle.totals_record.specs.Written.{RecordIs}
 use Rattle.record_call.specs.Calls.{head_for, refused_recording_by}
-use Rattle.record_call.specs.Laws.Calling.{lists_of_recording, record_parts, refused-early, refused-lists, run_written, run_wiped}
-use Rattle.record_call.specs.Laws.Entering.{fits_record, house-listed, house-passed, record_housed}
+use Rattle.record_call.proofs.Laws.Calling.{lists_of_recording, record_parts, refused-early, refused-lists, run_written, run_wiped}
+use Rattle.record_call.proofs.Laws.Entering.{fits_record, house-listed, house-passed, record_housed}
 use Rattle.entry_house_sample_record.proofs.entry.house_sample_record.Goals as goal
 
 pub returns-then-refused-ne0 : goal.returns-then-refused-ne0

@@ -8,14 +8,14 @@ use Rattle.transfer_matrix.specs.Rounded.{ieee}
 use Rattle.transfer_matrix.specs.Totals.{square, fourth}
 use Rattle.transfer_matrix.specs.Room.{arranged}
 use Rattle.refusals.specs.AcceptedTotals.{misfits}
-use Rattle.kept_edges.specs.Laws.Fronts.{early-part, late-part, early-fits, late-fits}
+use Rattle.kept_edges.proofs.Laws.Fronts.{early-part, late-part, early-fits, late-fits}
 use Rattle.totals_chunks.specs.Totals.{drawn_chunks}
 use Rattle.totals_call.specs.Given.{Given, end, sums}
 use Rattle.totals_call.specs.Calls.{unsound_drawn, totals_of_drawn, refused_drawn}
 use Rattle.totals_call.specs.Finished.{Passed, Finished}
-use Rattle.totals_call.specs.Laws.Refusing.{Parts, lists_of_drawn, drawn_parts}
-use Rattle.totals_call.specs.Laws.Calling.{refused-early, refused-lists, all-added, refused-14}
-use Rattle.totals_call.specs.Laws.Entering.{few-products, fits_both, drawn-lists, drawn-passed, drawn-numbered, totals_kept}
+use Rattle.totals_call.proofs.Laws.Refusing.{Parts, lists_of_drawn, drawn_parts}
+use Rattle.totals_call.proofs.Laws.Calling.{refused-early, refused-lists, all-added, refused-14}
+use Rattle.totals_call.proofs.Laws.Entering.{few-products, fits_both, drawn-lists, drawn-passed, drawn-numbered, totals_kept}
 use Rattle.entry_sample.proofs.entry.sample.Goals as goal
 
 pub returns-then-refused-ne0 : goal.returns-then-refused-ne0

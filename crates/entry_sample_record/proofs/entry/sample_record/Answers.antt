@@ -7,18 +7,18 @@ use Rattle.transfer_matrix.specs.Room.{arranged}
 use Rattle.refusals.specs.Edges.{kept}
 use Rattle.refusals.specs.Request.{lent, signed_factors}
 use Rattle.plan_layout.specs.Arrangements.{arrangement_of}
-use Rattle.kept_edges.specs.Laws.Fronts.{early-part, late-part, early-fits, late-fits}
+use Rattle.kept_edges.proofs.Laws.Fronts.{early-part, late-part, early-fits, late-fits}
 use Rattle.entry_correlations.specs.Correlations.{manner_of}
 use Rattle.totals_call.specs.Given.{Given, early, late, window}
 use Rattle.totals_call.specs.Finished.{Passed}
-use Rattle.totals_call.specs.Laws.Refusing.{Parts}
+use Rattle.totals_call.proofs.Laws.Refusing.{Parts}
 use Rattle.run_record.specs.declared.Head.{Head}
 use Rattle.run_record.specs.Records.{record_length}
 use Rattle.record_checks.specs.Recording.{other_length}
 use Rattle.totals_record.specs.Written.{RecordIs}
 use Rattle.record_call.specs.Calls.{lent_given, head_for, refused_recording_by}
-use Rattle.record_call.specs.Laws.Calling.{lists_of_recording, record_parts, refused-early, refused-lists, run_written, run_wiped}
-use Rattle.record_call.specs.Laws.Entering.{fits_record, lent-listed, lent-passed, record_kept}
+use Rattle.record_call.proofs.Laws.Calling.{lists_of_recording, record_parts, refused-early, refused-lists, run_written, run_wiped}
+use Rattle.record_call.proofs.Laws.Entering.{fits_record, lent-listed, lent-passed, record_kept}
 use Rattle.entry_sample_record.proofs.entry.sample_record.Goals as goal
 
 pub returns-then-refused-ne0 : goal.returns-then-refused-ne0

@@ -2,8 +2,8 @@
 use Prim.Native.Nat.{◌+◌, ◌*◌}
 use native.Mathlib.Omega.{arith}
 use Rattle.accuracy.specs.Stated.{units}
-use Rattle.error_bound.specs.Laws.Margin.{counted}
-use Rattle.rounding.specs.Laws.Scaled.{times-ulp, castable}
+use Rattle.error_bound.proofs.Laws.Margin.{counted}
+use Rattle.rounding.proofs.Laws.Scaled.{times-ulp, castable}
 use Rattle.error_bound.proofs.bound.bound_of.Goals as goal
 
 pub overflow_mul-roundings-2 : goal.overflow_mul-roundings-2

@@ -1,7 +1,7 @@
 -- The machine's two comparisons.
 use native.Mathlib.Omega.{arith}
 use lib.Pow.{pow-lt}
-use Rattle.rounding.specs.Laws.Scaled.{castable}
+use Rattle.rounding.proofs.Laws.Scaled.{castable}
 use borrow.Author.Rules.{rules}
 use Rattle.error_bound.proofs.bound.inside_powers.Goals as goal
 

@@ -2,7 +2,7 @@
 use mathlib.Core.Path.{sym}
 use native.Mathlib.Omega.{arith}
 use native.Mathlib.Nat.{min-eq_left, min-eq_right}
-use Rattle.error_bound.specs.Laws.Margin.{divisor-small}
+use Rattle.error_bound.proofs.Laws.Margin.{divisor-small}
 use Rattle.error_bound.proofs.bound.most_bits.Goals as goal
 
 pub overflow_mul-bits-2 : goal.overflow_mul-bits-2

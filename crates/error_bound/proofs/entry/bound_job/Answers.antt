@@ -1,7 +1,7 @@
 -- A job that 1 to 7 pass, then its factors and the bound.
 use native.Mathlib.Omega.{arith}
-use Rattle.kept_edges.specs.Laws.Fronts.{front-early, front-late, early-part, late-part, early-fits, late-fits}
-use Rattle.error_bound.specs.Laws.Parts.{refused, answered}
+use Rattle.kept_edges.proofs.Laws.Fronts.{front-early, front-late, early-part, late-part, early-fits, late-fits}
+use Rattle.error_bound.proofs.Laws.Parts.{refused, answered}
 use Rattle.error_bound.proofs.entry.bound_job.Goals as goal
 
 pub returns-then-refused-ne0 : goal.returns-then-refused-ne0

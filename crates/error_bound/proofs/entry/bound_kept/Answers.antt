@@ -1,7 +1,7 @@
 -- The test of the factors, then the bound if they are near enough to one.
 use mathlib.Core.Path.{sym, ◌∙◌}
-use Rattle.error_bound.specs.Laws.Near.{near-four}
-use Rattle.error_bound.specs.Laws.Parts.{ten_refused, within-is, unknown-is}
+use Rattle.error_bound.proofs.Laws.Near.{near-four}
+use Rattle.error_bound.proofs.Laws.Parts.{ten_refused, within-is, unknown-is}
 use Rattle.error_bound.proofs.entry.bound_kept.Goals as goal
 
 pub returns-then-bad_factors : goal.returns-then-bad_factors

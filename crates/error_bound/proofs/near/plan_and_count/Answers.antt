@@ -1,6 +1,6 @@
 -- What the plan counts.
 use mathlib.Core.Path.{◌∙◌}
-use Rattle.error_bound.specs.Laws.Near.{most-counted}
+use Rattle.error_bound.proofs.Laws.Near.{most-counted}
 use borrow.Author.Rules.{rules}
 use Rattle.error_bound.proofs.near.plan_and_count.Goals as goal
 

@@ -8,7 +8,7 @@ use lib.Dec.{eqb}
 use lib.Pow.{pow_mono}
 use borrow.Author.Tests.{eq-eqb, ne_eqb}
 use Rattle.limits.specs.Limits.{most_counted}
-use Rattle.list_laws.specs.Laws.Search.{start, hit, miss, none}
+use Rattle.list_laws.proofs.Laws.Search.{start, hit, miss, none}
 use Rattle.estimate_complete.proofs.counts.is_complete.Goals as goal
 
 pub loop-free-init : goal.loop-free-init

@@ -2,10 +2,10 @@ use mathlib.Core.Path.{◌≡◌, sym, ap, ◌∙◌}
 use mathlib.Core.Bool.{false, not}
 use native.Mathlib.Omega.{arith}
 use lib.ListN.{length}
-use Rattle.rounding.specs.Laws.Scaled.{castable}
-use Rattle.list_laws.specs.Laws.Search.{start, hit, miss, none}
+use Rattle.rounding.proofs.Laws.Scaled.{castable}
+use Rattle.list_laws.proofs.Laws.Search.{start, hit, miss, none}
 use Rattle.estimate.specs.Estimates.{bad_count}
-use Rattle.estimate.specs.Laws.Counted.{few-enough}
+use Rattle.estimate.proofs.Laws.Counted.{few-enough}
 use Rattle.estimates.proofs.Sums.{disordered, of-count, of_places}
 use Rattle.estimates.proofs.order.bad_sums.Goals as goal
 

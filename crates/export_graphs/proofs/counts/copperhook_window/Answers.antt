@@ -1,5 +1,5 @@
 -- What the answer that was told says.
-use Rattle.c_answers.specs.Laws.Numbers.{told}
+use Rattle.c_answers.proofs.Laws.Numbers.{told}
 use borrow.Author.Rules.{rules}
 use Rattle.export_graphs.proofs.counts.copperhook_window.Goals as goal
 

@@ -1,5 +1,5 @@
 -- A call with the ends that were gathered is one with all pairs.
-use Rattle.c_pair_records.specs.Laws.Uncopied.{answered}
+use Rattle.c_pair_records.proofs.Laws.Uncopied.{answered}
 use Rattle.c_values.specs.Options.{options_numbered}
 use Rattle.export_jobs.proofs.pair_records.copperhook_correlations_of.Goals as goal
 

@@ -1,5 +1,5 @@
 -- What the job that was told says.
-use Rattle.export_sheets.specs.Laws.Told.{job-told}
+use Rattle.export_sheets.proofs.Laws.Told.{job-told}
 use Rattle.export_sheets.proofs.jobs.copperhook_sheet_job.Goals as goal
 
 pub returns : goal.returns

@@ -1,6 +1,6 @@
 -- A refused job leaves all, an accepted one none.
 use mathlib.Core.Path.{refl}
-use Rattle.export_sheets.specs.Laws.Told.{job-refused, job-accepted}
+use Rattle.export_sheets.proofs.Laws.Told.{job-refused, job-accepted}
 use Rattle.export_sheets.proofs.jobs.tell_job.Goals as goal
 
 pub returns-then-refusal-ne0 : goal.returns-then-refusal-ne0

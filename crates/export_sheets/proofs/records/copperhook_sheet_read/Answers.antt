@@ -1,6 +1,6 @@
 -- What the record that was told says.
 use native.Mathlib.Omega.{arith}
-use Rattle.export_sheets.specs.Laws.Told.{next_fits}
+use Rattle.export_sheets.proofs.Laws.Told.{next_fits}
 use Rattle.export_sheets.proofs.records.copperhook_sheet_read.Goals as goal
 
 pub tell_record-requires : goal.tell_record-requires

@@ -1,5 +1,5 @@
 -- What the length that was told says.
-use Rattle.export_sheets.specs.Laws.Told.{sheet-told}
+use Rattle.export_sheets.proofs.Laws.Told.{sheet-told}
 use Rattle.export_sheets.proofs.writes.copperhook_sheet_write.Goals as goal
 
 pub returns : goal.returns

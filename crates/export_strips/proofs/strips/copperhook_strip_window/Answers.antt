@@ -1,5 +1,5 @@
 -- What the answer that was told says, for the strip that the numbers name.
-use Rattle.c_answers.specs.Laws.Numbers.{told}
+use Rattle.c_answers.proofs.Laws.Numbers.{told}
 use borrow.Author.Rules.{rules}
 use Rattle.export_strips.proofs.strips.copperhook_strip_window.Goals as goal
 

@@ -1,7 +1,7 @@
 -- The names of the components, if the graph is accepted and the buffer fits.
 use Rattle.graph.specs.Graphs.{component_names}
 use Rattle.graph.proofs.Building.{buffers-before, buffers_here, buffers_not, kept_fronts, joined, of-kept}
-use Rattle.refusals.specs.Laws.Answers.{left_alone}
+use Rattle.refusals.proofs.Laws.Answers.{left_alone}
 use borrow.Author.Tests.{eq-eqb, ne_eqb}
 use lib.ListN.{length}
 use lib.Dec.{eqb}

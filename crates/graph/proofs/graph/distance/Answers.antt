@@ -2,7 +2,7 @@
 use Rattle.graph.proofs.Building.{pair-before, pair_here, pair_not, kept_fronts, joined, distance-kept}
 use Rattle.graph.proofs.Setting.{inside_both, refused-distance, length-distance, no_distance}
 use Rattle.distance.specs.declared.Reach.TheVariants as Reach
-use Rattle.refusals.specs.Laws.First.{told}
+use Rattle.refusals.proofs.Laws.First.{told}
 use native.Mathlib.Omega.{arith}
 use Rattle.graph.proofs.graph.distance.Goals as goal
 

@@ -1,7 +1,7 @@
 -- The measure of the kept edges, if the graph is accepted.
 use Rattle.graph.specs.Graphs.{measure_of}
 use Rattle.graph.proofs.Building.{kept_fronts, of-kept}
-use Rattle.refusals.specs.Laws.Answers.{refused-is, number_is}
+use Rattle.refusals.proofs.Laws.Answers.{refused-is, number_is}
 use native.Mathlib.Omega.{arith}
 use Rattle.graph.proofs.graph.measured.Goals as goal
 

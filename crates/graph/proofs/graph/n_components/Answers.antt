@@ -3,8 +3,8 @@ use Rattle.graph.proofs.Building.{kept_fronts, joined, of-kept}
 use Rattle.graph.proofs.Setting.{marks-alone, marks-set}
 use Rattle.forest.specs.Components.{component_count}
 use Rattle.forest.specs.Lowest.{lowest_marks}
-use Rattle.kept_edges.specs.Laws.Fronts.{kept-edges, is-accepted}
-use Rattle.refusals.specs.Laws.Answers.{refused-is, number_is}
+use Rattle.kept_edges.proofs.Laws.Fronts.{kept-edges, is-accepted}
+use Rattle.refusals.proofs.Laws.Answers.{refused-is, number_is}
 use Rattle.graph.proofs.graph.n_components.Goals as goal
 
 pub returns-then-refusal-ne0 : goal.returns-then-refusal-ne0

@@ -1,9 +1,9 @@
 -- The bits, if the graph is accepted and the buffer fits.
 use Rattle.forest.specs.FreeEdges.{bits_of}
-use Rattle.forest.specs.Laws.FreeEdges.{forest-bits}
+use Rattle.forest.proofs.Laws.FreeEdges.{forest-bits}
 use Rattle.graph.proofs.Building.{buffers-before, buffers_here, buffers_not, kept_fronts, joined, of-kept, forest-kept}
 use Rattle.refusals.specs.Edges.{kept}
-use Rattle.refusals.specs.Laws.Answers.{left_alone}
+use Rattle.refusals.proofs.Laws.Answers.{left_alone}
 use borrow.Author.Tests.{eq-eqb, ne_eqb}
 use native.Mathlib.Omega.{arith}
 use lib.ListN.{length}

@@ -3,8 +3,8 @@ use mathlib.Core.Path.{ap, ◌∙◌}
 use mathlib.Core.List.{List}
 use lib.Ieee.{Float}
 use Rattle.refusals.specs.Request.{some_oversized}
-use Rattle.refusals.specs.Laws.Dropping.{dropping-none}
-use Rattle.refusals.specs.Laws.First.{told}
+use Rattle.refusals.proofs.Laws.Dropping.{dropping-none}
+use Rattle.refusals.proofs.Laws.First.{told}
 use borrow.Author.Rules.{rules}
 use Rattle.graph_checks.proofs.lists.bad_sizes.Goals as goal
 

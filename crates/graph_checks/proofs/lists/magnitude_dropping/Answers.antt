@@ -1,5 +1,5 @@
 -- At the place itself zero, elsewhere what is there.
-use Rattle.refusals.specs.Laws.Dropping.{dropping-at, dropping_beside}
+use Rattle.refusals.proofs.Laws.Dropping.{dropping-at, dropping_beside}
 use Rattle.graph_checks.proofs.lists.magnitude_dropping.Goals as goal
 
 pub returns-then-i-dropped : goal.returns-then-i-dropped

@@ -1,4 +1,4 @@
-use Rattle.list_laws.specs.Laws.Search.{hit, none}
+use Rattle.list_laws.proofs.Laws.Search.{hit, none}
 use Rattle.graph_checks.proofs.Chaining.{finding_start, finding_more}
 use lib.ListN.{length, get_or}
 use Prim.Native.Nat.{◌<◌}

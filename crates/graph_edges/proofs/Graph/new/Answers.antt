@@ -1,8 +1,8 @@
 -- The kept edges are set out again, in the lent lists, if the graph is accepted and they hold it.
 use Rattle.graph_edges.specs.Graphs.{too_short}
-use Rattle.graph_edges.specs.Laws.Setting.{refused-set, short-set, kept_set}
-use Rattle.kept_edges.specs.Laws.Buffers.{buffers-before, buffers_here, buffers_not}
-use Rattle.kept_edges.specs.Laws.Fronts.{kept_fronts, is-accepted, of-kept}
+use Rattle.graph_edges.proofs.Laws.Setting.{refused-set, short-set, kept_set}
+use Rattle.kept_edges.proofs.Laws.Buffers.{buffers-before, buffers_here, buffers_not}
+use Rattle.kept_edges.proofs.Laws.Fronts.{kept_fronts, is-accepted, of-kept}
 use Rattle.transfer_matrix.specs.Job.{window_of}
 use Rattle.refusals.specs.Edges.{kept}
 use Rattle.refusals.specs.Request.{graph_request}

@@ -1,12 +1,12 @@
 -- The graph is set out as it is; where it is accepted, its edges are turned.
-use Rattle.kept_edges.specs.Laws.Fronts.{early-fits, late-fits}
+use Rattle.kept_edges.proofs.Laws.Fronts.{early-fits, late-fits}
 use Rattle.graph_edges.proofs.Turning.{given, refused-turned, rotated_given, kept-below}
 use Rattle.graph_edges.specs.Graphs.{too_short}
 use Rattle.list_laws.specs.Search.{some}
 use Rattle.refusals.specs.Key.{Key}
 use Rattle.refusals.specs.Request.{Request, graph_request, bad_ends}
 use Rattle.refusals.specs.Refusal.{refusal, of_graph_with_buffers}
-use Rattle.refusals.specs.Laws.First.{passed-at}
+use Rattle.refusals.proofs.Laws.First.{passed-at}
 use Rattle.refusals.specs.Edges.{kept}
 use mathlib.Core.Bool.{false}
 use mathlib.Core.Path.{◌≡◌, refl}

@@ -3,7 +3,7 @@ use mathlib.Core.Bool.{false}
 use Prim.Native.Nat.{ℕ, ◌≤◌, ◌<◌}
 use native.Mathlib.Decide.{ℕ_discrete}
 use native.Mathlib.Omega.{arith}
-use Rattle.refusals.specs.Laws.Couplings.{good_rows, bad-row}
+use Rattle.refusals.proofs.Laws.Couplings.{good_rows, bad-row}
 use Rattle.house_checks.proofs.couplings.bad_products.Goals as goal
 
 pub loop-b-init : goal.loop-b-init

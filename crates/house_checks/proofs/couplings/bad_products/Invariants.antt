@@ -4,7 +4,7 @@ use mathlib.Core.Bool.{false}
 use Prim.Native.Nat.{ℕ, ◌-◌, ◌≤◌, ◌<◌}
 use lib.ListN.{length}
 use Rattle.list_laws.specs.Search.{some}
-use Rattle.refusals.specs.Laws.Couplings.{off_of}
+use Rattle.refusals.proofs.Laws.Couplings.{off_of}
 use Rattle.house_checks.proofs.couplings.bad_products.Given as goal
 
 abbrev pub invariant-loop-b : goal.invariant-loop-b

@@ -1,5 +1,5 @@
 -- The tests, one after the other.
-use Rattle.refusals.specs.Laws.First.{here, past, told}
+use Rattle.refusals.proofs.Laws.First.{here, past, told}
 use borrow.Author.Rules.{rules}
 use Rattle.house_checks.proofs.lists.check_house_lists.Goals as goal
 

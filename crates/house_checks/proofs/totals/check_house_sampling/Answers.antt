@@ -1,5 +1,5 @@
 -- The tests, one after the other.
-use Rattle.refusals.specs.Laws.First.{here, past, told}
+use Rattle.refusals.proofs.Laws.First.{here, past, told}
 use Rattle.buffer_checks.proofs.Checking.{retold}
 use Rattle.house_checks.proofs.totals.check_house_sampling.Goals as goal
 

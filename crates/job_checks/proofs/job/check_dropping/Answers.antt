@@ -1,6 +1,6 @@
 -- The checks of the graph and the betas, and of its kept edges at the fronts of the lists.
 use Rattle.job_checks.proofs.Checking.{job-refused, graph-accepted}
-use Rattle.kept_edges.specs.Laws.Fronts.{is-accepted, kept_fronts}
+use Rattle.kept_edges.proofs.Laws.Fronts.{is-accepted, kept_fronts}
 use mathlib.Core.Path.{sym}
 use Rattle.job_checks.proofs.job.check_dropping.Goals as goal
 

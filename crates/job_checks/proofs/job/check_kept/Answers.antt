@@ -1,6 +1,6 @@
 -- The tests, one after the other, at the window that was found.
 use Rattle.job_checks.proofs.Checking.{edges-of, kept-refused, kept-passed}
-use Rattle.refusals.specs.Laws.First.{here, past, told}
+use Rattle.refusals.proofs.Laws.First.{here, past, told}
 use Rattle.limits.specs.Limits.{most_window}
 use borrow.Author.Tests.{lt-ltb, le-ltb}
 use mathlib.Core.Path.{refl}

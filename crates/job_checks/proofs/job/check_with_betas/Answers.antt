@@ -1,5 +1,5 @@
 -- Past the end no magnitude is dropped.
-use Rattle.refusals.specs.Laws.Dropping.{dropping-none}
+use Rattle.refusals.proofs.Laws.Dropping.{dropping-none}
 use Rattle.job_checks.proofs.job.check_with_betas.Goals as goal
 
 pub returns : goal.returns

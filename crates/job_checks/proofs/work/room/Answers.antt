@@ -1,5 +1,5 @@
 -- A job that no check refuses has the room of its window and its kept edges.
-use Rattle.refusals.specs.Laws.Answers.{refused-is}
+use Rattle.refusals.proofs.Laws.Answers.{refused-is}
 use Rattle.job_checks.proofs.Checking.{room-answered}
 use Rattle.job_checks.proofs.work.room.Goals as goal
 

@@ -5,7 +5,7 @@ use native.Mathlib.Omega.{arith}
 use lib.Seq.{length-take-le}
 use Rattle.vertex_step.specs.Ready.{Ready}
 use Rattle.plan_steps.specs.Layout.{Holds}
-use Rattle.pair_correlations.specs.Laws.Planning.{end_fits, ready, serves}
+use Rattle.pair_correlations.proofs.Laws.Planning.{end_fits, ready, serves}
 use Rattle.job_run.proofs.Finishing.{factors_fit, finished}
 use Rattle.job_run.proofs.job.answer_job.Goals as goal
 

@@ -1,5 +1,5 @@
 use mathlib.Core.Path.{refl}
-use Rattle.step_tables.specs.Laws.Constants.{zero_is}
+use Rattle.step_tables.proofs.Laws.Constants.{zero_is}
 use Rattle.job_run.proofs.Lists.{all-zeros}
 use borrow.Author.Rules.{rules}
 use Rattle.job_run.proofs.planned.clear.Goals as goal

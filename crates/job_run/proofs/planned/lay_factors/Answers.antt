@@ -3,7 +3,7 @@ use Prim.Native.Nat.{◌+◌, ◌<◌}
 use native.Mathlib.Omega.{arith}
 use lib.Ieee.{nan}
 use lib.ListN.{length, get_or}
-use Rattle.list_laws.specs.Laws.Part.{fill_none, fill_one, fill_length}
+use Rattle.list_laws.proofs.Laws.Part.{fill_none, fill_one, fill_length}
 use Rattle.job_run.proofs.Lists.{entries_are}
 use Rattle.job_run.proofs.planned.lay_factors.Goals as goal
 

@@ -1,7 +1,7 @@
 use mathlib.Core.Path.{sym, ◌∙◌}
 use native.Mathlib.Omega.{arith}
-use Rattle.job_sheet.specs.Laws.Records.{accepted, accepted-within}
-use Rattle.job_sheet.specs.Laws.Counts.{reached-start, stopped_refused, stopped_end, next-reached, next_less}
+use Rattle.job_sheet.proofs.Laws.Records.{accepted, accepted-within}
+use Rattle.job_sheet.proofs.Laws.Counts.{reached-start, stopped_refused, stopped_end, next-reached, next_less}
 use Rattle.job_sheet.proofs.counts.count_records.Goals as goal
 
 pub loop-at-init : goal.loop-at-init

@@ -1,7 +1,7 @@
 -- The reading has reached a place from which it tells what the whole tells.
 use Prim.Native.Nat.{◌-◌}
 use lib.ListN.{length}
-use Rattle.job_sheet.specs.Laws.Counts.{Reached}
+use Rattle.job_sheet.proofs.Laws.Counts.{Reached}
 use Rattle.job_sheet.proofs.counts.count_records.Given as goal
 
 abbrev pub invariant-loop-at : goal.invariant-loop-at

@@ -1,7 +1,7 @@
 -- The parts one after another; no count is above the place.
 use native.Mathlib.Omega.{arith}
-use Rattle.job_sheet.specs.Laws.Records.{length-positive}
-use Rattle.job_sheet.specs.Laws.Counts.{behind-is}
+use Rattle.job_sheet.proofs.Laws.Records.{length-positive}
+use Rattle.job_sheet.proofs.Laws.Counts.{behind-is}
 use Rattle.job_sheet.proofs.counts.read_on.Goals as goal
 
 pub count_kind-requires : goal.count_kind-requires

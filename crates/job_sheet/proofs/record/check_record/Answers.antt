@@ -2,7 +2,7 @@
 use mathlib.Core.Path.{sym, ◌∙◌}
 use native.Mathlib.Omega.{arith}
 use borrow.Author.Tests.{not-true, not-false}
-use Rattle.job_sheet.specs.Laws.Records.{missing, out_of_order, cut_short, has_body, has_tail, has_end}
+use Rattle.job_sheet.proofs.Laws.Records.{missing, out_of_order, cut_short, has_body, has_tail, has_end}
 use Rattle.job_sheet.proofs.record.check_record.Goals as goal
 
 pub returns-then-sheet-place : goal.returns-then-sheet-place

@@ -1,7 +1,7 @@
 -- The refusal, or the record, which is whole.
 use mathlib.Core.Path.{sym, ◌∙◌}
 use native.Mathlib.Omega.{arith}
-use Rattle.job_sheet.specs.Laws.Records.{answer-refused, answer_read, accepted, accepted-within}
+use Rattle.job_sheet.proofs.Laws.Records.{answer-refused, answer_read, accepted, accepted-within}
 use Rattle.job_sheet.proofs.record.read_record.Goals as goal
 
 pub returns-then-refusal-ne0 : goal.returns-then-refusal-ne0

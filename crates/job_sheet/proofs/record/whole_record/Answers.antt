@@ -2,7 +2,7 @@
 use mathlib.Core.Path.{ap, ◌∙◌}
 use native.Mathlib.Omega.{arith}
 use Rattle.job_sheet.specs.Records.{record_length}
-use Rattle.job_sheet.specs.Laws.Records.{length-1, length-2, length-3, length-4, record_1, record_2, record_3, record_4, record_5}
+use Rattle.job_sheet.proofs.Laws.Records.{length-1, length-2, length-3, length-4, record_1, record_2, record_3, record_4, record_5}
 use Rattle.job_sheet.proofs.record.whole_record.Goals as goal
 
 pub number_at-requires : goal.number_at-requires

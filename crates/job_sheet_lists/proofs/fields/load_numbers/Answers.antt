@@ -4,7 +4,7 @@ use native.Mathlib.Omega.{arith}
 use Rattle.list_laws.specs.Front.{over}
 use Rattle.list_laws.specs.Tabulate.{tabulate}
 use Rattle.little_endian.specs.Words.{word_at}
-use Rattle.little_endian.specs.Laws.Loaded.{loaded_none, loaded_more, loaded_length}
+use Rattle.little_endian.proofs.Laws.Loaded.{loaded_none, loaded_more, loaded_length}
 use Rattle.job_sheet_lists.proofs.fields.load_numbers.Goals as goal
 
 pub loop-i-init : goal.loop-i-init

@@ -1,7 +1,7 @@
 -- The kind and its field.
 use native.Mathlib.Omega.{arith}
 use lib.ListN.{length-set}
-use Rattle.job_sheet_put.specs.Laws.Records.{one_field}
+use Rattle.job_sheet_put.proofs.Laws.Records.{one_field}
 use Rattle.job_sheet_put.proofs.record.put_beta.Goals as goal
 
 pub put_word-requires : goal.put_word-requires

@@ -1,7 +1,7 @@
 -- The kind and its three fields.
 use native.Mathlib.Omega.{arith}
 use lib.ListN.{length-set}
-use Rattle.job_sheet_put.specs.Laws.Records.{one_field, two_fields, edge_fields}
+use Rattle.job_sheet_put.proofs.Laws.Records.{one_field, two_fields, edge_fields}
 use Rattle.job_sheet_put.proofs.record.put_edge.Goals as goal
 
 pub put_word-requires : goal.put_word-requires

@@ -4,8 +4,8 @@ use native.Mathlib.Omega.{arith}
 use lib.ListN.{length}
 use Rattle.little_endian.specs.Rows.{rows}
 use Rattle.job_sheet_put.specs.Behind.{Appended, raw_edge}
-use Rattle.job_sheet_put.specs.Laws.Behind.{no_rows}
-use Rattle.job_sheet_put.specs.Laws.Rows.{edge_row}
+use Rattle.job_sheet_put.proofs.Laws.Behind.{no_rows}
+use Rattle.job_sheet_put.proofs.Laws.Rows.{edge_row}
 use Rattle.job_sheet_put.proofs.rows.put_edges.Goals as goal
 
 pub loop-i-init : goal.loop-i-init

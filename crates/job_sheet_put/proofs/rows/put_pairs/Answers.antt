@@ -4,8 +4,8 @@ use native.Mathlib.Omega.{arith}
 use lib.ListN.{length}
 use Rattle.little_endian.specs.Rows.{rows}
 use Rattle.job_sheet_put.specs.Behind.{Appended, raw_pair}
-use Rattle.job_sheet_put.specs.Laws.Behind.{no_rows}
-use Rattle.job_sheet_put.specs.Laws.Rows.{pair_row}
+use Rattle.job_sheet_put.proofs.Laws.Behind.{no_rows}
+use Rattle.job_sheet_put.proofs.Laws.Rows.{pair_row}
 use Rattle.job_sheet_put.proofs.rows.put_pairs.Goals as goal
 
 pub loop-i-init : goal.loop-i-init

@@ -1,5 +1,5 @@
 -- The parts of a sheet, one behind another.
-use Rattle.job_sheet_put.specs.Laws.Rows.{sheet-over, sheet_appended}
+use Rattle.job_sheet_put.proofs.Laws.Rows.{sheet-over, sheet_appended}
 use Rattle.job_sheet_put.proofs.sheet.put_sheet.Goals as goal
 
 pub shape_of-sheet : goal.shape_of-sheet

@@ -1,5 +1,5 @@
 -- Past the end no magnitude is dropped.
-use Rattle.refusals.specs.Laws.Dropping.{dropping-none}
+use Rattle.refusals.proofs.Laws.Dropping.{dropping-none}
 use Rattle.kept_edges.proofs.keep.keep.Goals as goal
 
 pub keep_dropping-requires : goal.keep_dropping-requires

@@ -1,6 +1,6 @@
 use Rattle.transfer_matrix.specs.Job.{longest}
 use Rattle.list_laws.specs.Most as M
-use Rattle.list_laws.specs.Laws.Most.{most-more, most_zero}
+use Rattle.list_laws.proofs.Laws.Most.{most-more, most_zero}
 use lib.ListN.{length}
 use mathlib.Core.Path.{◌≡◌, sym}
 use native.Mathlib.Omega.{arith}

@@ -6,7 +6,7 @@ use native.Mathlib.Omega.{arith}
 use mathlib.Core.List.{List}
 use lib.ListN.{length, set}
 use Rattle.list_laws.specs.Part.{put}
-use Rattle.list_laws.specs.Laws.Part.{fill_none, fill_one, fill_length}
+use Rattle.list_laws.proofs.Laws.Part.{fill_none, fill_one, fill_length}
 use Rattle.little_endian.specs.Words.{bytes_of}
 use Rattle.little_endian.proofs.words.put_word.Invariants.{Written}
 use Rattle.little_endian.proofs.words.put_word.Goals as goal

@@ -5,7 +5,7 @@ use native.Mathlib.Omega.{arith}
 use mathlib.Core.List.{List}
 use lib.ListN.{length, get_or}
 use Rattle.little_endian.specs.Words.{Bytes, word_at}
-use Rattle.little_endian.specs.Laws.Words.{word-at-none, word-at-more, word-at-below}
+use Rattle.little_endian.proofs.Laws.Words.{word-at-none, word-at-more, word-at-below}
 use Rattle.little_endian.proofs.words.word_at.Goals as goal
 
 -- one byte more

@@ -1,7 +1,7 @@
 use mathlib.Core.Path.{refl, sym, ◌∙◌}
 use native.Mathlib.Omega.{arith}
 use borrow.Author.Tests.{not-true, not-false}
-use Rattle.vertex_step.specs.Laws.Ready.{still-ready}
+use Rattle.vertex_step.proofs.Laws.Ready.{still-ready}
 use Rattle.pair_correlations.proofs.Answering.{answering_none, all-answered, still-next, two-unsound, two-more, second_of_pairing}
 use Rattle.pair_correlations.proofs.pairs.answer_pairs.Goals as goal
 

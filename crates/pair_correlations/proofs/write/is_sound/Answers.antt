@@ -2,7 +2,7 @@
 use mathlib.Core.Path.{◌≡◌, refl}
 use mathlib.Core.Bool.{false}
 use lib.Ieee.{inf, binary64, div, of_bits, of_fields, odd}
-use Rattle.step_tables.specs.Laws.Constants.{zero_is}
+use Rattle.step_tables.proofs.Laws.Constants.{zero_is}
 use Rattle.pair_correlations.specs.Sound.{soundly}
 use Rattle.pair_correlations.proofs.write.is_sound.Goals as goal
 

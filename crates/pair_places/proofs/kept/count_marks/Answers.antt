@@ -3,7 +3,7 @@ use mathlib.Core.Bool.{false}
 use Prim.Native.Nat.{ℕ, ◌+◌}
 use native.Mathlib.Omega.{arith}
 use lib.ListN.{get_or}
-use Rattle.list_laws.specs.Laws.Count.{count_zero, count_hit, count_miss, count_most}
+use Rattle.list_laws.proofs.Laws.Count.{count_zero, count_hit, count_miss, count_most}
 use Rattle.pair_places.proofs.kept.count_marks.Goals as goal
 use Rattle.pair_places.proofs.kept.count_marks.Goals.{then-marks-t, else-marks-t}
 

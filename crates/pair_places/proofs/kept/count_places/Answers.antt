@@ -2,8 +2,8 @@
 use mathlib.Core.Bool.{false}
 use native.Mathlib.Omega.{arith}
 use lib.ListN.{get_or}
-use Rattle.list_laws.specs.Laws.Count.{count_most}
-use Rattle.pair_places.specs.Laws.Places.{pairs_wider}
+use Rattle.list_laws.proofs.Laws.Count.{count_most}
+use Rattle.pair_places.proofs.Laws.Places.{pairs_wider}
 use Rattle.pair_places.proofs.Numbers.{marks-count}
 use Rattle.pair_places.proofs.Marks.{unmarked}
 use Rattle.pair_places.proofs.kept.count_places.Goals as goal

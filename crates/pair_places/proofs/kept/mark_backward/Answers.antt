@@ -2,7 +2,7 @@ use mathlib.Core.Path.{◌≡◌, refl, ◌∙◌}
 use Prim.Native.Nat.{◌<◌}
 use native.Mathlib.Omega.{arith}
 use lib.ListN.{length}
-use Rattle.pair_places.specs.Laws.Places.{later-inside}
+use Rattle.pair_places.proofs.Laws.Places.{later-inside}
 use Rattle.pair_places.proofs.Marks.{backward_iteration, backward-end, asked-start}
 use Rattle.pair_places.proofs.kept.mark_backward.Goals as goal
 

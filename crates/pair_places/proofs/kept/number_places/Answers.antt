@@ -2,7 +2,7 @@ use mathlib.Core.Path.{◌≡◌, refl, ◌∙◌}
 use mathlib.Core.Bool.{false}
 use native.Mathlib.Omega.{arith}
 use lib.ListN.{get_or}
-use Rattle.list_laws.specs.Laws.Count.{count_most}
+use Rattle.list_laws.proofs.Laws.Count.{count_most}
 use Rattle.pair_places.proofs.Numbers.{numbered-start, numbered_iteration}
 use Rattle.pair_places.proofs.kept.number_places.Goals as goal
 

@@ -1,8 +1,8 @@
 use mathlib.Core.Path.{◌≡◌}
 use Prim.Native.Nat.{◌+◌, ◌-◌, ◌^◌, ◌≤◌}
 use native.Mathlib.Omega.{arith}
-use Rattle.step_tables.specs.Laws.Constants.{zero_is}
-use Rattle.list_laws.specs.Laws.Power.{pow_double, pow_even}
+use Rattle.step_tables.proofs.Laws.Constants.{zero_is}
+use Rattle.list_laws.proofs.Laws.Power.{pow_double, pow_even}
 use Rattle.pair_sums.proofs.Way.{summed-none, less_within}
 use Rattle.pair_sums.proofs.alone.alone_there_and_back.Goals as goal
 

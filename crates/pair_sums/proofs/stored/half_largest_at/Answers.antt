@@ -1,7 +1,7 @@
 -- The entries of the place's first half.
 use mathlib.Core.Path.{ap, ◌∙◌}
 use native.Mathlib.Omega.{arith}
-use Rattle.list_laws.specs.Laws.Power.{pow_double}
+use Rattle.list_laws.proofs.Laws.Power.{pow_double}
 use Rattle.transfer_matrix.specs.Rounded.{ieee}
 use Rattle.transfer_matrix.specs.Sweep as S
 use Rattle.pair_sums.proofs.Entries.{part-entries}

@@ -1,5 +1,5 @@
 -- By cases on whether it is due.
-use Rattle.step_tables.specs.Laws.Constants.{one-is}
+use Rattle.step_tables.proofs.Laws.Constants.{one-is}
 use Rattle.pair_sums.specs.Stored.{most_if}
 use Rattle.pair_sums.proofs.stored.half_stored.Goals as goal
 

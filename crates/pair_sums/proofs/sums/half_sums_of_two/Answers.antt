@@ -2,7 +2,7 @@
 use Prim.Native.Nat.{◌-◌, ◌^◌, ◌≤◌}
 use native.Mathlib.Omega.{arith}
 use lib.Pow.{pow_pos}
-use Rattle.list_laws.specs.Laws.Power.{pow_double}
+use Rattle.list_laws.proofs.Laws.Power.{pow_double}
 use Rattle.pair_sums.proofs.Way.{begun-within, begun-sums}
 use Rattle.pair_sums.proofs.sums.half_sums_of_two.Goals as goal
 

@@ -1,9 +1,9 @@
 -- Steps, places, layout; the places leave the steps as they are.
 use native.Mathlib.Omega.{arith}
 use Rattle.transfer_matrix.specs.Room.{arranged}
-use Rattle.plan_steps.specs.Laws.Edges.{steps-keep}
-use Rattle.plan_layout.specs.Laws.Work.{room-is}
-use Rattle.pair_places.specs.Laws.Places.{places-most}
+use Rattle.plan_steps.proofs.Laws.Edges.{steps-keep}
+use Rattle.plan_layout.proofs.Laws.Work.{room-is}
+use Rattle.pair_places.proofs.Laws.Places.{places-most}
 use Rattle.plan_layout.proofs.work.make_plan.Goals as goal
 
 pub work_of-requires : goal.work_of-requires

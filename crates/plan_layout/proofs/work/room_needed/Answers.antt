@@ -1,8 +1,8 @@
 -- The end of the layout is the room of the definition.
 use native.Mathlib.Omega.{arith}
 use Rattle.transfer_matrix.specs.Room.{arranged}
-use Rattle.plan_layout.specs.Laws.Work.{room-is}
-use Rattle.pair_places.specs.Laws.Places.{places-most}
+use Rattle.plan_layout.proofs.Laws.Work.{room-is}
+use Rattle.pair_places.proofs.Laws.Places.{places-most}
 use Rattle.plan_layout.proofs.work.room_needed.Goals as goal
 
 pub work_of-work-requires : goal.work_of-work-requires

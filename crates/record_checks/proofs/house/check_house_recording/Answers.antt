@@ -1,7 +1,7 @@
 -- The tests, one after the other.
-use Rattle.refusals.specs.Laws.First.{here, past, told}
+use Rattle.refusals.proofs.Laws.First.{here, past, told}
 use Rattle.buffer_checks.proofs.Checking.{retold}
-use Rattle.record_checks.specs.Laws.Parts.{ordered_by}
+use Rattle.record_checks.proofs.Laws.Parts.{ordered_by}
 use Rattle.record_checks.proofs.house.check_house_recording.Goals as goal
 
 pub returns-then-bad_products : goal.returns-then-bad_products

@@ -1,8 +1,8 @@
 -- The tests, one after the other.
 use native.Mathlib.Omega.{arith}
-use Rattle.refusals.specs.Laws.First.{here, past, told}
+use Rattle.refusals.proofs.Laws.First.{here, past, told}
 use Rattle.buffer_checks.proofs.Checking.{few-factors, retold}
-use Rattle.record_checks.specs.Laws.Parts.{ordered_by}
+use Rattle.record_checks.proofs.Laws.Parts.{ordered_by}
 use Rattle.record_checks.proofs.lists.check_recording.Goals as goal
 
 pub overflow_mul-head : goal.overflow_mul-head

@@ -1,7 +1,7 @@
 -- Too short for a head, no rows, a row that is cut, or else the quotient tells.
 use Prim.Native.Nat.{◌*◌, ◌<◌}
 use native.Mathlib.Omega.{arith}
-use Rattle.record_checks.specs.Laws.Lengths.{few_bytes, too_short, no_rows_other, cut_row, other-count}
+use Rattle.record_checks.proofs.Laws.Lengths.{few_bytes, too_short, no_rows_other, cut_row, other-count}
 use Rattle.record_checks.proofs.range.other_length.Goals as goal
 
 pub returns-then-size-lt32 : goal.returns-then-size-lt32

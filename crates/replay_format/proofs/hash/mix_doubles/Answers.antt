@@ -1,6 +1,6 @@
 use Rattle.std.proofs.Common.{◌≡◌, length, get_or, arith}
 use lib.Ieee.{binary64, to_bits, nan}
-use Rattle.replay_format.specs.Laws.Words.{mixed-none, mixed-more}
+use Rattle.replay_format.proofs.Laws.Words.{mixed-none, mixed-more}
 use Rattle.replay_format.proofs.hash.mix_doubles.Goals as goal
 
 pub loop-i-init : goal.loop-i-init

@@ -1,5 +1,5 @@
 use Rattle.std.proofs.Common.{◌≡◌, length, get_or, refl, arith}
-use Rattle.replay_format.specs.Laws.Words.{mixed-none, mixed-more}
+use Rattle.replay_format.proofs.Laws.Words.{mixed-none, mixed-more}
 use Rattle.replay_format.proofs.hash.mix_numbers.Goals as goal
 
 pub loop-i-init : goal.loop-i-init

@@ -1,7 +1,7 @@
 use Rattle.std.proofs.Common.{◌≡◌, eqb, length, get_or, ap, ◌∙◌, ap₂, arith}
 use lib.Ieee.{binary64, to_bits, nan}
 use Rattle.replay_format.specs.Words.{word_at, place_at}
-use Rattle.replay_format.specs.Laws.Words.{every-none, every_more}
+use Rattle.replay_format.proofs.Laws.Words.{every-none, every_more}
 use Rattle.replay_format.proofs.words.are_stored.Goals as goal
 
 pub loop-i-init : goal.loop-i-init

@@ -1,6 +1,6 @@
 use Rattle.std.proofs.Common.{refl, ap, ◌∙◌, arith}
 use Rattle.replay_format.specs.Words.{word_at, place_at}
-use Rattle.little_endian.specs.Laws.Loaded.{loaded_none, loaded_more, loaded_length, loaded_all}
+use Rattle.little_endian.proofs.Laws.Loaded.{loaded_none, loaded_more, loaded_length, loaded_all}
 use Rattle.replay_format.proofs.words.load_numbers.Goals as goal
 
 pub loop-i-init : goal.loop-i-init

@@ -1,8 +1,8 @@
 -- The product by 2 ^ -53 is one rounding of the quotient, which is exact.
 use Rattle.std.proofs.Common.{◌/◌, ◌^◌, ap, arith, rules}
-use Rattle.rounding.specs.Laws.Scaled.{times-ulp, castable}
+use Rattle.rounding.proofs.Laws.Scaled.{times-ulp, castable}
 use Rattle.rng.specs.Uniform.{unit}
-use Rattle.rng.specs.Laws.Uniform.{unit-exact, top_lt}
+use Rattle.rng.proofs.Laws.Uniform.{unit-exact, top_lt}
 use Rattle.rng.proofs.Rng.uniform.Goals as goal
 
 pub next_u64-drawn-requires : goal.next_u64-drawn-requires

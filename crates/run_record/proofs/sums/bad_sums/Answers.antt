@@ -1,7 +1,7 @@
 -- -0.0 by its pattern, then the order.
 use native.Mathlib.Omega.{arith}
-use Rattle.rounding.specs.Laws.Scaled.{castable}
-use Rattle.run_record.specs.Laws.Sums.{minus-squares, minus-fourths, ordered_or_bad}
+use Rattle.rounding.proofs.Laws.Scaled.{castable}
+use Rattle.run_record.proofs.Laws.Sums.{minus-squares, minus-fourths, ordered_or_bad}
 use Rattle.run_record.proofs.sums.bad_sums.Goals as goal
 
 pub returns-then-squares-eq-MINUS_ZERO : goal.returns-then-squares-eq-MINUS_ZERO

@@ -5,8 +5,8 @@ use Prim.Native.Nat.{ℕ, ◌+◌, ◌-◌}
 use lib.ListN.{length, get_or, set}
 use Rattle.list_laws.specs.Part.{put}
 use Rattle.list_laws.specs.Tabulate.{tabulate}
-use Rattle.list_laws.specs.Laws.Part.{fill_none, fill_one, fill_length}
-use Rattle.run_record_join.specs.Laws.Copying.{copied}
+use Rattle.list_laws.proofs.Laws.Part.{fill_none, fill_one, fill_length}
+use Rattle.run_record_join.proofs.Laws.Copying.{copied}
 use Rattle.run_record_join.proofs.turns.copy_behind.Goals as goal
 
 pub loop-i-init : goal.loop-i-init

@@ -7,10 +7,10 @@ use lib.ListN.{length}
 use Rattle.refusals.specs.Request.{too_many_chunks}
 use Rattle.run_record.specs.declared.Head.{Head}
 use Rattle.run_record.specs.Reading.{head_of}
-use Rattle.run_record.specs.Laws.Cases.{passed}
+use Rattle.run_record.proofs.Laws.Cases.{passed}
 use Rattle.run_record_join.specs.Turns.{written}
-use Rattle.run_record_join.specs.Laws.Copying.{joined_length, written_is}
-use Rattle.run_record_join.specs.Laws.Cases.{many-of, over-11, misfit-12, fits-0}
+use Rattle.run_record_join.proofs.Laws.Copying.{joined_length, written_is}
+use Rattle.run_record_join.proofs.Laws.Cases.{many-of, over-11, misfit-12, fits-0}
 use Rattle.run_record_join.proofs.turns.join_in_turn.Goals as goal
 
 pub head_of-g-requires : goal.head_of-g-requires

@@ -1,6 +1,6 @@
 -- Three puts, one after another.
 use native.Mathlib.Omega.{arith}
-use Rattle.run_record_join.specs.Laws.Copying.{written_by}
+use Rattle.run_record_join.proofs.Laws.Copying.{written_by}
 use Rattle.run_record_join.proofs.turns.write_both.Goals as goal
 
 pub copy_behind-requires : goal.copy_behind-requires

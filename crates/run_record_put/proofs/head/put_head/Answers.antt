@@ -3,7 +3,7 @@ use mathlib.Core.List.{◌∷◌, ◌++◌}
 use native.Mathlib.Omega.{arith}
 use lib.ListN.{length-set}
 use Rattle.little_endian.specs.Words.{bytes_of}
-use Rattle.run_record_put.specs.Laws.Fields.{Fields, field_first, field_more}
+use Rattle.run_record_put.proofs.Laws.Fields.{Fields, field_first, field_more}
 use Rattle.run_record_put.proofs.head.put_head.Goals as goal
 
 pub put_word-requires : goal.put_word-requires

@@ -4,7 +4,7 @@ use Prim.Native.Nat.{◌+◌}
 use native.Mathlib.Omega.{arith}
 use lib.ListN.{length-set}
 use Rattle.little_endian.specs.Words.{bytes_of}
-use Rattle.run_record_put.specs.Laws.Fields.{Fields, field_first, field_more, row-sums}
+use Rattle.run_record_put.proofs.Laws.Fields.{Fields, field_first, field_more, row-sums}
 use Rattle.run_record_put.proofs.row.put_row.Goals as goal
 
 pub put_word-requires : goal.put_word-requires

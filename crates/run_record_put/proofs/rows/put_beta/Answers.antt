@@ -2,9 +2,9 @@ use mathlib.Core.Path.{◌≡◌, subst}
 use Prim.Native.Nat.{ℕ}
 use native.Mathlib.Omega.{arith}
 use Rattle.job_sheet_put.specs.Behind.{Appended}
-use Rattle.job_sheet_put.specs.Laws.Behind.{no_rows}
+use Rattle.job_sheet_put.proofs.Laws.Behind.{no_rows}
 use Rattle.run_record_put.specs.Listed.{listed_beta}
-use Rattle.run_record_put.specs.Laws.Rows.{row_more}
+use Rattle.run_record_put.proofs.Laws.Rows.{row_more}
 use Rattle.run_record_put.proofs.rows.put_beta.Goals as goal
 
 pub loop-p-init : goal.loop-p-init

@@ -3,11 +3,11 @@ use Prim.Native.Nat.{ℕ, ◌+◌, ◌*◌, ◌≤◌}
 use native.Mathlib.Omega.{arith}
 use lib.ListN.{length}
 use Rattle.job_sheet_put.specs.Behind.{Appended}
-use Rattle.job_sheet_put.specs.Laws.Behind.{no_rows}
+use Rattle.job_sheet_put.proofs.Laws.Behind.{no_rows}
 use Rattle.run_record.specs.Records.{per_chunk, chunks_of}
 use Rattle.run_record.specs.Reading.{row_place}
 use Rattle.run_record_put.specs.Listed.{listed_chunk}
-use Rattle.run_record_put.specs.Laws.Rows.{first_betas, beta-more, beta-inside, chunk_inside}
+use Rattle.run_record_put.proofs.Laws.Rows.{first_betas, beta-more, beta-inside, chunk_inside}
 use Rattle.run_record_put.proofs.rows.put_chunk.Goals as goal
 
 pub overflow_mul-place : goal.overflow_mul-place

@@ -1,7 +1,7 @@
 -- The rows of the first b betas are written.
 use Prim.Native.Nat.{◌-◌, ◌≤◌}
 use Rattle.job_sheet_put.specs.Behind.{Appended}
-use Rattle.run_record_put.specs.Laws.Rows.{first_betas}
+use Rattle.run_record_put.proofs.Laws.Rows.{first_betas}
 use Rattle.run_record_put.proofs.rows.put_chunk.Given as goal
 
 abbrev pub invariant-loop-b : goal.invariant-loop-b

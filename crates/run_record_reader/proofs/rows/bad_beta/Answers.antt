@@ -1,9 +1,9 @@
 use native.Mathlib.Omega.{arith}
 use mathlib.Core.Bool.{false}
 use Prim.Native.Nat.{◌+◌, ◌*◌, ◌<◌}
-use Rattle.list_laws.specs.Laws.Search.{start, hit, miss, none}
+use Rattle.list_laws.proofs.Laws.Search.{start, hit, miss, none}
 use Rattle.run_record.specs.Reading.{bad_pair}
-use Rattle.run_record.specs.Laws.Places.{row_inside}
+use Rattle.run_record.proofs.Laws.Places.{row_inside}
 use Rattle.run_record_reader.proofs.rows.bad_beta.Goals as goal
 
 pub loop-p-init : goal.loop-p-init

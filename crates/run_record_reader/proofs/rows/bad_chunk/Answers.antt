@@ -1,6 +1,6 @@
 use native.Mathlib.Omega.{arith}
 use mathlib.Core.Bool.{false}
-use Rattle.list_laws.specs.Laws.Search.{start, hit, miss, none}
+use Rattle.list_laws.proofs.Laws.Search.{start, hit, miss, none}
 use Rattle.run_record.specs.Reading.{bad_beta}
 use Rattle.run_record_reader.proofs.rows.bad_chunk.Goals as goal
 

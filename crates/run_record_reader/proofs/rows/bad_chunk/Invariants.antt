@@ -3,7 +3,7 @@ use mathlib.Core.Path.{◌≡◌}
 use mathlib.Core.Bool.{false}
 use Prim.Native.Nat.{◌-◌, ◌≤◌}
 use Rattle.list_laws.specs.Search.{some}
-use Rattle.list_laws.specs.Laws.Search.{start}
+use Rattle.list_laws.proofs.Laws.Search.{start}
 use Rattle.run_record.specs.Reading.{bad_beta}
 use Rattle.run_record_reader.proofs.rows.bad_chunk.Given as goal
 

@@ -2,7 +2,7 @@ use native.Mathlib.Omega.{arith}
 use mathlib.Core.Bool.{false}
 use Prim.Native.Nat.{◌+◌, ◌*◌, ◌≤◌}
 use native.Mathlib.Nat.{mul-le-mul_right}
-use Rattle.list_laws.specs.Laws.Search.{start, hit, miss, none}
+use Rattle.list_laws.proofs.Laws.Search.{start, hit, miss, none}
 use Rattle.run_record.specs.Reading.{bad_chunk}
 use Rattle.run_record_reader.proofs.rows.bad_chunks.Goals as goal
 

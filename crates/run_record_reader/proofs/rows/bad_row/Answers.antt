@@ -1,5 +1,5 @@
 -- By the tests in turn.
-use Rattle.run_record.specs.Laws.Cases.{other-kind, other_chunk, other-beta, other-pair, by_sums}
+use Rattle.run_record.proofs.Laws.Cases.{other-kind, other_chunk, other-beta, other-pair, by_sums}
 use Rattle.run_record_reader.proofs.rows.bad_row.Goals as goal
 
 pub returns-then-word_at-ne18 : goal.returns-then-word_at-ne18

@@ -7,7 +7,7 @@ use lib.ListN.{length}
 use borrow.Author.Rules.{rules}
 use Rattle.list_laws.specs.Count.{count}
 use Rattle.shares.specs.Shares.{at, is_above, is_below, is_half, bad_entry}
-use Rattle.shares.specs.Laws.Counting.{count_turn, turn_most}
+use Rattle.shares.proofs.Laws.Counting.{count_turn, turn_most}
 use Rattle.shares.proofs.entries.count_kinds.Goals as goal
 
 -- what a test adds: 1 where its function answers true

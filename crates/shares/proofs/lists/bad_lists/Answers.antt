@@ -6,9 +6,9 @@ use lib.ListN.{length, get_or}
 use borrow.Author.Rules.{rules}
 use borrow.Author.Tests.{eq-eqb, ne_eqb, lt-ltb, le-ltb}
 use Rattle.list_laws.specs.Search.{some}
-use Rattle.list_laws.specs.Laws.Search.{start, some_at, miss}
+use Rattle.list_laws.proofs.Laws.Search.{start, some_at, miss}
 use Rattle.shares.specs.Shares.{most_lists, most_entries, bad_length, start_of}
-use Rattle.shares.specs.Laws.Lists.{start_zero, start_turn, good_length}
+use Rattle.shares.proofs.Laws.Lists.{start_zero, start_turn, good_length}
 use Rattle.shares.proofs.lists.bad_lists.Goals as goal
 
 pub returns-then-lengths-eq0 : goal.returns-then-lengths-eq0

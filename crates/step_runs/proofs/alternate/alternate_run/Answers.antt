@@ -1,7 +1,7 @@
 use mathlib.Core.Path.{◌≡◌, refl}
 use Prim.Native.Nat.{◌+◌, ◌<◌}
 use lib.ListN.{length-set}
-use Rattle.list_laws.specs.Laws.Part.{fill_none}
+use Rattle.list_laws.proofs.Laws.Part.{fill_none}
 use Rattle.step_runs.proofs.AlternateIteration.{alternate_iteration}
 use native.Mathlib.Omega.{arith}
 use Rattle.step_runs.proofs.alternate.alternate_run.Goals as goal

@@ -2,8 +2,8 @@
 use mathlib.Core.Path.{◌≡◌}
 use Prim.Native.Nat.{◌-◌, ◌^◌}
 use lib.Pow.{pow_pos}
-use Rattle.list_laws.specs.Laws.Power.{pow_even}
-use Rattle.step_runs.specs.Laws.Halves.{halves-apart}
+use Rattle.list_laws.proofs.Laws.Power.{pow_even}
+use Rattle.step_runs.proofs.Laws.Halves.{halves-apart}
 use Rattle.step_runs.proofs.AlternateIteration.{alternate-one}
 use native.Mathlib.Omega.{arith}
 use Rattle.step_runs.proofs.alternate.half_alternate.Goals as goal

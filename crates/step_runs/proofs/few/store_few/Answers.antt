@@ -1,11 +1,11 @@
 -- A store is an entry more.
 use mathlib.Core.Path.{◌≡◌, ap, ◌∙◌}
 use lib.ListN.{length-set}
-use Rattle.step_tables.specs.Laws.Constants.{zero_is}
+use Rattle.step_tables.proofs.Laws.Constants.{zero_is}
 use Rattle.step_tables.specs.Rule.{alternating}
 use Rattle.largest_entry.specs.Larger.{larger}
 use Rattle.step_runs.proofs.FewIteration.{few-one, few-two, most-one, most-two}
-use Rattle.largest_entry.specs.Laws.Filled.{filled_top}
+use Rattle.largest_entry.proofs.Laws.Filled.{filled_top}
 use native.Mathlib.Omega.{arith}
 use Rattle.step_runs.proofs.few.store_few.Goals as goal
 

@@ -1,7 +1,7 @@
 use mathlib.Core.Path.{◌≡◌}
 use mathlib.Core.Logic.{inl, inr}
 use native.Mathlib.Omega.{arith}
-use Rattle.step_runs.specs.Laws.Patterns.{sparse-none, sparse-more}
+use Rattle.step_runs.proofs.Laws.Patterns.{sparse-none, sparse-more}
 use Rattle.step_runs.proofs.runs.run_bit.Goals as goal
 
 pub loop-i-init : goal.loop-i-init

@@ -3,7 +3,7 @@ use mathlib.Core.Path.{◌≡◌}
 use Prim.Native.Nat.{◌+◌, ◌-◌}
 use native.Mathlib.Omega.{arith}
 use borrow.Author.Rules.{rules}
-use Rattle.step_runs.specs.Laws.Patterns.{sparse_less}
+use Rattle.step_runs.proofs.Laws.Patterns.{sparse_less}
 use Rattle.step_runs.proofs.runs.runs_of.Goals as goal
 
 pub run_bit-e-requires : goal.run_bit-e-requires

@@ -1,5 +1,5 @@
 -- The powers and the pattern, one by one.
-use Rattle.step_runs.specs.Laws.AtRun.{readable}
+use Rattle.step_runs.proofs.Laws.AtRun.{readable}
 use borrow.Author.Rules.{rules}
 use Rattle.step_runs.proofs.runs.step_runs.Goals as goal
 

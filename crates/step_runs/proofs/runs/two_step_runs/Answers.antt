@@ -1,7 +1,7 @@
 -- The powers and the patterns, one by one.
 use native.Mathlib.Omega.{arith}
-use Rattle.list_laws.specs.Laws.Power.{pow_double}
-use Rattle.step_runs.specs.Laws.AtRun.{readable}
+use Rattle.list_laws.proofs.Laws.Power.{pow_double}
+use Rattle.step_runs.proofs.Laws.AtRun.{readable}
 use Rattle.step_runs.proofs.runs.two_step_runs.Goals as goal
 
 pub pattern_of-one-requires : goal.pattern_of-one-requires

@@ -2,7 +2,7 @@ use mathlib.Core.Path.{◌≡◌, refl}
 use Prim.Native.Nat.{◌+◌, ◌<◌}
 use native.Mathlib.Omega.{arith}
 use lib.ListN.{length, length-set}
-use Rattle.list_laws.specs.Laws.Part.{fill_none, fill_one}
+use Rattle.list_laws.proofs.Laws.Part.{fill_none, fill_one}
 use Rattle.step_tables.proofs.entries.fill.Goals as goal
 
 pub loop-i-init : goal.loop-i-init

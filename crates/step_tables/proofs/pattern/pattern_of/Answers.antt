@@ -4,7 +4,7 @@ use Prim.Native.Nat.{ℕ, suc, ◌+◌, ◌*◌, ◌-◌, ◌/◌, ◌%◌, ◌^
 use native.Mathlib.Omega.{arith}
 use lib.ListN.{get_or}
 use Rattle.step_tables.specs.Step.{pattern_from}
-use Rattle.step_tables.specs.Laws.Pattern.{pattern-16}
+use Rattle.step_tables.proofs.Laws.Pattern.{pattern-16}
 use Rattle.step_tables.proofs.pattern.pattern_of.Goals as goal
 
 -- one bit more below

@@ -2,13 +2,13 @@
 use Rattle.strip_bonds.specs.Edges.{edges}
 use native.Mathlib.Omega.{arith}
 use native.Mathlib.Nat.{le_trans}
-use Rattle.strip.specs.Laws.Sides.{sides_passed}
-use Rattle.strip_edges.specs.Laws.Listing.{short-passed}
+use Rattle.strip.proofs.Laws.Sides.{sides_passed}
+use Rattle.strip_edges.proofs.Laws.Listing.{short-passed}
 use Rattle.strip_dilution.proofs.Calls.{diluted_15, diluted_16, diluted_17, diluted_12, diluted_0}
 use Rattle.strip_dilution.proofs.Drawing.{drawn-over}
 use Rattle.strip_dilution.specs.Diluted.{dilution}
 use Rattle.refusals.specs.declared.Answer.TheVariants.{Number}
-use Rattle.refusals.specs.Laws.First.{told}
+use Rattle.refusals.proofs.Laws.First.{told}
 use mathlib.Core.Path.{refl, ap}
 use Rattle.strip_dilution.proofs.dilute.diluted.Goals as goal
 

@@ -1,7 +1,7 @@
 use mathlib.Core.Path.{◌≡◌, sym}
 use Prim.Native.Nat.{◌*◌}
-use Rattle.strip.specs.Laws.Sides.{site}
-use Rattle.strip_bonds.specs.Laws.Sites.{no_edges, count-more}
+use Rattle.strip.proofs.Laws.Sides.{site}
+use Rattle.strip_bonds.proofs.Laws.Sites.{no_edges, count-more}
 use native.Mathlib.Omega.{arith}
 use Rattle.strip_edges.proofs.listing.count_edges.Goals as goal
 

@@ -1,6 +1,6 @@
 use Rattle.strip_edges.proofs.Writing.{none_written, site_room, sites-sized, all-written}
-use Rattle.strip.specs.Laws.Sides.{site}
-use Rattle.strip_bonds.specs.Laws.Sites.{edges_more}
+use Rattle.strip.proofs.Laws.Sides.{site}
+use Rattle.strip_bonds.proofs.Laws.Sites.{edges_more}
 use native.Mathlib.Omega.{arith}
 use Rattle.strip_edges.proofs.listing.write_edges.Goals as goal
 

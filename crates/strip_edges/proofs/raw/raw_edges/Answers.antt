@@ -1,9 +1,9 @@
 -- The checks in order; then the list is written.
-use Rattle.strip.specs.Laws.Sides.{sides_passed}
-use Rattle.strip_edges.specs.Laws.Listing.{short-passed}
+use Rattle.strip.proofs.Laws.Sides.{sides_passed}
+use Rattle.strip_edges.proofs.Laws.Listing.{short-passed}
 use Rattle.strip_edges.proofs.Calls.{raw-15, raw-16, raw-12, raw-0}
 use Rattle.refusals.specs.declared.Answer.TheVariants.{Number}
-use Rattle.refusals.specs.Laws.First.{told}
+use Rattle.refusals.proofs.Laws.First.{told}
 use mathlib.Core.Path.{refl, ap}
 use Rattle.strip_edges.proofs.raw.raw_edges.Goals as goal
 

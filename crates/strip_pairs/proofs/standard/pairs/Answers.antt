@@ -1,8 +1,8 @@
 -- The checks in order; then the pairs are written.
-use Rattle.strip.specs.Laws.Sides.{sides_passed}
+use Rattle.strip.proofs.Laws.Sides.{sides_passed}
 use Rattle.strip_pairs.proofs.Calls.{pairs-15, pairs-12, pairs-0, pairs-room}
 use Rattle.refusals.specs.declared.Answer.TheVariants.{Number}
-use Rattle.refusals.specs.Laws.First.{told}
+use Rattle.refusals.proofs.Laws.First.{told}
 use mathlib.Core.Path.{refl, ap}
 use Rattle.strip_pairs.proofs.standard.pairs.Goals as goal
 

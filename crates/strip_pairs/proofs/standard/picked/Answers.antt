@@ -1,7 +1,7 @@
 -- The candidate is taken where its test holds; its vertices then are small.
 use native.Mathlib.Omega.{arith}
 use mathlib.Core.Path.{refl}
-use Rattle.strip.specs.Laws.Sides.{sides_narrow, sides_short}
+use Rattle.strip.proofs.Laws.Sides.{sides_narrow, sides_short}
 use Rattle.strip_pairs.proofs.Pairing.{taken-low, pick_taken, pick_omitted}
 use Rattle.strip_pairs.proofs.standard.picked.Goals as goal
 

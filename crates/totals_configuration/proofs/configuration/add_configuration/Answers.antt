@@ -3,7 +3,7 @@ use mathlib.Core.Bool.{true, false}
 use Prim.Native.Nat.{ℕ, ◌<◌}
 use native.Mathlib.Omega.{arith}
 use lib.ListN.{length}
-use Rattle.totals_configuration.specs.Laws.Lists.{factors-first, part_of}
+use Rattle.totals_configuration.proofs.Laws.Lists.{factors-first, part_of}
 use Rattle.totals_configuration.proofs.Staging.{stage_keep}
 use Rattle.totals_configuration.proofs.Betas.{none_yet, some-unsound, beta-more, all-betas}
 use Rattle.totals_configuration.proofs.configuration.add_configuration.Goals as goal

@@ -2,7 +2,7 @@ use mathlib.Core.Path.{sym, ap, ◌∙◌, subst}
 use Prim.Native.Nat.{ℕ, ◌+◌}
 use native.Mathlib.Omega.{arith}
 use lib.ListN.{length}
-use Rattle.list_laws.specs.Laws.Tabulate.{tabulate-length}
+use Rattle.list_laws.proofs.Laws.Tabulate.{tabulate-length}
 use Rattle.vertex_step.specs.Ready.{Ready}
 use Rattle.totals_signs.specs.Signed.{factors_in_use}
 use Rattle.totals_configuration.proofs.Staging.{outcome_of}

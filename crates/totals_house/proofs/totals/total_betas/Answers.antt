@@ -7,11 +7,11 @@ use lib.Ieee.{Float}
 use lib.ListN.{length}
 use borrow.Author.Tests.{not-true, not-false}
 use borrow.Rule.Slice.PartMut.{mid_len}
-use Rattle.totals_configuration.specs.Laws.Lists.{stage_with, part_of}
+use Rattle.totals_configuration.proofs.Laws.Lists.{stage_with, part_of}
 use Rattle.totals_chunks.specs.Totals.{PlanOfChunks}
 use Rattle.totals_enumerated.proofs.Ranges.{came_back}
 use Rattle.totals_house_betas.specs.Betas.{alone}
-use Rattle.totals_house_betas.specs.Laws.Summed.{factors-of-one, summed-none, summed-more, summed-all, not_summed}
+use Rattle.totals_house_betas.proofs.Laws.Summed.{factors-of-one, summed-none, summed-more, summed-all, not_summed}
 use Rattle.totals_house.proofs.totals.total_betas.Goals as goal
 
 pub loop-b-init : goal.loop-b-init

@@ -1,7 +1,7 @@
 -- Each iteration lays the factors of a beta and sums it in its own part of the lists.
 use Prim.Native.Nat.{◌-◌}
 use lib.ListN.{length}
-use Rattle.totals_house_betas.specs.Laws.Summed.{BetasDone}
+use Rattle.totals_house_betas.proofs.Laws.Summed.{BetasDone}
 use Rattle.totals_house.proofs.totals.total_betas.Given as goal
 
 abbrev pub invariant-loop-b : goal.invariant-loop-b

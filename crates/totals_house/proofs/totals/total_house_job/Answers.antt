@@ -10,8 +10,8 @@ use Rattle.refusals.specs.Couplings.{all_couplings}
 use Rattle.job_run.specs.Zeros.{zeros}
 use Rattle.totals_call.specs.Jobs.{job_in}
 use Rattle.totals_call.specs.Finished.{stepping}
-use Rattle.totals_call.specs.Laws.Staging.{staged, summable, room_fits, finished, cleared-answers}
-use Rattle.totals_house_betas.specs.Laws.Planning.{of-one-beta, chunks_plan}
+use Rattle.totals_call.proofs.Laws.Staging.{staged, summable, room_fits, finished, cleared-answers}
+use Rattle.totals_house_betas.proofs.Laws.Planning.{of-one-beta, chunks_plan}
 use Rattle.totals_house.proofs.totals.total_house_job.Goals as goal
 
 -- ---- the lists that are made here are long enough

@@ -2,8 +2,8 @@ use mathlib.Core.Path.{◌≡◌, ap, ◌∙◌}
 use Prim.Native.Nat.{◌*◌}
 use native.Mathlib.Omega.{arith}
 use lib.ListN.{length, length-set}
-use Rattle.totals_house_betas.specs.Laws.Filling.{laid-length, laid_more, laid-all}
-use Rattle.list_laws.specs.Laws.Part.{fill_none}
+use Rattle.totals_house_betas.proofs.Laws.Filling.{laid-length, laid_more, laid-all}
+use Rattle.list_laws.proofs.Laws.Part.{fill_none}
 use Rattle.totals_house_betas.proofs.factors.lay_beta.Goals as goal
 
 pub loop-e-init : goal.loop-e-init

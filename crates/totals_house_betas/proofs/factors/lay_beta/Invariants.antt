@@ -2,7 +2,7 @@
 use mathlib.Core.Path.{◌≡◌}
 use Prim.Native.Nat.{◌-◌, ◌≤◌}
 use lib.ListN.{length}
-use Rattle.totals_house_betas.specs.Laws.Filling.{laid}
+use Rattle.totals_house_betas.proofs.Laws.Filling.{laid}
 use Rattle.totals_house_betas.proofs.factors.lay_beta.Given as goal
 
 abbrev pub invariant-loop-e : goal.invariant-loop-e

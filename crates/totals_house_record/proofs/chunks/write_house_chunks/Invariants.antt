@@ -5,7 +5,7 @@ use Rattle.transfer_matrix.specs.Room.{arranged}
 use Rattle.totals_call.specs.Finished.{stepping}
 use Rattle.refusals.specs.Couplings.{all_couplings}
 use Rattle.house_factors.specs.Factors.{paired_factors}
-use Rattle.totals_record.specs.Laws.Writing.{Writing}
+use Rattle.totals_record.proofs.Laws.Writing.{Writing}
 use Rattle.totals_house_record.proofs.chunks.write_house_chunks.Given as goal
 
 abbrev pub invariant-loop-c : goal.invariant-loop-c

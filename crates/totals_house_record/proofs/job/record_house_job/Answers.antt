@@ -10,8 +10,8 @@ use Rattle.transfer_matrix.specs.Room.{arranged}
 use Rattle.refusals.specs.Couplings.{all_couplings}
 use Rattle.house_factors.specs.Factors.{paired_factors}
 use Rattle.totals_call.specs.Finished.{stepping}
-use Rattle.totals_record.specs.Laws.Finishing.{room-cleared, recorded, wiped}
-use Rattle.totals_house_record.specs.Laws.Housing.{record_sums}
+use Rattle.totals_record.proofs.Laws.Finishing.{room-cleared, recorded, wiped}
+use Rattle.totals_house_record.proofs.Laws.Housing.{record_sums}
 use Rattle.totals_house_record.proofs.job.record_house_job.Goals as goal
 
 pub overflow_mul-sums : goal.overflow_mul-sums

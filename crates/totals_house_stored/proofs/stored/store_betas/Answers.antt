@@ -9,12 +9,12 @@ use lib.ListN.{length}
 use lib.Pow.{pow_mono, pow_pos}
 use borrow.Author.Tests.{not-true, not-false}
 use borrow.Rule.Slice.PartMut.{mid_len}
-use Rattle.totals_configuration.specs.Laws.Lists.{stage_with, part_of}
+use Rattle.totals_configuration.proofs.Laws.Lists.{stage_with, part_of}
 use Rattle.totals_configuration.specs.Signed.{PlanOfRun}
 use Rattle.totals_enumerated.specs.Configurations.{enumerated_signs}
 use Rattle.totals_enumerated.proofs.Ranges.{came_back}
 use Rattle.totals_house_betas.specs.Betas.{alone}
-use Rattle.totals_house_betas.specs.Laws.Summed.{factors-of-one, stored-none, stored_more, stored-all, not_stored}
+use Rattle.totals_house_betas.proofs.Laws.Summed.{factors-of-one, stored-none, stored_more, stored-all, not_stored}
 use Rattle.totals_house_stored.proofs.stored.store_betas.Goals as goal
 
 -- a row is short enough

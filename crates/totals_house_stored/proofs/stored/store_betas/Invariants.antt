@@ -2,7 +2,7 @@
 use mathlib.Core.Path.{◌≡◌}
 use Prim.Native.Nat.{◌-◌, ◌*◌, ◌^◌}
 use lib.ListN.{length}
-use Rattle.totals_house_betas.specs.Laws.Summed.{StoredDone}
+use Rattle.totals_house_betas.proofs.Laws.Summed.{StoredDone}
 use Rattle.totals_house_stored.proofs.stored.store_betas.Given as goal
 
 abbrev pub invariant-loop-b : goal.invariant-loop-b

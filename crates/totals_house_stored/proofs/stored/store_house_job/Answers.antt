@@ -10,9 +10,9 @@ use Rattle.refusals.specs.Couplings.{all_couplings}
 use Rattle.job_run.specs.Zeros.{zeros}
 use Rattle.totals_call.specs.Jobs.{job_enumerated}
 use Rattle.totals_call.specs.Finished.{stepping}
-use Rattle.totals_call.specs.Laws.Signing.{as_long}
-use Rattle.totals_call.specs.Laws.Staging.{staged, enumerates, room_fits, finished, cleared-stored}
-use Rattle.totals_house_betas.specs.Laws.Planning.{of-one-beta, numbers_plan}
+use Rattle.totals_call.proofs.Laws.Signing.{as_long}
+use Rattle.totals_call.proofs.Laws.Staging.{staged, enumerates, room_fits, finished, cleared-stored}
+use Rattle.totals_house_betas.proofs.Laws.Planning.{of-one-beta, numbers_plan}
 use Rattle.totals_house_stored.proofs.stored.store_house_job.Goals as goal
 
 -- ---- the lists that are made here are long enough

@@ -1,7 +1,7 @@
 use mathlib.Core.Path.{refl}
 use Prim.Native.Nat.{◌+◌}
 use native.Mathlib.Omega.{arith}
-use Rattle.little_endian.specs.Laws.Loaded.{loaded_none, loaded_more, loaded_length, loaded_all}
+use Rattle.little_endian.proofs.Laws.Loaded.{loaded_none, loaded_more, loaded_length, loaded_all}
 use Rattle.totals_record.proofs.bytes.clear_bytes.Goals as goal
 
 pub loop-i-init : goal.loop-i-init

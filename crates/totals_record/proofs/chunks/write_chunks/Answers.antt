@@ -4,10 +4,10 @@ use native.Mathlib.Omega.{arith}
 use lib.ListN.{length}
 use borrow.Author.Tests.{not-true, not-false}
 use Rattle.run_record.specs.Records.{per_chunk}
-use Rattle.totals_call.specs.Laws.Entering.{drawn-numbered}
+use Rattle.totals_call.proofs.Laws.Entering.{drawn-numbered}
 use Rattle.transfer_matrix.specs.Room.{arranged}
 use Rattle.totals_call.specs.Finished.{stepping}
-use Rattle.totals_record.specs.Laws.Writing.{passed_with, writing_none, writing_more, not_written, all-written, none_written}
+use Rattle.totals_record.proofs.Laws.Writing.{passed_with, writing_none, writing_more, not_written, all-written, none_written}
 use Rattle.totals_record.proofs.chunks.write_chunks.Goals as goal
 
 pub returns-then-squares-eq0 : goal.returns-then-squares-eq0

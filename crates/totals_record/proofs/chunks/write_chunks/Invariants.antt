@@ -3,7 +3,7 @@ use Prim.Native.Nat.{◌-◌}
 use lib.ListN.{length}
 use Rattle.transfer_matrix.specs.Room.{arranged}
 use Rattle.totals_call.specs.Finished.{stepping}
-use Rattle.totals_record.specs.Laws.Writing.{Writing}
+use Rattle.totals_record.proofs.Laws.Writing.{Writing}
 use Rattle.totals_record.proofs.chunks.write_chunks.Given as goal
 
 abbrev pub invariant-loop-c : goal.invariant-loop-c

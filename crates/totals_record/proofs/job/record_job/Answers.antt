@@ -8,7 +8,7 @@ use borrow.Author.Rules.{rules}
 use borrow.Author.Tests.{not-true, not-false}
 use Rattle.transfer_matrix.specs.Room.{arranged}
 use Rattle.totals_call.specs.Finished.{stepping}
-use Rattle.totals_record.specs.Laws.Finishing.{room-cleared, recorded, wiped, record_sums}
+use Rattle.totals_record.proofs.Laws.Finishing.{room-cleared, recorded, wiped, record_sums}
 use Rattle.totals_record.proofs.job.record_job.Goals as goal
 
 pub overflow_mul-sums : goal.overflow_mul-sums

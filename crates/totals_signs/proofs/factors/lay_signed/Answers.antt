@@ -4,7 +4,7 @@ use Prim.Native.Nat.{ℕ, ◌+◌, ◌<◌}
 use native.Mathlib.Omega.{arith}
 use lib.Ieee.{nan}
 use lib.ListN.{length, get_or, length-set}
-use Rattle.list_laws.specs.Laws.Part.{fill_none, fill_one}
+use Rattle.list_laws.proofs.Laws.Part.{fill_none, fill_one}
 use Rattle.totals_signs.proofs.Signs.{sign_small}
 use Rattle.totals_signs.proofs.factors.lay_signed.Goals as goal
 

@@ -5,9 +5,9 @@ use native.Mathlib.Nat.{zero-mul}
 use native.Mathlib.Omega.{arith}
 use lib.ListN.{length}
 use borrow.Author.Tests.{not-true, not-false}
-use Rattle.list_laws.specs.Laws.Search as Search
-use Rattle.totals_stored.specs.Laws.Stored.{number_small}
-use Rattle.totals_configuration.specs.Laws.Lists.{factors-first, part_of}
+use Rattle.list_laws.proofs.Laws.Search as Search
+use Rattle.totals_stored.proofs.Laws.Stored.{number_small}
+use Rattle.totals_configuration.proofs.Laws.Lists.{factors-first, part_of}
 use Rattle.totals_configuration.proofs.Staging.{stage_keep, part-stored}
 use Rattle.totals_configuration.proofs.Betas.{some-unsound, sound_more, results-value}
 use Rattle.totals_stored.proofs.configuration.store_configuration.Goals as goal

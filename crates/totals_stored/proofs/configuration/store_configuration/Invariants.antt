@@ -1,6 +1,6 @@
 use Prim.Native.Nat.{◌-◌}
-use Rattle.list_laws.specs.Laws.Search as Search
-use Rattle.totals_stored.specs.Laws.Stored.{Storing}
+use Rattle.list_laws.proofs.Laws.Search as Search
+use Rattle.totals_stored.proofs.Laws.Stored.{Storing}
 use Rattle.totals_stored.proofs.configuration.store_configuration.Given as goal
 
 abbrev pub invariant-loop-b : goal.invariant-loop-b

@@ -3,7 +3,7 @@ use Prim.Native.Nat.{◌+◌, ◌*◌, ◌<◌}
 use native.Mathlib.Omega.{arith}
 use lib.ListN.{length, length-set}
 use native.Mathlib.Nat.{add-zero, add_assoc}
-use Rattle.totals_stored.specs.Laws.Stored.{place_inside, number_small, stored_more}
+use Rattle.totals_stored.proofs.Laws.Stored.{place_inside, number_small, stored_more}
 use Rattle.totals_stored.proofs.configuration.store_results.Goals as goal
 
 pub loop-p-init : goal.loop-p-init

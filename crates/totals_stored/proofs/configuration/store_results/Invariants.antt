@@ -1,6 +1,6 @@
 use Prim.Native.Nat.{◌-◌}
 use lib.ListN.{length}
-use Rattle.totals_stored.specs.Laws.Stored.{Placing}
+use Rattle.totals_stored.proofs.Laws.Stored.{Placing}
 use Rattle.totals_stored.proofs.configuration.store_results.Given as goal
 
 abbrev pub invariant-loop-p : goal.invariant-loop-p

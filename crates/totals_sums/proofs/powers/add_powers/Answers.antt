@@ -4,7 +4,7 @@ use native.Mathlib.Omega.{arith}
 use lib.Ieee.{nan}
 use lib.ListN.{length, get_or, length-set}
 use Rattle.list_laws.specs.Part.{put}
-use Rattle.list_laws.specs.Laws.Part.{fill_none}
+use Rattle.list_laws.proofs.Laws.Part.{fill_none}
 use Rattle.list_laws.specs.Tabulate.{tabulate}
 use Rattle.transfer_matrix.specs.Rounded.{ieee}
 use Rattle.transfer_matrix.specs.Totals.{square, fourth}

@@ -3,11 +3,11 @@ use mathlib.Core.Path.{sym, ap, ◌∙◌}
 use native.Mathlib.Omega.{arith}
 use lib.ListN.{drop}
 use Rattle.plan_steps.specs.Layout.{step_in}
-use Rattle.step_tables.specs.Laws.Constants.{one-is}
+use Rattle.step_tables.proofs.Laws.Constants.{one-is}
 use Rattle.step_tables.specs.Place.{hold}
 use Rattle.pair_sums.specs.Stored.{most_if}
 use Rattle.pair_sums.specs.Terms.{half_at}
-use Rattle.vertex_step.specs.Laws.Through.{second-of, through-one, through-two}
+use Rattle.vertex_step.proofs.Laws.Through.{second-of, through-one, through-two}
 use Rattle.vertex_step.proofs.Folds.{half-to, fold_twice}
 use Rattle.vertex_step.proofs.through.backward_through.Goals as goal
 

@@ -1,8 +1,8 @@
 use native.Mathlib.Omega.{arith}
 use mathlib.Core.Path.{refl}
-use Rattle.refusals.specs.Laws.First.{here, past, told}
-use Rattle.strip.specs.Laws.Sides.{sides_passed}
-use Rattle.refusals.specs.Laws.Answers.{refused-is, number_is}
+use Rattle.refusals.proofs.Laws.First.{here, past, told}
+use Rattle.strip.proofs.Laws.Sides.{sides_passed}
+use Rattle.refusals.proofs.Laws.Answers.{refused-is, number_is}
 use borrow.Author.Rules.{rules}
 use Rattle.strip.proofs.strip.Strip.n.Goals as goal
 

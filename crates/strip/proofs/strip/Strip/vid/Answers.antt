@@ -1,7 +1,7 @@
 use native.Mathlib.Omega.{arith}
 use mathlib.Core.Path.{refl}
-use Rattle.refusals.specs.Laws.First.{here, past, told}
-use Rattle.strip.specs.Laws.Sides.{sides_passed}
+use Rattle.refusals.proofs.Laws.First.{here, past, told}
+use Rattle.strip.proofs.Laws.Sides.{sides_passed}
 use Rattle.strip.proofs.Siting.{site_refused, beyond, beside, within, small}
 use borrow.Author.Rules.{rules}
 use Rattle.strip.proofs.strip.Strip.vid.Goals as goal

@@ -1,0 +1,3 @@
+pub mod Theorems
+-- and the laws of these definitions, which no reader needs to believe.
+pub mod Laws

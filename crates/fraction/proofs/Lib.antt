@@ -1,0 +1,4 @@
+pub mod Fraction
+pub mod Value
+-- and the laws of these definitions, which no reader needs to believe.
+pub mod Laws

@@ -1,0 +1,2 @@
+-- and the laws of these definitions, which no reader needs to believe.
+pub mod Laws
