@@ -7,9 +7,10 @@ use Rattle.std.specs.Float.Ieee.{binary64, neg, le}
 use Rattle.std.specs.Float.Ieee.Scale.{finite}
 use Rattle.std.specs.Float.Ieee.Positive.{positive, positive-finite}
 use Rattle.rounding.specs.Sign.{abs}
-use Rattle.rounding.proofs.Laws.Sign.{not_minus}
+use Rattle.rounding.specs.Laws.Sign.{not_minus}
 use Rattle.rounding.specs.Under.{unit}
-use Rattle.rounding.proofs.Laws.Under.{Under, div_under, in_unit}
+use Rattle.rounding.proofs.Laws.Under.{div_under, in_unit}
+use Rattle.rounding.specs.Laws.Under.{Under}
 use Rattle.rounding.proofs.Laws.Sums.{Each}
 use Rattle.rounding.specs.Powers.{Ordered}
 use Rattle.transfer_matrix.specs.Job.{Job}

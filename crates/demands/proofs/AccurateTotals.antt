@@ -11,7 +11,7 @@ use Rattle.transfer_matrix.specs.Room as Room
 use Rattle.fraction.proofs.Fraction.{ℚ, oneℚ, invℚ}
 use Rattle.fraction.proofs.Value.{value}
 use Rattle.rounding.specs.Under.{unit}
-use Rattle.rounding.proofs.Laws.Under.{Under}
+use Rattle.rounding.specs.Laws.Under.{Under}
 use Rattle.transfer_matrix.specs.Configuration.{lent_at, configured}
 use Rattle.transfer_matrix.specs.Job.{Job}
 use Rattle.transfer_matrix.specs.Rounded.{ieee}

@@ -10,7 +10,7 @@ use Rattle.list_laws.specs.Front.{over}
 use Rattle.list_laws.specs.Tabulate.{tabulate}
 use Rattle.list_laws.proofs.Laws.Tabulate.{tabulate-length}
 use Rattle.rounding.specs.Powers.{Ordered}
-use Rattle.rounding.proofs.Laws.Sign.{not_minus}
+use Rattle.rounding.specs.Laws.Sign.{not_minus}
 use Rattle.transfer_matrix.specs.Arithmetic.{sum}
 use Rattle.transfer_matrix.specs.Rounded.{ieee}
 use Rattle.transfer_matrix.specs.Totals.{square, fourth, sampled_count}

@@ -8,8 +8,9 @@ use Rattle.std.specs.Float.Ieee.Bits.{of_bits-to_bits}
 use Rattle.std.specs.Float.Ieee.Fits.{up_pos}
 use Rattle.little_endian.specs.Words.{Bytes}
 use Rattle.rounding.specs.Under.{nought}
-use Rattle.rounding.proofs.Laws.Sign.{not_minus}
-use Rattle.rounding.proofs.Laws.Under.{Under, under_trans}
+use Rattle.rounding.specs.Laws.Sign.{not_minus}
+use Rattle.rounding.proofs.Laws.Under.{under_trans}
+use Rattle.rounding.specs.Laws.Under.{Under}
 use Rattle.rounding.proofs.Laws.Whole.{whole-nought}
 use Rattle.estimate.specs.Estimates.{+0·0}
 use Rattle.run_record.specs.Records.{chunks_of, per_chunk}

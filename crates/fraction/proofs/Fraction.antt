@@ -8,7 +8,8 @@ use mathlib.Core.Quot.Quotient
 use mathlib.Core.Quot.{Setoid}
 use Rattle.std.proofs.Math.Bool.{Bool-set}
 use Rattle.fraction.specs.Raw.{Raw, raw, bottoms, add_r, mul_r, neg_r, inv_r, pos_r}
-use Rattle.fraction.proofs.Laws.Raw.{◌~◌, ~_trans}
+use Rattle.fraction.specs.Laws.Raw.{◌~◌}
+use Rattle.fraction.proofs.Laws.Raw.{~_trans}
 use Rattle.fraction.proofs.Laws.Raw.{add_r_cong, mul_r_cong, neg_r_cong, inv_r_cong, pos_r_cong}
 use Rattle.fraction.proofs.Laws.Raw.{add_r_comm, mul_r_comm}
 

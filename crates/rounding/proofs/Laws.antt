@@ -11,3 +11,4 @@ pub mod Negation
 pub mod Running
 pub mod Grid
 pub mod Order
+pub mod Tests

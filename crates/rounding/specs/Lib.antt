@@ -4,3 +4,5 @@ pub mod Under
 pub mod Whole
 pub mod Powers
 pub mod Alike
+-- and definitions that laws alone speak of.
+pub mod Laws

@@ -10,7 +10,8 @@ use Rattle.std.proofs.Math.ListN.{length}
 use Rattle.std.specs.Float.Ieee.{binary64, mul, div}
 use Rattle.std.specs.Float.Ieee.Positive.{positive}
 use Rattle.std.specs.Float.Ieee.Scale.{finite}
-use Rattle.rounding.proofs.Laws.Sign.{not_minus, mul_finite, add_finite}
+use Rattle.rounding.proofs.Laws.Sign.{mul_finite, add_finite}
+use Rattle.rounding.specs.Laws.Sign.{not_minus}
 use Rattle.rounding.specs.Under.{unit}
 use Rattle.fraction.proofs.Fraction.{ℚ, oneℚ, Posℚ}
 use Rattle.list_laws.proofs.Laws.Tabulate.{tabulate-length}

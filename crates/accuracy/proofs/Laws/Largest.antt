@@ -6,7 +6,7 @@ use Rattle.std.specs.Float.Ieee.{up, down, lt}
 use Rattle.std.specs.Float.Ieee.Fits.{down_pos}
 use Rattle.std.specs.Float.Ieee.Positive.{positive, first_pos}
 use Rattle.std.specs.Float.Ieee.Scale.{finite}
-use Rattle.rounding.proofs.Laws.Sign.{not_minus}
+use Rattle.rounding.specs.Laws.Sign.{not_minus}
 use Rattle.fraction.proofs.Fraction.{posℚ, Posℚ}
 use Rattle.fraction.proofs.Value.{value}
 use Rattle.transfer_matrix.specs.Rounded.{ieee}

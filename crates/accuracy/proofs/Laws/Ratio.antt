@@ -5,7 +5,8 @@ use Rattle.std.proofs.Common.{◌∙◌, arith}
 use Rattle.std.specs.Float.{binary64}
 use Rattle.std.specs.Float.Ieee.{div}
 use Rattle.std.specs.Float.Ieee.Positive.{positive, positive-finite}
-use Rattle.rounding.proofs.Laws.Under.{div_under, Under}
+use Rattle.rounding.proofs.Laws.Under.{div_under}
+use Rattle.rounding.specs.Laws.Under.{Under}
 use Rattle.fraction.proofs.Fraction.{ℚ, oneℚ, addℚ, invℚ, Posℚ}
 use Rattle.fraction.proofs.Laws.Fraction.{pos_inv, mul_inv_pos}
 use Rattle.fraction.proofs.Value.{value}

@@ -6,7 +6,7 @@ use Rattle.std.specs.Float.Ieee.{up, down}
 use Rattle.std.specs.Float.Ieee.Fits.{down_pos}
 use Rattle.std.specs.Float.Ieee.Scale.{finite}
 use Rattle.std.specs.Float.Ieee.Positive.{num, den}
-use Rattle.rounding.proofs.Laws.Sign.{not_minus}
+use Rattle.rounding.specs.Laws.Sign.{not_minus}
 use Rattle.rounding.proofs.Laws.Under as U
 use Rattle.fraction.proofs.Fraction.{ℚ, frac, oneℚ, invℚ, posℚ, Posℚ}
 use Rattle.fraction.proofs.Laws.Fraction.{pos_inv, mul_inv_pos, add_neg, pos_mul}

@@ -11,7 +11,8 @@ use Rattle.std.specs.Float.Ieee.{binary64, add, div, round}
 use Rattle.std.specs.Float.Ieee.Scale.{finite}
 use Rattle.std.specs.Float.Ieee.Back.{round_whole}
 use Rattle.rounding.specs.Under.{unit}
-use Rattle.rounding.proofs.Laws.Under.{Under, div_under}
+use Rattle.rounding.proofs.Laws.Under.{div_under}
+use Rattle.rounding.specs.Laws.Under.{Under}
 use Rattle.rounding.proofs.Laws.Sums.{total}
 use Rattle.rounding.specs.Whole.{whole}
 use Rattle.rounding.proofs.Laws.Whole.{whole-finite, whole-positive}

@@ -6,7 +6,7 @@ use Rattle.std.proofs.Math.Dec.{nleb→lt}
 use Rattle.std.proofs.lemmas.Nat.{shl-shr}
 use Rattle.std.specs.Float.{binary64}
 use Rattle.rounding.specs.Under.{unit}
-use Rattle.rounding.proofs.Laws.Under.{Under}
+use Rattle.rounding.specs.Laws.Under.{Under}
 use Rattle.rounding.proofs.Laws.Sums.{Each}
 use Rattle.rounding.specs.Powers.{Ordered}
 use Rattle.rounding.proofs.Laws.Powers.{ordered, chunked_equal}

@@ -4,9 +4,11 @@ use Rattle.std.proofs.Math.Option.{Option, none, some}
 use Rattle.std.specs.Float.{binary64}
 use Rattle.std.specs.Float.Ieee.{mul, div}
 use Rattle.std.specs.Float.Ieee.Positive.{positive}
-use Rattle.rounding.proofs.Laws.Sign.{not_minus, cond_not_minus, mul_not_minus, div_not_minus}
+use Rattle.rounding.proofs.Laws.Sign.{cond_not_minus, mul_not_minus, div_not_minus}
+use Rattle.rounding.specs.Laws.Sign.{not_minus}
 use Rattle.rounding.specs.Under.{unit}
-use Rattle.rounding.proofs.Laws.Under.{Under, under_refl, positive-not_minus}
+use Rattle.rounding.proofs.Laws.Under.{under_refl, positive-not_minus}
+use Rattle.rounding.specs.Laws.Under.{Under}
 use Rattle.list_laws.specs.Bits.{bit}
 use Rattle.transfer_matrix.specs.Job.{Edge, Job, Back, Step, back_edge, back_edges, prepend, step_of}
 use Rattle.transfer_matrix.specs.Checked.{All, Kept, Checked}

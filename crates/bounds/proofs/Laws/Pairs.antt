@@ -6,7 +6,8 @@ use native.Mathlib.Omega.{arith}
 use Rattle.std.specs.Float.Ieee.{Float, binary64, add, sub, mul}
 use Rattle.std.specs.Float.Ieee.Scale.{finite}
 use Rattle.rounding.proofs.Laws.Sign.{mul_finite}
-use Rattle.rounding.proofs.Laws.Under.{Under, either_under, mul_under}
+use Rattle.rounding.proofs.Laws.Under.{either_under, mul_under}
+use Rattle.rounding.specs.Laws.Under.{Under}
 use Rattle.rounding.proofs.Laws.Sums.{Each, total, signed, total-finite, signed-under}
 use Rattle.transfer_matrix.specs.Job.{Job}
 use Rattle.transfer_matrix.specs.Arithmetic.{sum, signed_sum}

@@ -5,10 +5,12 @@ use Rattle.std.proofs.Math.Nat.{pow-succ'}
 use Rattle.std.proofs.Math.ListN.{get_or-eq_default}
 use Rattle.std.specs.Float.Ieee.{binary64, add, mul, lt}
 use Rattle.std.specs.Float.Ieee.Scale.{finite}
-use Rattle.rounding.proofs.Laws.Sign.{not_minus, cond_not_minus, add_finite, mul_finite}
+use Rattle.rounding.proofs.Laws.Sign.{cond_not_minus, add_finite, mul_finite}
+use Rattle.rounding.specs.Laws.Sign.{not_minus}
 use Rattle.rounding.proofs.Laws.Sums.{Each}
 use Rattle.rounding.specs.Under.{nought, unit}
-use Rattle.rounding.proofs.Laws.Under.{Under, under_refl, cond_under, add_under, mul_under}
+use Rattle.rounding.proofs.Laws.Under.{under_refl, cond_under, add_under, mul_under}
+use Rattle.rounding.specs.Laws.Under.{Under}
 use Rattle.list_laws.specs.Bits.{bit}
 use Rattle.list_laws.specs.Tabulate.{tabulate}
 use Rattle.list_laws.proofs.Laws.Tabulate.{tabulate-at, tabulate-length}

@@ -7,7 +7,8 @@ use Rattle.std.proofs.Common.{add-suc}
 use Rattle.std.specs.Float.Ieee.{binary64, div, le}
 use Rattle.std.specs.Float.Ieee.Scale.{finite}
 use Rattle.rounding.specs.Sign.{abs}
-use Rattle.rounding.proofs.Laws.Sign.{not_minus, div_not_minus}
+use Rattle.rounding.proofs.Laws.Sign.{div_not_minus}
+use Rattle.rounding.specs.Laws.Sign.{not_minus}
 use Rattle.rounding.specs.Under.{unit}
 use Rattle.rounding.proofs.Laws.Under.{under_le, under-nought, under_neg, abs-under, either_under}
 use Rattle.list_laws.specs.Bits.{bit}

@@ -6,7 +6,8 @@ use Rattle.std.specs.Float.Ieee.Scale.{finite}
 use Rattle.std.specs.Float.Ieee.Positive.{positive, positive-finite}
 use Rattle.list_laws.proofs.Laws.Power.{pow_double}
 use Rattle.rounding.specs.Sign.{abs}
-use Rattle.rounding.proofs.Laws.Under.{Under, under_le, abs-under}
+use Rattle.rounding.proofs.Laws.Under.{under_le, abs-under}
+use Rattle.rounding.specs.Laws.Under.{Under}
 use Rattle.transfer_matrix.specs.Job.{Job}
 use Rattle.transfer_matrix.specs.Rounded.{ieee}
 use Rattle.transfer_matrix.specs.Sweep as S

@@ -13,7 +13,7 @@ use Rattle.std.specs.Float.Ieee.Back.{whole_unique}
 use Rattle.std.specs.Float.Ieee.Positive.{num, den, positive, positive_of_value, value→cross}
 use Rattle.nearest.proofs.Laws.Values.{same-value}
 use Rattle.rounding.specs.Under.{nought}
-use Rattle.rounding.proofs.Laws.Sign.{not_minus}
+use Rattle.rounding.specs.Laws.Sign.{not_minus}
 use Rattle.rounding.proofs.Laws.Alike.{add_noughts, add_nought}
 use Rattle.rounding.proofs.Laws.Commute.{sum_commutes}
 use Rattle.run_record.specs.Reading.{is_minus_zero}

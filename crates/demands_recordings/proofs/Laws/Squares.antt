@@ -5,7 +5,8 @@ use Rattle.std.proofs.Math.Path.{fun_ext}
 use Prim.Native.Nat.{ℕ, zero, suc, ◌+◌, ◌-◌, ◌<◌}
 use Rattle.std.specs.Float.Ieee.{binary64, mul, fits}
 use Rattle.std.specs.Float.Ieee.Fits.{add-fits}
-use Rattle.rounding.proofs.Laws.Sign.{not_minus, add_not_minus, square-not_minus}
+use Rattle.rounding.proofs.Laws.Sign.{add_not_minus, square-not_minus}
+use Rattle.rounding.specs.Laws.Sign.{not_minus}
 use Rattle.transfer_matrix.specs.Arithmetic.{sum}
 use Rattle.transfer_matrix.specs.Rounded.{ieee}
 use Rattle.transfer_matrix.specs.Totals.{square, fourth, chunked, sampled}

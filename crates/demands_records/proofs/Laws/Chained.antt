@@ -7,8 +7,9 @@ use Rattle.std.specs.Float.Ieee.{prec, low, up, down, hid, top, size, le, lt, eq
 use Rattle.std.specs.Float.Ieee.Fits.{up_pos, down_pos}
 use Rattle.rounding.specs.Under.{nought}
 use Rattle.rounding.specs.Whole.{whole}
-use Rattle.rounding.proofs.Laws.Sign.{not_minus, round_not_minus}
-use Rattle.rounding.proofs.Laws.Under.{Under}
+use Rattle.rounding.proofs.Laws.Sign.{round_not_minus}
+use Rattle.rounding.specs.Laws.Sign.{not_minus}
+use Rattle.rounding.specs.Laws.Under.{Under}
 use Rattle.rounding.proofs.Laws.Powers.{Chained}
 use Rattle.estimate.specs.Estimates.{number, +0·0}
 use Rattle.run_record.specs.Reading.{is_minus_zero}

@@ -12,7 +12,8 @@ use Rattle.rounding.specs.Powers.{Ordered}
 use Rattle.rounding.specs.Under.{nought, unit}
 use Rattle.rounding.proofs.Laws.Powers.{square-under}
 use Rattle.rounding.proofs.Laws.Sign.{square-not_minus}
-use Rattle.rounding.proofs.Laws.Under.{Within, Under, div_under, positive-not_minus}
+use Rattle.rounding.proofs.Laws.Under.{div_under, positive-not_minus}
+use Rattle.rounding.specs.Laws.Under.{Within, Under}
 use Rattle.rounding.proofs.Laws.Whole.{whole-positive}
 use Rattle.estimate.specs.declared.answer.MeanSpread.{MeanSpread}
 use Rattle.estimate.specs.declared.answer.Estimate.TheVariants.{Complete, Refused}

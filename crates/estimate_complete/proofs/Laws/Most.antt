@@ -9,8 +9,10 @@ use Rattle.std.specs.Float.Ieee.Order.{round_mono}
 use Rattle.std.specs.Float.Ieee.Positive.{num, den, positive, den_pos, cross→le, le→cross}
 use Rattle.std.specs.Float.Ieee.Scale.{finite}
 use Rattle.rounding.specs.Under.{nought, unit}
-use Rattle.rounding.proofs.Laws.Sign.{not_minus}
-use Rattle.rounding.proofs.Laws.Under.{Under, unit-is, positive_of_tests}
+use Rattle.rounding.specs.Laws.Sign.{not_minus}
+use Rattle.rounding.proofs.Laws.Under.{unit-is}
+use Rattle.rounding.proofs.Laws.Tests.{positive_of_tests}
+use Rattle.rounding.specs.Laws.Under.{Under}
 use Rattle.nearest.proofs.Laws.Values.{cross→lt}
 use Rattle.sqrt.specs.Nearest.{NearestRoot}
 use Rattle.sqrt.specs.Sqrt.{sqrt}

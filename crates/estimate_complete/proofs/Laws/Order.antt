@@ -6,8 +6,9 @@ use Rattle.std.specs.Float.Ieee.{up, down, lt, le, eq, of_bits}
 use Rattle.std.specs.Float.Ieee.Fits.{down_pos, and_i, and_l, and_r, eq→eqb}
 use Rattle.std.specs.Float.Ieee.Scale.{finite}
 use Rattle.rounding.specs.Under.{nought, unit}
-use Rattle.rounding.proofs.Laws.Sign.{not_minus}
-use Rattle.rounding.proofs.Laws.Under.{Within, under-nought, under_le}
+use Rattle.rounding.specs.Laws.Sign.{not_minus}
+use Rattle.rounding.proofs.Laws.Under.{under-nought, under_le}
+use Rattle.rounding.specs.Laws.Under.{Within}
 
 -- ---- from the tests of a program to sizes
 at-most : (a b : ℕ) (c e : Bool) → (T c → a ≡ b) → T (ltb a b || (c && e)) → a ≤ b

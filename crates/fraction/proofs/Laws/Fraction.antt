@@ -7,7 +7,7 @@ use mathlib.Core.HLevel.{Π_prop}
 use Rattle.std.proofs.Math.Bool.{Bool-set}
 use Rattle.std.proofs.Math.Nat.{ℕ_set}
 use Rattle.fraction.specs.Raw.{Raw}
-use Rattle.fraction.proofs.Laws.Raw.{◌~◌}
+use Rattle.fraction.specs.Laws.Raw.{◌~◌}
 use Rattle.fraction.proofs.Laws.Raw.{pos_r_add, pos_r_mul, pos_r_inv}
 use Rattle.fraction.proofs.Laws.Raw.{add_r_comm, add_r_assoc, add_r_zero, add_r-neg_r, mul_r_comm, mul_r_assoc, mul_r-one, mul_r-add_r, mul_r-inv_r}
 use Rattle.fraction.proofs.Fraction.{~_setoid, ℚ, of_raw, frac, zeroℚ, oneℚ, sound, addℚ, mulℚ, negℚ, invℚ, posℚ, Posℚ}

@@ -3,11 +3,8 @@ use Rattle.std.specs.Prelude.{◌≡◌, refl, true, false, ℕ, suc, ◌+◌, �
 use Rattle.std.proofs.Common.{sym, ◌∙◌, ap, lt_of_mul-lt-mul_right, arith, ltb-true, lt-ltb, le-ltb}
 use Rattle.std.proofs.Math.Nat.{eq_of_mul-eq-mul_right}
 use Rattle.std.proofs.Math.Decide.{dec_lt}
+use Rattle.fraction.specs.Laws.Raw.{◌~◌}
 use Rattle.fraction.specs.Raw.{Raw, raw, bottom, bottoms, add_r, mul_r, neg_r, pos_r, inv_r}
-
-infixl 20 ◌~◌
-abbrev pub ◌~◌ : Raw → Raw → Type 0
-◌~◌ x y = x.plus * bottom y + y.minus * bottom x ≡ y.plus * bottom x + x.minus * bottom y
 
 -- 2/4 and 1/2
 two_quarters : raw 2 0 3 ~ raw 1 0 1

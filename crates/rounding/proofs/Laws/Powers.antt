@@ -2,21 +2,18 @@
 use Rattle.std.proofs.Common.{◌∙◌, subst, le_trans, le_of_eq, mul-one}
 use Rattle.std.specs.Prelude.{ℕ, ◌*◌, ◌^◌, ◌≤◌, ◌<◌, T, Float}
 use Rattle.std.specs.Float.{Format, binary32, binary64}
-use Rattle.std.specs.Float.Ieee.{prec, mul, div, fits}
+use Rattle.std.specs.Float.Ieee.{prec, div, fits}
 use Rattle.std.specs.Float.Ieee.Fits.{mul-fits}
-use Rattle.rounding.proofs.Laws.Sign.{not_minus, square-not_minus}
+use Rattle.rounding.proofs.Laws.Sign.{square-not_minus}
+use Rattle.rounding.specs.Laws.Sign.{not_minus}
 use Rattle.rounding.specs.Under.{unit}
-use Rattle.rounding.proofs.Laws.Under.{Under, unit-is, under_refl, under_trans, under-nought, under_le, mul_under, div_under}
+use Rattle.rounding.proofs.Laws.Under.{unit-is, under_refl, under_trans, under-nought, under_le, mul_under, div_under}
+use Rattle.rounding.specs.Laws.Under.{Under}
 use Rattle.rounding.specs.Whole.{whole}
 use Rattle.rounding.proofs.Laws.Whole.{mul_shrinks, whole-finite, whole-positive}
 use Rattle.rounding.proofs.Laws.Sums.{Each, total, tally, tally_const, term_le_tally, total-not_minus, total-under, whole-under}
 use Rattle.rounding.specs.Powers.{Ordered}
-
-abbrev pub square : Format → Float → Float
-square f c = mul f c c
-
-abbrev pub fourth : Format → Float → Float
-fourth f c = square f (square f c)
+use Rattle.rounding.specs.Laws.Powers.{square, fourth}
 
 unit-fits : (f : Format) → T (fits f unit)
 unfolding fits

@@ -12,16 +12,12 @@ use Rattle.std.specs.Float.Ieee.{prec, emax, low, up, down, round, neg, sum, add
 use Rattle.std.specs.Float.Ieee.Fits.{up_pos, down_pos, and_l, and_r, neg-fits, add-fits}
 use Rattle.std.specs.Float.Ieee.Order.{round_mono}
 use Rattle.std.specs.Float.Ieee.Positive.{positive, above, above_of_le}
-use Rattle.rounding.proofs.Laws.Sign.{not_minus, round_not_minus}
+use Rattle.rounding.proofs.Laws.Sign.{round_not_minus}
+use Rattle.rounding.specs.Laws.Sign.{not_minus}
 use Rattle.rounding.proofs.Laws.Negation.{round_neg}
 use Rattle.rounding.specs.Alike.{Alike, same, zeros}
 use Rattle.rounding.proofs.Laws.Alike.{alike_neg, add_noughts, add_nought}
-
--- whether it is -0.0
-abbrev pub minus_zero : Float → Bool
-minus_zero nan = false
-minus_zero (inf s) = false
-minus_zero (fin s m e) = s && eqb m 0
+use Rattle.rounding.specs.Laws.Running.{minus_zero}
 
 -- a number of the format that is not -0.0
 pub record Running (f : Format) (a : Float) : Type 0 where

@@ -8,12 +8,7 @@ use Rattle.std.specs.Float.Ieee.{prec, low, emax, up, down, unlike, odd, units, 
 use Rattle.std.specs.Float.Ieee.Scale.{finite}
 use Rattle.std.specs.Float.Ieee.Positive.{num, den}
 use Rattle.rounding.specs.Sign.{abs}
-
--- not below zero and not -0; a NaN and +∞ pass. The negation of IEEE 754's isSignMinus, for a NaN without a sign.
-abbrev pub not_minus : Float → Bool
-not_minus nan = true
-not_minus (inf s) = not s
-not_minus (fin s m e) = not s
+use Rattle.rounding.specs.Laws.Sign.{not_minus}
 
 pub abs-not_minus : (x : Float) → T (not_minus (abs x))
 abs-not_minus nan = tt

@@ -6,9 +6,11 @@ use Rattle.std.proofs.Math.Nat.{le-suc}
 use Rattle.std.specs.Float.{Format}
 use Rattle.std.specs.Float.Ieee.{prec, add, sub}
 use Rattle.std.specs.Float.Ieee.Scale.{finite}
-use Rattle.rounding.proofs.Laws.Sign.{not_minus, add_finite, add_not_minus}
+use Rattle.rounding.proofs.Laws.Sign.{add_finite, add_not_minus}
+use Rattle.rounding.specs.Laws.Sign.{not_minus}
 use Rattle.rounding.specs.Under.{nought}
-use Rattle.rounding.proofs.Laws.Under.{Under, under_refl, either_under, add_under, sub_under}
+use Rattle.rounding.proofs.Laws.Under.{under_refl, either_under, add_under, sub_under}
+use Rattle.rounding.specs.Laws.Under.{Under}
 use Rattle.rounding.specs.Whole.{whole}
 use Rattle.rounding.proofs.Laws.Whole.{whole-nought, add_whole}
 

@@ -9,18 +9,11 @@ use Rattle.std.specs.Float.Ieee.Order.{round_mono}
 use Rattle.std.specs.Float.Ieee.Positive.{num, den, den_pos, through, positive, positive-finite, own_value, value_pos, first_pos}
 use Rattle.std.proofs.Math.Facts.{or_yes}
 use Rattle.rounding.specs.Sign.{abs}
-use Rattle.rounding.proofs.Laws.Sign.{not_minus, abs-not_minus, abs-of-not_minus, round_not_minus}
+use Rattle.rounding.proofs.Laws.Sign.{abs-not_minus, abs-of-not_minus, round_not_minus}
+use Rattle.rounding.specs.Laws.Sign.{not_minus}
 use Rattle.rounding.proofs.Laws.Sign.{add_finite, mul_finite, add_not_minus, mul_not_minus, mul_abs, div_abs, add_abs, add_is}
 use Rattle.rounding.specs.Under.{nought, unit}
-
--- x is finite, and no larger in size than y, a finite value
-pub record Within (x y : Float) : Type 0 where
-  pub is_finite : T (finite x)
-  pub at_most : num x * den y ≤ num y * den x
-
-pub record Under (x y : Float) : Type 0 where
-  pub sign : T (not_minus y)
-  pub size : T (finite y) → Within x y
+use Rattle.rounding.specs.Laws.Under.{Within, Under}
 
 pub unit-is : (f : Format) → unit ≡ round f false 1 1
 unfolding round
@@ -227,16 +220,3 @@ positive_tests (fin true m e) p = absurd p
 positive_tests (fin false m e) p =
     let h = positive_num (fin false m e) p in
     (lt→ltb (0 * down e) (m * up e * 1) (omega arith), tt)
-
--- by the tests z > 0 and z ≤ m, for a finite m
-pub positive_of_tests : (z m : Float) → T (finite m) → T (lt nought z) → T (le z m) → T (positive z)
-unfolding le
-positive_of_tests z m k h l = positive_of z h (below z m k l)
-  where
-    below : (z m : Float) → T (finite m) → T (le z m) → T (lt z (inf false))
-    below nan m k l = absurd l
-    below (inf true) m k l = tt
-    below (inf false) nan k l = absurd k
-    below (inf false) (inf t) k l = absurd k
-    below (inf false) (fin t n d) k l = absurd l
-    below (fin s n d) m k l = tt

@@ -10,9 +10,11 @@ use Rattle.std.specs.Float.Ieee.Back.{round_whole}
 use Rattle.std.specs.Float.Ieee.Scale.{finite, round_same}
 use Rattle.std.specs.Float.Ieee.Positive.{num, den, den_pos, positive, positive_of_value, value→cross}
 use Rattle.rounding.specs.Sign.{abs}
-use Rattle.rounding.proofs.Laws.Sign.{not_minus, round_not_minus, mul_abs, add_is}
+use Rattle.rounding.proofs.Laws.Sign.{round_not_minus, mul_abs, add_is}
+use Rattle.rounding.specs.Laws.Sign.{not_minus}
 use Rattle.rounding.specs.Under.{unit, nought}
-use Rattle.rounding.proofs.Laws.Under.{Within, Under, under_refl, under_trans, mul_under, within-abs}
+use Rattle.rounding.proofs.Laws.Under.{under_refl, under_trans, mul_under, within-abs}
+use Rattle.rounding.specs.Laws.Under.{Within, Under}
 use Rattle.rounding.specs.Whole.{whole}
 
 -- ---- rounding gives back a value that the format holds
