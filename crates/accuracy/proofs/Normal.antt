@@ -9,7 +9,7 @@ use Rattle.exactness.specs.Exact.{rational, at_values}
 use Rattle.accuracy.specs.Ring.{NonNeg, nat}
 use Rattle.accuracy.proofs.Laws.Ring.{◌⋆◌, ◌≼◌}
 use Rattle.accuracy.specs.Rounds.{ε}
-use Rattle.accuracy.proofs.Laws.Rounds.{smallest}
+use Rattle.accuracy.specs.Laws.Rounds.{smallest}
 use Rattle.accuracy.proofs.Laws.Factors.{ModerateStep}
 use Rattle.accuracy.proofs.Laws.ExactSweeps.{ahead, exact_forward, exact_backward}
 use Rattle.accuracy.proofs.Laws.Sweeps.{ClearAhead, ClearBack}

@@ -2,3 +2,4 @@
 pub mod Bounds
 -- and the laws of these definitions, which no reader needs to believe.
 pub mod Laws
+pub mod AnswerTotals

@@ -30,7 +30,7 @@ use Rattle.refusals.specs.AcceptedTotals.{AcceptedTotals, misfits}
 use Rattle.refusals.specs.Request.{most_counted}
 use Rattle.refusals.specs.Accepted.{Rising}
 use Rattle.refusals.proofs.Laws.Rising.{rising}
-use Rattle.bounds.proofs.Bounds.{enumerated-answers-bounded}
+use Rattle.bounds.proofs.AnswerTotals.{enumerated-answers-bounded}
 use Rattle.bounds.proofs.Laws.Chunks.{chunks_cover, configuration_lt}
 use Rattle.totals_configuration.specs.Powers.{correlation_at}
 use Rattle.entry_correlations.specs.declared.Manner.{Manner}

@@ -19,7 +19,8 @@ use Rattle.exactness.specs.Exact.{rational, at_values}
 use Rattle.exactness.proofs.Laws.Exact.{exact_answer_of_doubles, literal_answer_of_doubles, partition_sum_of_doubles}
 use Rattle.exactness.proofs.Literal.{literal_forward, literal_propagated, literal_z, literal_answer}
 use Rattle.exactness.specs.Textbook.{partition_sum, textbook}
-use Rattle.bounds.proofs.Bounds.{Answerable, correlation-bounded, propagated-bounded, literal-correlation-bounded, literal-propagated-bounded}
+use Rattle.bounds.proofs.Bounds.{correlation-bounded, propagated-bounded, literal-correlation-bounded, literal-propagated-bounded}
+use Rattle.bounds.proofs.AnswerTotals.{Answerable}
 use Rattle.pair_correlations.specs.Sound.{soundly, unsound}
 use Rattle.pair_correlations.proofs.Laws.Sound.{sound-positive}
 use Rattle.half_vectors.specs.Symmetric.{SymmetricHalf}

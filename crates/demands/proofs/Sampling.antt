@@ -33,7 +33,7 @@ use Rattle.refusals.proofs.Laws.First.{passed-at}
 use Rattle.refusals.specs.Refusal.{of_sampling}
 use Rattle.refusals.specs.Request.{sampling_request}
 use Rattle.pair_correlations.specs.Sound.{unsound}
-use Rattle.bounds.proofs.Bounds.{sampled-answers-bounded}
+use Rattle.bounds.proofs.AnswerTotals.{sampled-answers-bounded}
 use Rattle.totals_configuration.specs.Powers.{correlation_at}
 use Rattle.entry_correlations.specs.Correlations.{manner_of}
 use Rattle.entry_correlations.specs.declared.Manner.{Manner}

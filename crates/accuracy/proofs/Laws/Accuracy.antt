@@ -17,7 +17,7 @@ use Rattle.bounds.proofs.Bounds.{numerator_under}
 use Rattle.accuracy.specs.Ring.{NonNeg, nat}
 use Rattle.accuracy.proofs.Laws.Ring.{◌⋆◌, ◌≼◌, nn_mul, nn_pos}
 use Rattle.accuracy.specs.Rounds.{ε}
-use Rattle.accuracy.proofs.Laws.Rounds.{smallest}
+use Rattle.accuracy.specs.Laws.Rounds.{smallest}
 use Rattle.accuracy.proofs.Close.{Close}
 use Rattle.accuracy.proofs.Laws.Powers.{θ}
 use Rattle.accuracy.proofs.Laws.Factors.{ModerateStep, moderate-steps, EdgesModerate, step-roundings}

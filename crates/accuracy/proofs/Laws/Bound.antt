@@ -23,7 +23,8 @@ use Rattle.accuracy.specs.Stated.{within_powers, depth, units, roundings_of, err
 use Rattle.accuracy.specs.Ring.{NonNeg, nat}
 use Rattle.accuracy.proofs.Laws.Ring.{◌⋆◌, ◌≼◌, nn_pos}
 use Rattle.accuracy.specs.Rounds.{ε}
-use Rattle.accuracy.proofs.Laws.Rounds.{smallest, frac-nat}
+use Rattle.accuracy.proofs.Laws.Rounds.{frac-nat}
+use Rattle.accuracy.specs.Laws.Rounds.{smallest}
 use Rattle.accuracy.proofs.Laws.Operations.{value-signed, inv_frac}
 use Rattle.accuracy.proofs.Close.{Close}
 use Rattle.accuracy.proofs.Laws.Powers.{power, θ}

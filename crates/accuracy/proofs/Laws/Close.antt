@@ -15,7 +15,8 @@ use Rattle.accuracy.proofs.Laws.Ring.{nn_one, *_assoc, +_assoc, +_zero, zero_*, 
 use Rattle.accuracy.proofs.Within.{Within}
 use Rattle.accuracy.proofs.Laws.Within.{within_nonneg, within_zero, within_neg, within_mono, within_add, within_mul, within_nn}
 use Rattle.accuracy.specs.Rounds.{ε}
-use Rattle.accuracy.proofs.Laws.Rounds.{ε_nn, smallest, Rounds}
+use Rattle.accuracy.proofs.Laws.Rounds.{ε_nn, Rounds}
+use Rattle.accuracy.specs.Laws.Rounds.{smallest}
 use Rattle.accuracy.proofs.Laws.Operations.{add_rounds, sub_rounds, mul_rounds, div_rounds, value_neg}
 use Rattle.accuracy.proofs.Close.{gain, Close}
 

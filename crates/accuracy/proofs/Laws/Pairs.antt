@@ -29,7 +29,8 @@ use Rattle.accuracy.proofs.Laws.Ring.{◌⊹◌, ◌⋆◌, ◌≼◌, ≼_refl,
 use Rattle.accuracy.proofs.Within.{Within}
 use Rattle.accuracy.proofs.Laws.Within.{within_nonneg, within_mono, within_mul, within_nn}
 use Rattle.accuracy.specs.Rounds.{ε}
-use Rattle.accuracy.proofs.Laws.Rounds.{ε_pos, ε_nn, smallest, smallest_nn, smallest_pos}
+use Rattle.accuracy.proofs.Laws.Rounds.{ε_pos, ε_nn, smallest_nn, smallest_pos}
+use Rattle.accuracy.specs.Laws.Rounds.{smallest}
 use Rattle.accuracy.proofs.Close.{Close, gain}
 use Rattle.accuracy.proofs.Laws.Close.{close_mul, gain_nn}
 use Rattle.accuracy.proofs.Laws.ExactSweeps.{ahead, exact_forward, exact_backward}

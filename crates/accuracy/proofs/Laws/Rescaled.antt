@@ -17,7 +17,8 @@ use Rattle.accuracy.proofs.Laws.Ring.{◌⊹◌, ◌⋆◌, ◌≼◌, ≼_refl,
 use Rattle.accuracy.proofs.Laws.Ring.{add_take, nn_pos, sorted, spread, *-one, one-*, *_comm, *-+, +-*, +_comm, *-left}
 use Rattle.accuracy.proofs.Within.{Within}
 use Rattle.accuracy.proofs.Laws.Within.{within-≼, within_neg, within_nonneg}
-use Rattle.accuracy.proofs.Laws.Rounds.{smallest, smallest_nn}
+use Rattle.accuracy.proofs.Laws.Rounds.{smallest_nn}
+use Rattle.accuracy.specs.Laws.Rounds.{smallest}
 use Rattle.accuracy.proofs.Laws.Operations.{div_rounds}
 use Rattle.accuracy.proofs.Close.{Close, gain}
 use Rattle.accuracy.proofs.Laws.Close.{gain_nn}

@@ -6,7 +6,8 @@ use Rattle.accuracy.specs.Ring.{NonNeg, nat}
 use Rattle.accuracy.proofs.Laws.Ring.{◌⊹◌, ◌⋆◌, ◌≼◌, ≼_refl, ≼-of, ≼_trans, ≼_add, ≼-times, ≼_mul, nat_add, nat_mul, nn_mul, nn_frac}
 use Rattle.accuracy.proofs.Laws.Ring.{nn_one, *-left, sorted, spread, *-one, one-*, *_comm, *_assoc}
 use Rattle.accuracy.specs.Rounds.{ε}
-use Rattle.accuracy.proofs.Laws.Rounds.{ε_nn, ε-one, smallest, smallest_nn}
+use Rattle.accuracy.proofs.Laws.Rounds.{ε_nn, ε-one, smallest_nn}
+use Rattle.accuracy.specs.Laws.Rounds.{smallest}
 use Rattle.accuracy.proofs.Laws.Powers.{power, power_nn, power-one, θ, θ_nn, θ-one, σ, σ_nn, σ-one, power-first, power_less, power_add}
 use Rattle.accuracy.proofs.Laws.Steps.{Clear}
 use Rattle.accuracy.proofs.Laws.Sizes.{above-nat, cancel, nat_mono}

@@ -19,10 +19,7 @@ use Rattle.accuracy.proofs.Within.{Within}
 use Rattle.accuracy.proofs.Laws.Within.{within-≼, within_neg, within_mono}
 use Rattle.rounding.proofs.Laws.Grid.{Off, off}
 use Rattle.accuracy.specs.Rounds.{ε}
-
--- and the smallest normal double, 2 ^ -1022.
-unfoldable pub smallest : ℚ
-smallest = frac 1 0 (2 ^ 1022 - 1)
+use Rattle.accuracy.specs.Laws.Rounds.{smallest}
 
 -- z is q, rounded: the error, and how large it is where q is at most M and M not below the smallest normal double.
 pub record Rounds (z : Float) (q : ℚ) : Type 0 where

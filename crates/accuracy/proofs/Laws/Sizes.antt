@@ -16,7 +16,8 @@ use Rattle.accuracy.proofs.Laws.Ring.{◌⊹◌, ◌⋆◌, ‐◌, ◌≼◌, �
 use Rattle.accuracy.proofs.Laws.Ring.{*_assoc, *_comm}
 use Rattle.accuracy.proofs.Within.{Within}
 use Rattle.accuracy.proofs.Laws.Within.{within_nonneg, within_neg, within_mono}
-use Rattle.accuracy.proofs.Laws.Rounds.{smallest, signed_is, parts}
+use Rattle.accuracy.proofs.Laws.Rounds.{signed_is, parts}
+use Rattle.accuracy.specs.Laws.Rounds.{smallest}
 use Rattle.accuracy.proofs.Laws.Operations.{value-signed, mul_signed}
 
 -- ---- fractions

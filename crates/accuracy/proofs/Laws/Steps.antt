@@ -19,7 +19,7 @@ use Rattle.exactness.specs.Exact.{rational}
 use Rattle.accuracy.specs.Ring.{NonNeg}
 use Rattle.accuracy.proofs.Laws.Ring.{◌⊹◌, ◌⋆◌, ◌≼◌, ≼_refl, ≼_trans, ≼-times, ≼_mul, ≼-more, nn_add, nn_mul, sorted, *_comm, one-*}
 use Rattle.accuracy.proofs.Laws.Within.{within_nn}
-use Rattle.accuracy.proofs.Laws.Rounds.{smallest}
+use Rattle.accuracy.specs.Laws.Rounds.{smallest}
 use Rattle.accuracy.proofs.Close.{Close}
 use Rattle.accuracy.proofs.Laws.Close.{close_add, close_mul}
 use Rattle.accuracy.proofs.Laws.AtValues.{step_at_value, back_at_value, maybe_value, pattern-value}

@@ -20,7 +20,7 @@ use Rattle.accuracy.proofs.Laws.Ring.{◌⊹◌, ◌⋆◌, ‐◌, ◌≼◌, �
 use Rattle.accuracy.proofs.Laws.Ring.{zero_+, ≼-more}
 use Rattle.accuracy.proofs.Within.{Within}
 use Rattle.accuracy.proofs.Laws.Within.{within_zero, within_nn, within_add, within_neg}
-use Rattle.accuracy.proofs.Laws.Rounds.{smallest}
+use Rattle.accuracy.specs.Laws.Rounds.{smallest}
 use Rattle.accuracy.proofs.Close.{Close}
 use Rattle.accuracy.proofs.Laws.Close.{close-exact, close_mono, close_add, close_sub}
 

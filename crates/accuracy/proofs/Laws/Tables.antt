@@ -23,7 +23,7 @@ use Rattle.exactness.specs.Exact.{rational}
 use Rattle.accuracy.specs.Ring.{NonNeg}
 use Rattle.accuracy.proofs.Laws.Ring.{◌⋆◌, ◌≼◌, ≼_refl, ≼-of, ≼_trans, ≼-times, ≼_mul, ≼_nn, nn_mul, sorted, *-one, one-*, nn_one, +-*}
 use Rattle.accuracy.proofs.Laws.Within.{within_nonneg}
-use Rattle.accuracy.proofs.Laws.Rounds.{smallest}
+use Rattle.accuracy.specs.Laws.Rounds.{smallest}
 use Rattle.accuracy.proofs.Close.{Close}
 use Rattle.accuracy.proofs.Laws.Close.{close-exact, close_mono, close_mul, close_div}
 use Rattle.accuracy.proofs.Laws.AtValues.{back_at_value, maybe_value}

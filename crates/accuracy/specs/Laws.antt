@@ -1,0 +1,2 @@
+-- Definitions that laws speak of.
+pub mod Rounds
