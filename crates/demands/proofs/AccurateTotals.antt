@@ -37,7 +37,8 @@ use Rattle.error_bound.specs.Bound.{most_bits, error_bound_of}
 use Rattle.error_bound.specs.declared.answer.ErrorBound.TheVariants.{Within}
 use Rattle.error_bound.proofs.Laws.Margin.{bits-few, near-one-all}
 use Rattle.demands.proofs.Laws.Given.{lent-inside}
-use Rattle.demands.proofs.OneJob.{Sound, Z-positive}
+use Rattle.demands.proofs.OneJob.{Z-positive}
+use Rattle.demands.specs.OneJob.{Sound}
 use Rattle.demands.proofs.Configurations.{early, signed_job}
 use Rattle.demands.proofs.Accurate.{Accurate, near_of, bound_known, made-close, close-within, roundings-short}
 

@@ -22,7 +22,7 @@ use Rattle.totals_call.specs.Given.{Given}
 use Rattle.totals_call.specs.Calls.{Totalled, Stored, Enumerated, EnumeratedEach, Sampled, misfit_stored, unsound_all, unsound_drawn}
 use Rattle.totals_call.specs.Calls.{house_given, HouseEnumerated, HouseEnumeratedEach, HouseSampled}
 use Rattle.demands.proofs.Configurations.{free}
-use Rattle.demands.proofs.Laws.Alike.{arrangements_alike}
+use Rattle.demands.proofs.Laws.Arranged.{arrangements_alike}
 
 -- ---- the rooms
 

@@ -23,7 +23,7 @@ use Rattle.entry_correlations.specs.Correlations.{manner_of}
 use Rattle.entry_correlations.specs.declared.Manner.{Manner}
 use Rattle.totals_call.specs.Jobs.{job_signed, job_enumerated, job_sampled, unsound_enumeration}
 use Rattle.demands.proofs.Laws.Given.{checked-signed}
-use Rattle.demands.proofs.OneJob.{Sound}
+use Rattle.demands.specs.OneJob.{Sound}
 
 -- 1 for a refusal, else 0; and the number that an answer holds
 abbrev refusals : Answer → ℕ

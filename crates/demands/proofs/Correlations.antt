@@ -29,8 +29,10 @@ use Rattle.error_bound.specs.declared.answer.ErrorBound.TheVariants.{Within}
 use Rattle.error_bound.proofs.Laws.Margin.{bits-few, near-one-all}
 use Rattle.demands.proofs.Laws.Lists.{settled_at}
 use Rattle.demands.proofs.Laws.Given.{checked-given}
-use Rattle.demands.proofs.OneJob.{InUnit, Exact, Bounded, Sound, Z-positive, exact, bounded}
-use Rattle.demands.proofs.Mirror.{Mirrored, mirrored}
+use Rattle.demands.proofs.OneJob.{Z-positive, exact, bounded}
+use Rattle.demands.specs.OneJob.{InUnit, Exact, Bounded, Sound}
+use Rattle.demands.proofs.Mirror.{mirrored}
+use Rattle.demands.specs.Mirror.{Mirrored}
 use Rattle.demands.proofs.Accurate.{near_of, bound_known, made-close, close-within}
 
 module _ {n floor : ℕ} {a b : List ℕ} {m : List Float} {us vs : List ℕ} {factors : List Float} {manner : Manner} {arrangement : Arrangement} {caller : Caller} {r : ℕ}
@@ -56,10 +58,13 @@ module _ {n floor : ℕ} {a b : List ℕ} {m : List Float} {us vs : List ℕ} {f
         second-inside = λ i l. omega (arith, f.second-inside i l);
       }
 
+  settled-result : (j : ℕ) → j < length us → get_or results' j nan ≡ S.answer ieee job (get_or us j 0) (get_or vs j 0)
+  unfolding S.answers
+  settled-result = settled_at r (λ i. S.answer ieee job (get_or us i 0) (get_or vs i 0)) (length us) results results' accepted call.answers
+
   -- Exact: result i is the definition's answer for pair i, rounded,
   pub result-is : (i : ℕ) → i < length us → get_or results' i nan ≡ S.answer ieee job (get_or us i 0) (get_or vs i 0)
-  unfolding S.answers
-  result-is = settled_at r (λ i. S.answer ieee job (get_or us i 0) (get_or vs i 0)) (length us) results results' accepted call.answers
+  result-is = settled-result
 
   -- and that same definition without rounding, at the numbers that the factors stand for, is the textbook ratio.
   pub result-exact : Exact job us vs
@@ -67,7 +72,7 @@ module _ {n floor : ℕ} {a b : List ℕ} {m : List Float} {us vs : List ℕ} {f
 
   -- Bounded: each stored correlation lies in [-1, 1],
   pub result-bounded : (i : ℕ) → i < length us → InUnit (get_or results' i nan)
-  result-bounded i l = rw (result-is i l) ((bounded result-sound).correlation i l)
+  result-bounded i l = rw (settled-result i l) ((bounded result-sound).correlation i l)
 
   -- and no entry of a propagated vector exceeds the forward vector's in size, nor one of the half that is stored.
   pub result-within : Bounded job us vs
@@ -87,7 +92,7 @@ module _ {n floor : ℕ} {a b : List ℕ} {m : List Float} {us vs : List ℕ} {f
       let told = bound_known n floor a b m [] factors false bound answer in
       let edges : length (kept_early a b m) ≡ length (kept a b m) = length-map (kept a b m) (λ x. x.early) in
       let positive-at : (e : ℕ) → e < length (kept a b m) → T (positive (get_or factors e nan)) = λ e k. passes-positive (get_or factors e nan) (f.factors_pass e k) in
-      rw (result-is i l, told.1)
+      rw (settled-result i l, told.1)
       (close-within n floor a b m us vs (manner_of manner) facts.job (λ e. get_or factors e nan) positive-at
       (made-close n floor a b m us vs (manner_of manner) facts.job (λ e. get_or factors e nan) positive-at
       (λ e k. near-one-all (most_bits w near) (bits-few w near) factors told.0 e (omega (arith, f.factor-count)) (positive-at e (omega arith)))

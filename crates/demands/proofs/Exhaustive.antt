@@ -42,8 +42,10 @@ use Rattle.demands.proofs.Configurations as C
 use Rattle.demands.proofs.Configurations.{accepted-number, pair_inside, beta-inside, enumeration_facts, few-free, configuration-sound}
 use Rattle.demands.proofs.Accurate.{Accurate}
 use Rattle.demands.proofs.AccurateTotals as A
-use Rattle.demands.proofs.OneJob.{Exact, Bounded, Sound, answerable, exact, bounded}
-use Rattle.demands.proofs.Mirror.{Mirrored, mirrored}
+use Rattle.demands.proofs.OneJob.{answerable, exact, bounded}
+use Rattle.demands.specs.OneJob.{Exact, Bounded, Sound}
+use Rattle.demands.proofs.Mirror.{mirrored}
+use Rattle.demands.specs.Mirror.{Mirrored}
 
 module _ {n floor : ℕ} {a b : List ℕ} {m : List Float} {us vs : List ℕ} {betas factors : List Float} {manner : Manner} {arrangement : Arrangement} {caller : Caller}
     {squares squares' fourths fourths' work work' : List Float} {count : ℕ}

@@ -6,3 +6,4 @@ pub mod Halves
 pub mod Mirror
 pub mod Kept
 pub mod Summed
+pub mod Arranged

@@ -15,3 +15,4 @@ pub mod Tester
 pub mod Arrangements
 -- and the laws of these definitions, which no reader needs to believe.
 pub mod Laws
+pub mod CurrentHalf

@@ -1,12 +1,10 @@
 -- The mirror rule: where every spin is flipped, index k becomes 2^window - 1 - k. What it says of the vectors of one job and its pairs; and of the halves in
 -- the room, which stand for these vectors and for no others.
-use Rattle.std.specs.Prelude.{◌≡◌, true, List, ℕ, ◌+◌, ◌*◌, ◌-◌, ◌^◌, ◌≤◌, ◌<◌, T, Float, length, get_or}
+use Rattle.std.specs.Prelude.{◌≡◌, true, List, ℕ, ◌+◌, ◌-◌, ◌^◌, ◌≤◌, ◌<◌, T, Float, length}
 use Rattle.std.proofs.Common.{sym, subst}
-use Rattle.std.specs.Float.{nan}
-use Rattle.std.specs.Float.Ieee.{neg, eq}
+use Rattle.std.specs.Float.Ieee.{eq}
 use Rattle.std.specs.Float.Ieee.Scale.{finite}
 use Rattle.std.specs.Float.Ieee.Positive.{positive-finite}
-use Rattle.rounding.specs.Alike.{Alike}
 use Rattle.rounding.proofs.Laws.Alike.{alike_is, alike_sym, alike_neg}
 use Rattle.rounding.proofs.Laws.Negation.{neg_neg}
 use Rattle.transfer_matrix.specs.Job.{Job}
@@ -20,34 +18,13 @@ use Rattle.plan_steps.specs.Layout.{forward_place, backward_place}
 use Rattle.pair_sums.specs.Terms.{half_at}
 use Rattle.vertex_step.specs.Ready.{Forward, Backward}
 use Rattle.sweep_places.specs.BackwardInvariant.{NewestBackward}
-use Rattle.propagation.specs.Current.{Reached, CurrentKnown}
-use Rattle.propagation.specs.declared.current.CurrentVector.{CurrentVector}
+use Rattle.propagation.specs.Current.{Reached}
 use Rattle.pair_correlations.specs.Aim.{VertexHalves}
-use Rattle.demands.proofs.OneJob.{Sound, Z-positive}
+use Rattle.demands.proofs.OneJob.{Z-positive}
+use Rattle.demands.specs.OneJob.{Sound}
 use Rattle.demands.proofs.Laws.Kept.{forward_for, backward_for}
 use Rattle.demands.proofs.Laws.Mirror.{alike_equal, forwards_symmetric, backwards_symmetric, propagated_opposite}
-
--- The index of window w with every spin flipped.
-abbrev pub mirror : ℕ → ℕ → ℕ
-mirror w k = 2 ^ w - 1 - k
-
--- Of the definition with each operation rounded. `eq` compares as numbers: zeros of either sign are equal, and a NaN equals nothing.
-pub record Mirrored (J : Job Float) (us vs : List ℕ) : Type 0 where
-  -- Each forward vector up to a pair's later vertex, so each that is kept or used for a pair, has equal entries at k and at its mirror,
-  pub forward : (i : ℕ) → i < length us → (t k : ℕ) → t ≤ later us vs i → k < 2 ^ J.window
-      → T (eq (S.at ieee (S.forward ieee J t) k) (S.at ieee (S.forward ieee J t) (mirror J.window k)))
-  -- so has the backward vector at the later vertex, kept or used in passing,
-  pub backward : (i : ℕ) → i < length us → (k : ℕ) → k < 2 ^ J.window
-      → T (eq (S.at ieee (S.backward ieee J (later us vs i)) k) (S.at ieee (S.backward ieee J (later us vs i)) (mirror J.window k)))
-  -- and each propagated vector, from the earlier vertex on up to its last pair, has opposite ones.
-  pub propagated : (i : ℕ) → i < length us → (t k : ℕ) → earlier us vs i + t ≤ later us vs i → k < 2 ^ J.window
-      → T (eq (S.at ieee (S.propagated ieee J (earlier us vs i) t) k) (neg (S.at ieee (S.propagated ieee J (earlier us vs i) t) (mirror J.window k))))
-  -- At every vertex, whatever overflows: forward and backward entries are the same bits,
-  pub forward-same : (t k : ℕ) → k < 2 ^ J.window → S.at ieee (S.forward ieee J t) k ≡ S.at ieee (S.forward ieee J t) (mirror J.window k)
-  pub backward-same : (t k : ℕ) → k < 2 ^ J.window → S.at ieee (S.backward ieee J t) k ≡ S.at ieee (S.backward ieee J t) (mirror J.window k)
-  -- and propagated ones the negated bits, but for the signs of zeros.
-  pub propagated_alike : (u t k : ℕ) → k < 2 ^ J.window
-      → Alike (S.at ieee (S.propagated ieee J u t) k) (neg (S.at ieee (S.propagated ieee J u t) (mirror J.window k)))
+use Rattle.demands.specs.Mirror.{mirror, Mirrored, LowerHalf, LowerHalfAlike}
 
 module _ {J : Job Float} {us vs : List ℕ} (ok : Sound J us vs) where
   Z-finite : (i : ℕ) → i < length us → T (finite (S.Z ieee J (later us vs i)))
@@ -85,16 +62,6 @@ module _ {J : Job Float} {us vs : List ℕ} (m : Mirrored J us vs) where
 
 -- ---- the room: a place holds 2 ^ (w - 1) numbers, the lower half of a vector
 
--- What lies at place p is the lower half of the vector v, bit for bit, and so is v's upper half from its end.
-pub record LowerHalf (r : List Float) (w p : ℕ) (v : List Float) : Type 0 where
-  pub low : (j : ℕ) → j < 2 ^ (w - 1) → get_or r (p * 2 ^ w + j) nan ≡ S.at ieee v j
-  pub high : (j : ℕ) → j < 2 ^ (w - 1) → get_or r (p * 2 ^ w + j) nan ≡ S.at ieee v (mirror w j)
-
--- What lies at place p is, but for the signs of zeros, the lower half of the vector v, and v's upper half from its end is the negative of it.
-pub record LowerHalfAlike (r : List Float) (w p : ℕ) (v : List Float) : Type 0 where
-  pub low : (j : ℕ) → j < 2 ^ (w - 1) → Alike (get_or r (p * 2 ^ w + j) nan) (S.at ieee v j)
-  pub high : (j : ℕ) → j < 2 ^ (w - 1) → Alike (get_or r (p * 2 ^ w + j) nan) (neg (S.at ieee v (mirror w j)))
-
 symmetric_lower : {r : List Float} {w p : ℕ} {v : List Float} → SymmetricHalf w (half_at r w p) v → LowerHalf r w p v
 symmetric_lower e = record { low = λ j b. sym (e.low j b); high = λ j b. sym (e.high j b) }
 
@@ -125,8 +92,3 @@ vertex-halves g = (symmetric_lower g.forward, symmetric_lower g.backward)
 -- and a propagated one from the half of the definition's propagated vector, wherever it has come to:
 pub reached-half : {J : Job Float} {r : List Float} {w u t at : ℕ} → Reached J r w u t at → LowerHalfAlike r w at (S.propagated ieee J u (t - u))
 reached-half g = antisymmetric_lower g.vector
-
--- the current one.
-pub current_half : {J : Job Float} {r : List Float} {n w : ℕ} {current : CurrentVector} → CurrentKnown J r n w current → current.vertex < n
-    → LowerHalfAlike r w current.place (S.propagated ieee J current.vertex (current.reached - current.vertex))
-current_half g l = reached-half (g.reached l)

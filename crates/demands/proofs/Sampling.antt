@@ -46,8 +46,10 @@ use Rattle.demands.proofs.Configurations as C
 use Rattle.demands.proofs.Configurations.{accepted-number, pair_inside, beta-inside, signed-sound}
 use Rattle.demands.proofs.Accurate.{Accurate}
 use Rattle.demands.proofs.AccurateTotals as A
-use Rattle.demands.proofs.OneJob.{Exact, Bounded, Sound, answerable, exact, bounded}
-use Rattle.demands.proofs.Mirror.{Mirrored, mirrored}
+use Rattle.demands.proofs.OneJob.{answerable, exact, bounded}
+use Rattle.demands.specs.OneJob.{Exact, Bounded, Sound}
+use Rattle.demands.proofs.Mirror.{mirrored}
+use Rattle.demands.specs.Mirror.{Mirrored}
 
 module _ {n floor : ℕ} {a b : List ℕ} {m : List Float} {us vs : List ℕ} {betas factors : List Float} {manner : Manner} {arrangement : Arrangement} {caller : Caller} {seed from to samples : ℕ}
     {squares squares' fourths fourths' work work' : List Float} {count : ℕ}
@@ -92,11 +94,15 @@ module _ {n floor : ℕ} {a b : List ℕ} {m : List Float} {us vs : List ℕ} {b
       subst (λ (c : ℕ). Sound (drawn c j beta) us vs) e (drawn-sound (chunk - from) j beta (omega arith) s l)
 
   -- Exact: the totals are the definition's, of squares and of fourth powers,
-  pub sampled_squares_are : (k : ℕ) → k < length betas * length us
-      → get_or squares' k nan ≡ sampled ieee (square ieee) from to samples (λ i j. correlation_at (drawn i j) us vs k)
-  sampled_squares_are =
+  settled-squares : (q : ℕ) → q < length betas * length us
+      → get_or squares' q nan ≡ sampled ieee (square ieee) from to samples (λ i j. correlation_at (drawn i j) us vs q)
+  settled-squares =
       settled_at _ (λ k. sampled ieee (square ieee) from to samples (λ i j. correlation_at (drawn i j) us vs k)) (length betas * length us) squares squares'
       accepted.0 call.call.squares_are
+
+  pub sampled_squares_are : (k : ℕ) → k < length betas * length us
+      → get_or squares' k nan ≡ sampled ieee (square ieee) from to samples (λ i j. correlation_at (drawn i j) us vs k)
+  sampled_squares_are = settled-squares
 
   pub sampled_fourths_are : (k : ℕ) → k < length betas * length us
       → get_or fourths' k nan ≡ sampled ieee (fourth ieee) from to samples (λ i j. correlation_at (drawn i j) us vs k)
@@ -118,7 +124,7 @@ module _ {n floor : ℕ} {a b : List ℕ} {m : List Float} {us vs : List ℕ} {b
       let p = k % length us in
       let beta = k / length us in
       let few = facts.1 in
-      rw (sampled_squares_are k l, sampled_fourths_are k l, sampling_counted)
+      rw (settled-squares k l, sampled_fourths_are k l, sampling_counted)
       (sampled-answers-bounded from to samples (λ i j. drawn i j beta) (get_or us p 0) (get_or vs p 0) (omega arith)
       (λ chunk j u v s.
       answerable (sampling_sound chunk j beta u v s (beta-inside (length betas) (length us) k l)) p (pair_inside (length betas) (length us) k l)))
@@ -157,7 +163,7 @@ module _ {n floor : ℕ} {a b : List ℕ} {m : List Float} {us vs : List ℕ} {b
           (nat count ⋆ value (total_bound (squares_roundings taken (to - from) samples)))
       unfolding sampled
       sampled-squares-accurate =
-          rw (sampled_squares_are k l, sampling_counted)
+          rw (settled-squares k l, sampling_counted)
           (A.squares-apart n floor a b m us vs betas factors manner misfit (length work) facts.0 bound answered (to - from) samples few
           (λ c j. sampled_minus seed (length (C.early a b m)) (from + c) j) (k / length us) (k % length us)
           (beta-inside (length betas) (length us) k l) (pair_inside (length betas) (length us) k l) sound-at)
@@ -178,7 +184,7 @@ module _ {n floor : ℕ} {a b : List ℕ} {m : List Float} {us vs : List ℕ} {b
       unfolding sampled
       sampled-mean-accurate some =
           let counted : 0 < (to - from) * samples = subst (λ (c : ℕ). 0 < c) sampling_counted some in
-          rw (sampled_squares_are k l, sampling_counted)
+          rw (settled-squares k l, sampling_counted)
           (A.mean-apart n floor a b m us vs betas factors manner misfit (length work) facts.0 bound answered (to - from) samples few
           (λ c j. sampled_minus seed (length (C.early a b m)) (from + c) j) (k / length us) (k % length us)
           (beta-inside (length betas) (length us) k l) (pair_inside (length betas) (length us) k l) sound-at counted)

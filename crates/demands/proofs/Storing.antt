@@ -30,8 +30,10 @@ use Rattle.demands.proofs.Laws.Lists.{settled_at}
 use Rattle.demands.proofs.Configurations as C
 use Rattle.demands.proofs.Configurations.{accepted-number, pair_inside, beta-inside, enumeration_facts, configuration-sound}
 use Rattle.demands.proofs.AccurateTotals.{exactly, signed-accurate}
-use Rattle.demands.proofs.OneJob.{InUnit, Exact, Bounded, Sound, exact, bounded}
-use Rattle.demands.proofs.Mirror.{Mirrored, mirrored}
+use Rattle.demands.proofs.OneJob.{exact, bounded}
+use Rattle.demands.specs.OneJob.{InUnit, Exact, Bounded, Sound}
+use Rattle.demands.proofs.Mirror.{mirrored}
+use Rattle.demands.specs.Mirror.{Mirrored}
 
 module _ {n floor : ℕ} {a b : List ℕ} {m : List Float} {us vs : List ℕ} {betas factors : List Float} {manner : Manner} {arrangement : Arrangement} {caller : Caller}
     {stored stored' work work' : List Float} {count : ℕ}
@@ -69,15 +71,19 @@ module _ {n floor : ℕ} {a b : List ℕ} {m : List Float} {us vs : List ℕ} {b
       settled_at _ (λ k. correlation_at (configuration (k % 2 ^ free)) us vs (k / 2 ^ free)) size stored stored' accepted.0 call.call.stored_are
 
   -- that of configuration x, a beta and pair p at (beta times pairs + p) times 2^free + x,
-  pub stored-at : (x beta p : ℕ) → x < 2 ^ free → beta < length betas → p < length us
-      → get_or stored' ((beta * length us + p) * 2 ^ free + x) nan ≡ S.answer ieee (configuration x beta) (get_or us p 0) (get_or vs p 0)
-  stored-at x beta p h l k =
+  settled-stored : (y beta p : ℕ) → y < 2 ^ free → beta < length betas → p < length us
+      → get_or stored' ((beta * length us + p) * 2 ^ free + y) nan ≡ S.answer ieee (configuration y beta) (get_or us p 0) (get_or vs p 0)
+  settled-stored x beta p h l k =
       let q = beta * length us + p in
       let below : q + 1 ≤ length betas * length us = omega (arith, mul-le-mul_right (length us) l) in
       let inside : q * 2 ^ free + x < size = omega (arith, mul-le-mul_right (2 ^ free) below) in
       let d : (q * 2 ^ free + x) / 2 ^ free ≡ q = mul-add-div_right (pow_pos free) q x ∙ ap (λ (j : ℕ). q + j) (div-eq_of_lt h) ∙ add-zero q in
       let r : (q * 2 ^ free + x) % 2 ^ free ≡ x = mul-add-mod_self_right q (2 ^ free) x ∙ mod-eq_of_lt h in
       rw (stored_are (q * 2 ^ free + x) inside, d, r, ← pair-numbered (configuration x) us vs beta p k)
+
+  pub stored-at : (x beta p : ℕ) → x < 2 ^ free → beta < length betas → p < length us
+      → get_or stored' ((beta * length us + p) * 2 ^ free + x) nan ≡ S.answer ieee (configuration x beta) (get_or us p 0) (get_or vs p 0)
+  stored-at = settled-stored
 
   -- the count is 2^free,
   pub storing-counted : count ≡ 2 ^ free
@@ -110,7 +116,7 @@ module _ {n floor : ℕ} {a b : List ℕ} {m : List Float} {us vs : List ℕ} {b
       → (x beta p : ℕ) → x < 2 ^ free → beta < length betas → p < length us
       → Apart (value (get_or stored' ((beta * length us + p) * 2 ^ free + x) nan)) (exactly (configuration x beta) us vs p) (value bound)
   stored-accurate bound answered x beta p h l k =
-      rw (stored-at x beta p h l k)
+      rw (settled-stored x beta p h l k)
       ((signed-accurate n floor a b m us vs betas factors manner misfit (length work)
       facts bound answered
       (enumerated_minus (bit_of (C.early a b m) (C.late a b m)) x) beta l (storing-sound x beta h l)).correlation p k)

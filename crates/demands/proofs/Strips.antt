@@ -15,8 +15,8 @@ use Rattle.error_bound.specs.Bound.{error_bound_of}
 use Rattle.error_bound.specs.declared.answer.ErrorBound.{ErrorBound}
 use Rattle.error_bound.specs.declared.answer.ErrorBound.TheVariants.{Within}
 use Rattle.demands.proofs.Configurations.{free, configuration, drawn_configuration}
-use Rattle.demands.proofs.OneJob.{Exact, Bounded}
-use Rattle.demands.proofs.Mirror.{Mirrored}
+use Rattle.demands.specs.OneJob.{Exact, Bounded}
+use Rattle.demands.specs.Mirror.{Mirrored}
 use Rattle.demands.proofs.Accurate.{Accurate}
 use Rattle.demands.proofs.Correlations.{result-is, result-exact, result-within, result-mirrored, result-accurate}
 use Rattle.demands.proofs.Exhaustive.{enumeration_exact, enumeration_bounded, enumeration_within, enumeration_mirrored, enumeration_accurate}

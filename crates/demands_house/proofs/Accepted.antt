@@ -32,8 +32,8 @@ use Rattle.totals_call.specs.Jobs.{stored_count}
 use Rattle.totals_call.specs.Calls.{Enumerated, EnumeratedEach, Sampled, HouseEnumerated, HouseEnumeratedEach, HouseSampled}
 use Rattle.error_bound.specs.Bound.{error_bound_of}
 use Rattle.error_bound.specs.declared.answer.ErrorBound.TheVariants.{Within}
-use Rattle.demands.proofs.OneJob.{InUnit, Exact, Bounded}
-use Rattle.demands.proofs.Mirror.{Mirrored}
+use Rattle.demands.specs.OneJob.{InUnit, Exact, Bounded}
+use Rattle.demands.specs.Mirror.{Mirrored}
 use Rattle.demands.proofs.Accurate.{Accurate}
 use Rattle.demands.proofs.AccurateTotals.{exactly, roundings}
 use Rattle.demands.proofs.Configurations.{early, late, free}

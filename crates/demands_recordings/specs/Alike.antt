@@ -14,7 +14,7 @@ use Rattle.totals_call.specs.Given.{Given, free}
 use Rattle.totals_call.specs.Calls.{unsound_drawn, house_given}
 use Rattle.record_checks.specs.Recording.{other_length}
 use Rattle.record_call.specs.Calls.{lent_given, Recorded, HouseRecorded, head_for}
-use Rattle.demands.proofs.Laws.Alike.{arrangements_alike}
+use Rattle.demands.proofs.Laws.Arranged.{arrangements_alike}
 use Rattle.demands_house.specs.Factors.{table_factors}
 use Rattle.demands_house.proofs.Laws.Lent.{never}
 use Rattle.demands_recordings.specs.Written.{record_is}

@@ -5,7 +5,7 @@ use Rattle.std.specs.Float.Ieee.{neg, le, of_bits}
 use Rattle.list_laws.specs.Tabulate.{tabulate}
 use Rattle.list_laws.proofs.Laws.Tabulate.{tabulate-length}
 use Rattle.entry_correlations.specs.Correlations.{settled}
-use Rattle.demands.proofs.OneJob.{InUnit}
+use Rattle.demands.specs.OneJob.{InUnit}
 use Rattle.shares.specs.Shares.{+1·0, bad_entry}
 
 both_hold : (p q : Bool) → T p → T q → not (p && q) ≡ false
