@@ -45,9 +45,9 @@ module _ {n floor : ℕ} {a b : List ℕ} {m : List Float} {us vs : List ℕ} {c
       correlation_request caller (arrangement_of arrangement) n floor a b m us vs couplings (length results) (length work)
       (unsound (job_given n floor a b m (single_factors couplings) manner) us vs)
 
-  -- It is the call of `correlations` with the table's factors,
-  pub house_correlations_lent : (r ≡ 23 → ⊥) → Correlated n floor a b m us vs (single_factors couplings) manner arrangement caller r results results' work work'
-  house_correlations_lent h = record {
+  lent-call : (r ≡ 23 → ⊥)
+      → Correlated n floor a b m us vs (single_factors couplings) manner arrangement caller r results results' work work'
+  lent-call h = record {
     answer =
         call.answer
         ∙ correlations_as_lent request (single_factors couplings) (length (kept a b m)) (L.single_pass couplings (length (kept a b m))) (λ p. h (call.answer ∙ p));
@@ -55,11 +55,15 @@ module _ {n floor : ℕ} {a b : List ℕ} {m : List Float} {us vs : List ℕ} {c
     memory = call.memory;
   }
 
+  -- It is the call of `correlations` with the table's factors,
+  pub house_correlations_lent : (r ≡ 23 → ⊥) → Correlated n floor a b m us vs (single_factors couplings) manner arrangement caller r results results' work work'
+  house_correlations_lent = lent-call
+
   -- which on the same lists answers and leaves the same.
   pub house-results-same : (r ≡ 23 → ⊥) → {s : ℕ} {results'' work'' : List Float}
       → Correlated n floor a b m us vs (single_factors couplings) manner arrangement caller s results results'' work work'' → (r ≡ s) × (results' ≡ results'') × (work' ≡ work'')
   house-results-same h {s} d =
-      let c = house_correlations_lent h in
+      let c = lent-call h in
       let e : r ≡ s = c.answer ∙ sym d.answer in
       (e, c.answers ∙ rw e (sym d.answers), c.memory ∙ rw e (sym d.memory))
 

@@ -176,25 +176,29 @@ module _ {s : Strip} {r : Request} (S : Sides s.w s.l) (o : odd_cylinder s ≡ f
   pub graph-passes : 0 ≡ refusal of_graph r
   graph-passes = past _ _ _ _ vertices_pass (past _ _ _ _ lists_pass (past _ _ _ _ edges_pass (past _ _ _ _ sizes_pass (past _ _ _ _ W.rising-betas (past _ _ _ _ apart_pass refl)))))
 
-  -- The window of the call is the strip's, or the floor.
-  pub whole-window : window_in r ≡ max r.floor (window_of s)
+  wider-one : window_in r
+      ≡ max r.floor (window_of s)
   unfolding Job.window_of Job.longest
-  whole-window = rw (W.ones, W.others, W.magnitudes, kept-early, kept-late, a-length) (swapped 1 r.floor _)
+  wider-one = rw (W.ones, W.others, W.magnitudes, kept-early, kept-late, a-length) (swapped 1 r.floor _)
     where
       swapped : (x y z : ℕ) → max x (max y z) ≡ max y (max x z)
       swapped x y z = omega arith
 
+  -- The window of the call is the strip's, or the floor.
+  pub whole-window : window_in r ≡ max r.floor (window_of s)
+  whole-window = wider-one
+
   -- A call that asks the checks 1 to 6, and neither of a sheet nor of run records nor of a place, is refused by 6, where the strip is too wide.
   pub too_wide : (more : List Key) → OfJob more → most_window < window_of s → 6 ≡ refusal (of_room ++ more) r
   too_wide more j h =
-      let wide : wide_window most_window r ≡ true = rw whole-window (lt-ltb most_window (max r.floor (window_of s)) (le_trans h (le-max_right r.floor (window_of s)))) in
+      let wide : wide_window most_window r ≡ true = rw wider-one (lt-ltb most_window (max r.floor (window_of s)) (le_trans h (le-max_right r.floor (window_of s)))) in
       rw (j.no_records, j.no_tail, j.no_runs, j.no_joining, j.no_place)
       (past _ _ _ _ vertices_pass
       (past _ _ _ _ lists_pass (past _ _ _ _ edges_pass (past _ _ _ _ sizes_pass (past _ _ _ _ W.rising-betas (past _ _ _ _ apart_pass (here _ _ _ wide)))))))
 
   -- Where it is not, nor the floor, 6 does not fit.
   pub wide_enough : window_of s ≤ most_window → r.floor ≤ most_window → wide_window most_window r ≡ false
-  wide_enough h k = rw whole-window (le-ltb most_window (max r.floor (window_of s)) (max-le k h))
+  wide_enough h k = rw wider-one (le-ltb most_window (max r.floor (window_of s)) (max-le k h))
 
   -- So are cylinders of eight neighbours, two columns or more, from width 13 on,
   pub eight_too_wide : (more : List Key) → OfJob more → is_eight s.kind ≡ true → s.periodic ≡ true → 1 < s.l → 12 < s.w → 6 ≡ refusal (of_room ++ more) r
