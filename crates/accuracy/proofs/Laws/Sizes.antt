@@ -7,7 +7,7 @@ use Rattle.std.specs.Float.Ieee.Fits.{down_pos}
 use Rattle.std.specs.Float.Ieee.Scale.{finite}
 use Rattle.std.specs.Float.Ieee.Positive.{num, den}
 use Rattle.rounding.specs.Laws.Sign.{not_minus}
-use Rattle.rounding.proofs.Laws.Under as U
+use Rattle.rounding.specs.Laws.Under as Order
 use Rattle.fraction.proofs.Fraction.{ℚ, frac, oneℚ, invℚ, posℚ, Posℚ}
 use Rattle.fraction.proofs.Laws.Fraction.{pos_inv, mul_inv_pos, add_neg, pos_mul}
 use Rattle.fraction.proofs.Value.{value}
@@ -68,7 +68,7 @@ smallest-one = frac-≼ 1 (2 ^ 1022) 1 1 (pow_pos 1022) (pow_pos 0) (lit≤ tt)
 -- ---- doubles: no larger in size
 
 -- A double that is under another is no larger in size.
-pub under-within : (x y : Float) → U.Under x y → T (finite y) → Within (value x) (value y)
+pub under-within : (x y : Float) → Order.Under x y → T (finite y) → Within (value x) (value y)
 under-within x y u f = go x y u.sign (u.size f).is_finite f (u.size f).at_most
   where
     own : (s : Bool) (q r : ℚ) → NonNeg q → q ≼ r → Within (cond s (‐ q) q) r

@@ -16,6 +16,7 @@ use Rattle.rounding.specs.Laws.Under.{Under}
 use Rattle.rounding.proofs.Laws.Sums.{total}
 use Rattle.rounding.specs.Whole.{whole}
 use Rattle.rounding.proofs.Laws.Whole.{whole-finite, whole-positive}
+use Rattle.rounding.specs.Laws.Powers as Powers
 use Rattle.rounding.proofs.Laws.Powers as P
 use Rattle.rounding.proofs.Laws.Powers.{Chained, square-under, chained_run, chunked_equal}
 use Rattle.fraction.proofs.Fraction.{ℚ, zeroℚ, oneℚ, invℚ}
@@ -85,10 +86,10 @@ module _ (k n m : ℕ) (c : ℕ → ℕ → Float) (t : ℕ → ℕ → ℚ) (so
   m-few : (i : ℕ) → i < n → m ≤ 2 ^ 53
   m-few i l = le_trans (let q = mul-le-mul_right m l in omega arith) few
 
-  chunk : (i : ℕ) → i < n → Chained binary64 (total binary64 (λ j. P.fourth binary64 (c i j)) m) (total binary64 (λ j. P.square binary64 (c i j)) m) m
+  chunk : (i : ℕ) → i < n → Chained binary64 (total binary64 (λ j. Powers.fourth binary64 (c i j)) m) (total binary64 (λ j. Powers.square binary64 (c i j)) m) m
   chunk i l = chained_run binary64 (c i) m (m-few i l) (λ j b. inside i j l b)
 
-  everything : Chained binary64 (P.chunks binary64 (P.fourth binary64) c (λ _. m) n) (P.chunks binary64 (P.square binary64) c (λ _. m) n) (n * m)
+  everything : Chained binary64 (P.chunks binary64 (Powers.fourth binary64) c (λ _. m) n) (P.chunks binary64 (Powers.square binary64) c (λ _. m) n) (n * m)
   everything = chunked_equal binary64 c m n few (λ i l j b. inside i j l b)
 
   -- The sums of a chunk, and of all, are finite.
@@ -134,7 +135,7 @@ module _ (k n m : ℕ) (c : ℕ → ℕ → Float) (t : ℕ → ℕ → ℚ) (so
       (chunked rational n m (λ i j. square rational (t i j)) ⋆ invℚ q) oneℚ) v
       (close_div y oneℚ p g squares-close (≼-of _ _ (ap (λ q. nat (n * m) ⋆ invℚ q) v ∙ mul_inv_pos (nat (n * m)) (above-nat (n * m) count))) smallest-one)
     where
-      chunks_are : P.chunks binary64 (P.square binary64) c (λ _. m) n ≡ chunked ieee n m (λ i j. square ieee (c i j))
+      chunks_are : P.chunks binary64 (Powers.square binary64) c (λ _. m) n ≡ chunked ieee n m (λ i j. square ieee (c i j))
       chunks_are = sym (simp sum_is)
 
 -- ---- roundings in units
