@@ -4,7 +4,7 @@
 usage: tools/statements.py FOLDER            each with its file, a theorem without its proof
        tools/statements.py OLD NEW           those of OLD that NEW does not have word for word, crate by crate, wherever they stand
 
-Proofs of functions (Proof, Invariants, Answers) are passed over.
+Proofs of functions (Proof, Invariants, Answers), imports, and the bodies of definitions that are not marked to be unfolded are passed over.
 """
 
 import collections
@@ -14,10 +14,12 @@ import re
 import sys
 
 NAME = r'[^\s(){}.;,@"«»]+'
-HEAD = re.compile(
-    r"^( *)((?:(?:pub|abbrev|unfoldable|opaque|record|data)\s+)*)(" + NAME + r")((?:\s*(?:\{[^{}]*\}|\([^()]*(?:\([^()]*\)[^()]*)*\)))*)\s*:(?=\s|$)"
-)
-WHOLE = {"abbrev", "unfoldable", "record", "data"}
+# Parameters in parentheses, up to four deep, or in braces.
+ROUND = r"\((?:[^()]|\((?:[^()]|\((?:[^()]|\([^()]*\))*\))*\))*\)"
+CURLED = r"\{(?:[^{}]|\{[^{}]*\})*\}"
+# The head of a declaration; that of a record or a type may go on in the next line.
+HEAD = re.compile(rf"^( *)((?:(?:pub|abbrev|unfoldable|opaque|record|data|ruleset)\s+)*)({NAME})((?:\s*(?:{CURLED}|{ROUND}))*)\s*(:(?=\s|$)|$)")
+WHOLE = {"abbrev", "unfoldable", "record", "data", "ruleset"}
 
 
 def statements(path):
@@ -26,7 +28,7 @@ def statements(path):
     i = 0
     while i < len(lines):
         m = HEAD.match(lines[i])
-        if not m or lines[i].lstrip().startswith(("--", "use ", "infix", "module ", "let ", "rw ")):
+        if not m or not m[5] and not {"record", "data"} & set(m[2].split()) or lines[i].lstrip().startswith(("--", "use ", "infix", "module ", "let ", "rw ")):
             i += 1
             continue
         indent, is_whole = len(m[1]), bool(WHOLE & set(m[2].split()))
