@@ -41,7 +41,7 @@ pub fn sweeps() -> String {
         let bonds =
             edges.iter().zip(&couplings).map(|(&(a, b), j)| format!("bond {a} {b} {:#018x} ∷ ", j.exp().to_bits())).collect::<String>();
         let (far, near) = ((0, n - 1), (n - 1 - n / 3, n - 2 - n / 3));
-        for (manner, slow, is_far) in [("block", "0", i % 2 == 0), ("perElement", "1", i % 2 == 1)] {
+        for (manner, slow, is_far) in [("block", "0", i % 2 == 0), ("per_element", "1", i % 2 == 1)] {
             std::env::set_var("FDK_SLOW", slow);
             let (u, v) = if is_far { far } else { near };
             let plan = Plan::new(&graph, &[(u, v)]);
@@ -60,7 +60,7 @@ pub fn sweeps() -> String {
 const SWEEPS_HEAD: &str = "\
 -- The original's answers for small jobs, by their bits, a list for each window. `answers sweeps` of rust/oracle made this file: it runs the
 -- original on graphs of 2 to 10 vertices in both manners, couplings drawn from -1.5 to 1.5; a factor is the original's exp of its coupling.
-use mathlib.Core.List.{List, [], _∷_}
-use Rattle·transfer_matrix·specs.specs.Job.{block, perElement}
-use Rattle·transfer_matrix·specs.specs.Replay.{Answered, answered, bond}
+use Rattle.std.specs.Prelude.{List, [], ◌∷◌}
+use Rattle.transfer_matrix.specs.Job.{block, per_element}
+use Rattle.transfer_matrix.specs.Replay.{Answered, answered, bond}
 ";
