@@ -88,34 +88,40 @@ module _ {n floor : ℕ} {a b : List ℕ} {m : List Float} {us vs : List ℕ} {b
       accepted.0 call.call.fourths_are
 
   -- the count is 2^free,
+  configurations-counted : count ≡ 2 ^ free
+  configurations-counted = accepted.1
+
   pub enumeration_counted : count ≡ 2 ^ free
-  enumeration_counted = accepted.1
+  enumeration_counted = configurations-counted
 
   -- and the correlations summed are, without rounding, the textbook ratios: of every configuration, beta and pair.
   pub enumeration_exact : (x beta : ℕ) → x < 2 ^ free → beta < length betas → Exact (configuration x beta) us vs
   enumeration_exact x beta h l = exact (enumeration_sound x beta (omega arith) l)
 
   -- Bounded: in every total 0 ≤ fourth powers ≤ squares ≤ count,
-  pub enumeration_bounded : (k : ℕ) → k < length betas * length us → Ordered binary64 (get_or fourths' k nan) (get_or squares' k nan) count
-  enumeration_bounded k l =
+  totals-ordered : (k : ℕ) → k < length betas * length us → Ordered binary64 (get_or fourths' k nan) (get_or squares' k nan) count
+  totals-ordered k l =
       let p = k % length us in
       let beta = k / length us in
       let few = few-free n floor a b m us vs betas factors manner misfit (length work) caller (arrangement_of arrangement) most_counted accepted.0 in
-      rw (squares_are k l, fourths_are k l, enumeration_counted)
+      rw (squares_are k l, fourths_are k l, configurations-counted)
       (enumerated-answers-bounded free (λ x. configuration x beta) (get_or us p 0) (get_or vs p 0) (omega arith)
       (λ x h. answerable (enumeration_sound x beta h (beta-inside (length betas) (length us) k l)) p (pair_inside (length betas) (length us) k l)))
+
+  pub enumeration_bounded : (k : ℕ) → k < length betas * length us → Ordered binary64 (get_or fourths' k nan) (get_or squares' k nan) count
+  enumeration_bounded k l = totals-ordered k l
 
   -- so `estimate_complete` accepts it, and `estimates_complete` all of them: nothing was sampled, and there is no sampling error,
   enumeration_power : Power count
   enumeration_power = record {
     free = free;
     few = few-free n floor a b m us vs betas factors manner misfit (length work) caller (arrangement_of arrangement) most_counted accepted.0;
-    is = enumeration_counted;
+    is = configurations-counted;
   }
 
   pub enumeration_complete : (k : ℕ) → k < length betas * length us
       → complete_of count (get_or squares' k nan) (get_or fourths' k nan) ≡ Complete (mean_spread_of (number count) (get_or squares' k nan) (get_or fourths' k nan))
-  enumeration_complete k l = ordered_complete enumeration_power (enumeration_bounded k l)
+  enumeration_complete k l = ordered_complete enumeration_power (totals-ordered k l)
 
   pub enumeration_columns : let size = length betas * length us in Columns.refusal_of count squares' fourths' size size size ≡ 0
   enumeration_columns =
@@ -124,7 +130,7 @@ module _ {n floor : ℕ} {a b : List ℕ} {m : List Float} {us vs : List ℕ} {b
       accepted.0 call.call.squares_are)
       (settled-length _ (λ k. enumerated ieee (fourth ieee) free (λ x. correlation_at (configuration x) us vs k)) (length betas * length us) fourths fourths'
       accepted.0 call.call.fourths_are)
-      enumeration_bounded
+      totals-ordered
 
   -- each correlation summed lies in [-1, 1], and no entry of a propagated vector exceeds the forward vector's in size.
   pub enumeration_within : (x beta : ℕ) → x < 2 ^ free → beta < length betas → Bounded (configuration x beta) us vs
@@ -153,7 +159,7 @@ module _ {n floor : ℕ} {a b : List ℕ} {m : List Float} {us vs : List ℕ} {b
       minus c j = enumerated_minus (bit_of (C.early a b m) (C.late a b m)) (c * chunk_size free + j)
 
       covered : chunk_count free * chunk_size free ≡ count
-      covered = chunks_cover free ∙ sym enumeration_counted
+      covered = chunks_cover free ∙ sym configurations-counted
 
       few : chunk_count free * chunk_size free ≤ 2 ^ 34
       few = rw (chunks_cover free) (pow_mono (few-free n floor a b m us vs betas factors manner misfit (length work) caller (arrangement_of arrangement) most_counted accepted.0))
