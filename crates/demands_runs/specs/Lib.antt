@@ -1,4 +1,4 @@
 -- The run of a job as a record,
 pub mod OneRun
--- and what accepted calls wrote of it.
+-- and what is said of the bytes of one.
 pub mod Written

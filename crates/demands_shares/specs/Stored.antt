@@ -1,5 +1,5 @@
 -- What shares say of an accepted call of `exhaustive_c`.
-use Rattle.std.specs.Prelude.{◌≡◌, Bool, not, List, [], ◌∷◌, ℕ, ◌+◌, ◌*◌, ◌^◌, ◌≤◌, ◌<◌, eqb, Float, length, get_or, replicate}
+use Rattle.std.specs.Prelude.{◌≡◌, not, List, [], ◌∷◌, ℕ, ◌+◌, ◌*◌, ◌^◌, ◌≤◌, ◌<◌, eqb, Float, length, get_or, replicate}
 use Rattle.std.proofs.Common.{◌∙◌, mul-le-mul_right, arith, pow_pos, pow_mono}
 use Rattle.std.specs.Float.{nan}
 use Rattle.list_laws.specs.Part.{part}

@@ -1,0 +1,2 @@
+-- What accepted calls wrote.
+pub mod Written

@@ -1,0 +1,2 @@
+-- The same of house calls.
+pub mod House
