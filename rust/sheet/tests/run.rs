@@ -49,7 +49,7 @@ echo 'rt: one proved (1 s)'
 
 const ARCHIVE: &str = "#!/usr/bin/env bash
 set -e
-rt staticlib export_jobs
+rt lib export_jobs
 mkdir -p target/staticlib && touch target/staticlib/libcopperhook.a
 ";
 
@@ -109,7 +109,7 @@ fn run(root: &Path, line: &str) -> (Option<i32>, String, String) {
 }
 
 fn calls(root: &Path) -> usize {
-    fs::read_to_string(root.join("calls")).map_or(0, |text| text.lines().filter(|line| *line == "staticlib export_jobs").count())
+    fs::read_to_string(root.join("calls")).map_or(0, |text| text.lines().filter(|line| *line == "lib export_jobs").count())
 }
 
 const JOB: &str = "--kind square --width 2 --length 2 --beta 1";
