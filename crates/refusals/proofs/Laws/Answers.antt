@@ -1,17 +1,40 @@
--- Laws of what specs/Answers defines.
+-- Laws of what specs/Answers and specs/Numbers define.
 use Rattle.std.specs.Prelude.{◌≡◌, refl, ℕ, zero, suc}
-use Rattle.std.proofs.Common.{ap}
-use Rattle.refusals.specs.declared.Answer.TheVariants.{Number, Refused}
-use Rattle.refusals.specs.Answers.{answered, left}
+use Rattle.std.proofs.Common.{arith}
+use Rattle.refusals.specs.declared.Refusal.{Refusal}
+use Rattle.refusals.specs.declared.Refusal.TheVariants as R
+use Rattle.refusals.specs.Numbers.{number}
+use Rattle.refusals.specs.Answers.{left}
 
--- ---- from the number that was found
-
-pub refused-is : (r k x : ℕ) → r ≡ k → (r ≡ 0 → ⊥) → Refused r ≡ answered k x
-refused-is r zero x e n = absurd (n e)
-refused-is r (suc k) x e n = ap Refused e
-
-pub number_is : (r k w x : ℕ) → r ≡ k → r ≡ 0 → w ≡ x → Number w ≡ answered k x
-number_is r k w x e z q = rw (← e, z) (ap Number q)
+-- no refusal has the number of accepted calls
+pub number-not_zero : (e : Refusal) → number e ≡ 0 → ⊥
+number-not_zero R.VertexCount z = omega arith
+number-not_zero R.ListLengths z = omega arith
+number-not_zero R.EdgeEnds z = omega arith
+number-not_zero R.Magnitude z = omega arith
+number-not_zero R.ParallelEdges z = omega arith
+number-not_zero R.Window z = omega arith
+number-not_zero R.BackEdges z = omega arith
+number-not_zero R.PairEnds z = omega arith
+number-not_zero R.FreeEdges z = omega arith
+number-not_zero R.Factors z = omega arith
+number-not_zero R.Samples z = omega arith
+number-not_zero R.Buffer z = omega arith
+number-not_zero R.WorkMemory z = omega arith
+number-not_zero R.PartitionSum z = omega arith
+number-not_zero R.StripSides z = omega arith
+number-not_zero R.OddCylinder z = omega arith
+number-not_zero R.Dilution z = omega arith
+number-not_zero R.Sums z = omega arith
+number-not_zero R.SheetRecord z = omega arith
+number-not_zero R.SheetTail z = omega arith
+number-not_zero R.Betas z = omega arith
+number-not_zero R.TesterLimit z = omega arith
+number-not_zero R.Couplings z = omega arith
+number-not_zero R.EdgePlace z = omega arith
+number-not_zero R.Shares z = omega arith
+number-not_zero R.Record z = omega arith
+number-not_zero R.Join z = omega arith
 
 pub left_alone : {A : Type 0} (r : ℕ) (new old : A) → (r ≡ 0 → ⊥) → old ≡ left r new old
 left_alone zero new old n = absurd (n refl)
