@@ -2,7 +2,7 @@
 #![tactic(auto)]
 
 ghost use Rattle.std.specs.Prelude.{◌≡◌};
-ghost use Rattle.refusals.specs.Numbers.{number};
+ghost use Rattle.refusals.specs.Numbers.{number, refused};
 
 /// Why a call is refused, each with the number that callers know it by. Of several reasons that fit, the first in checking order is returned.
 #[derive(Clone, Copy, Debug, PartialEq, Eq)]
@@ -69,5 +69,15 @@ impl Refusal {
         ensures { result ≡ number self }
     {
         self as usize
+    }
+}
+
+/// Returns the number of an answer's refusal, 0 for an accepted call's.
+pub fn refused(answer: Result<(), Refusal>) -> usize
+    ensures { result ≡ refused answer }
+{
+    match answer {
+        Ok(()) => 0,
+        Err(refusal) => refusal.number(),
     }
 }
