@@ -15,7 +15,7 @@ fn is_root(p: &[usize], v: usize) -> bool
 fn bit_of(set: bool) -> u64
     ensures { result ≡ cond set 1 0 }
 {
-    if set { 1 } else { 0 }
+    u64::from(set)
 }
 
 // The word of the vertices from `first` on, made from its highest bit down.

@@ -13,10 +13,7 @@ use limits::{BETAS, EDGES, PAIRS, VERTICES};
 pub fn bad_vertices(n: usize) -> bool
     ensures { result ≡ (eqb n 0 || ltb most_vertices n) }
 {
-    if n == 0 {
-        return true;
-    }
-    VERTICES < n
+    n == 0 || VERTICES < n
 }
 
 // 2. Lists of one kind differ in length, or there are over 4,096 edges, 256 pairs or 64 betas.

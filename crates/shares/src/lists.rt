@@ -7,10 +7,7 @@ use limits::{ENTRIES, LISTS};
 fn bad_length(entries: usize) -> bool
     ensures { result ≡ bad_length entries }
 {
-    if entries == 0 {
-        return true;
-    }
-    ENTRIES < entries
+    entries == 0 || ENTRIES < entries
 }
 
 // A length is limited before it is added, so that no sum wraps.
