@@ -1,5 +1,5 @@
 // An error bound through references, and whether one is known.
-ghost use Rattle.error_bound.specs.Bound.{by_number};
+ghost use Rattle.refusals.specs.Numbers.{by_number};
 ghost use Rattle.c_answers.specs.Bounds.{Tells};
 
 use refusals::Refusal;

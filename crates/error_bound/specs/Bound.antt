@@ -12,8 +12,6 @@ use Rattle.list_laws.specs.Most.{most}
 use Rattle.transfer_matrix.specs.Configuration.{numbered}
 use Rattle.transfer_matrix.specs.Job.{Edge, back_edges}
 use Rattle.transfer_matrix.specs.Room.{keep_all}
-use Rattle.refusals.specs.declared.Refusal.{Refusal}
-use Rattle.refusals.specs.Numbers.{number}
 use Rattle.refusals.specs.Edges.{kept, window_from, kept_early, kept_late}
 use Rattle.refusals.specs.Request.{Request, sweep_request, single, signed_factors}
 use Rattle.refusals.specs.Key.{Key}
@@ -24,11 +22,6 @@ use Rattle.accuracy.specs.Stated as Accuracy
 -- any other tells the refusal's number.
 abbrev pub ErrorBound : Type 0
 ErrorBound = Result (Option Float) ℕ
-
--- what is told of an answer
-abbrev pub by_number : Result (Option Float) Refusal → ErrorBound
-by_number (Ok bound) = Ok bound
-by_number (Err e) = Err (number e)
 
 -- The most back edges shorter than the window that one of n vertices has.
 unfoldable pub most_near : {K : Type 0} → (n w : ℕ) → List (Edge K) → ℕ

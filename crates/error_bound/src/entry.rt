@@ -3,9 +3,10 @@ ghost use Rattle.std.specs.Prelude.{◌≡◌, true, false, cond, [], ◌≤◌}
 ghost use Rattle.limits.specs.Limits.{most_betas, most_edges};
 ghost use Rattle.transfer_matrix.specs.Job.{too_many_near};
 ghost use Rattle.transfer_matrix.specs.Configuration.{numbered};
+ghost use Rattle.refusals.specs.Numbers.{by_number};
 ghost use Rattle.refusals.specs.Request.{bad_factor_list};
 ghost use Rattle.plan_steps.specs.Edges.{Edges};
-ghost use Rattle.error_bound.specs.Bound.{by_number, bound_of, most_near, factor_count, error_bound_of};
+ghost use Rattle.error_bound.specs.Bound.{bound_of, most_near, factor_count, error_bound_of};
 
 use crate::bound::{bound_of, most_bits, near_one};
 use crate::near::most_near;
