@@ -1,10 +1,10 @@
 -- Laws of what specs/Answers and specs/Numbers define.
-use Rattle.std.specs.Prelude.{◌≡◌, refl, cond, ℕ, zero, suc, eqb}
+use Rattle.std.specs.Prelude.{◌≡◌, refl, Result, Ok, Err, cond, ℕ, zero, suc, eqb}
 use Rattle.std.proofs.Common.{sym, ap, ◌∙◌, arith}
 use Rattle.refusals.specs.declared.Refusal.{Refusal}
 use Rattle.refusals.specs.declared.Refusal.TheVariants as R
 use Rattle.refusals.specs.Numbers.{number}
-use Rattle.refusals.specs.Answers.{left}
+use Rattle.refusals.specs.Answers.{Answered, left}
 
 -- no refusal has the number of accepted calls
 pub number-not_zero : (e : Refusal) → number e ≡ 0 → ⊥
@@ -99,6 +99,13 @@ named-number R.Join = refl
 -- no two refusals have one number
 pub number-only : (e f : Refusal) → number e ≡ number f → e ≡ f
 number-only e f p = named-number e ∙ ap named p ∙ sym (named-number f)
+
+-- one answer is right
+pub answered-only : {A : Type 0} (k : ℕ) (x : A) (r s : Result A Refusal) → Answered k x r → Answered k x s → r ≡ s
+answered-only k x (Ok y) (Ok z) p q = ap Ok (p.1 ∙ sym q.1)
+answered-only k x (Ok y) (Err f) p q = absurd (number-not_zero f (q.0 ∙ sym p.0))
+answered-only k x (Err e) (Ok z) p q = absurd (number-not_zero e (p.0 ∙ sym q.0))
+answered-only k x (Err e) (Err f) p q = ap Err (number-only e f (p.0 ∙ sym q.0))
 
 pub left_alone : {A : Type 0} (r : ℕ) (new old : A) → (r ≡ 0 → ⊥) → old ≡ left r new old
 left_alone zero new old n = absurd (n refl)
