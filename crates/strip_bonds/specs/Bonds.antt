@@ -1,6 +1,6 @@
 -- What a rule gives, as a list.
 use Rattle.std.specs.Prelude.{Option, Some, None, List, [], ◌∷◌}
-use Rattle.strip_bonds.specs.Edges.{Edge}
+use Rattle.strip_bonds.specs.declared.Edge.{Edge}
 
 abbrev pub listed : Option Edge → List Edge
 listed (Some e) = e ∷ []
