@@ -15,11 +15,9 @@ fn clear_rows(plan: &mut [usize], n: usize)
     requires { Holds plan.old n }
     ensures { (t : ℕ) → t < n → (left_edge plan.new t ≡ 0) × (near_count plan.new t ≡ 0) }
 {
-    let mut t = 0usize;
-    while t < n {
+    for t in 0..n {
         plan[NUMBERS * t + LEFT_EDGE] = 0;
         plan[NUMBERS * t + NEAR_COUNT] = 0;
-        t += 1;
     }
 }
 

@@ -39,12 +39,10 @@ fn step_may_change(plan: &[usize], t: usize, bits: &[usize], last: usize) -> boo
         return true;
     }
     let near = near_count(plan, t);
-    let mut i = 0usize;
-    while i < near {
+    for i in 0..near {
         if may_change(bits, near_edge(plan, t, i), last) {
             return true;
         }
-        i += 1;
     }
     false
 }
