@@ -1,6 +1,6 @@
 -- The largest of the first i entries, one entry more an iteration.
 use mathlib.Core.Path.{◌≡◌}
-use Prim.Native.Nat.{◌+◌, ◌-◌, ◌≤◌}
+use Prim.Native.Nat.{◌+◌, ◌≤◌}
 use lib.Ieee.{nan}
 use lib.ListN.{get_or}
 use Rattle.largest_entry.specs.Top.{top}

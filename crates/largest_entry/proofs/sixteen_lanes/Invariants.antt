@@ -1,5 +1,5 @@
 -- Each lane has the largest of its first t entries; joined, they have the largest of all.
-use Prim.Native.Nat.{◌+◌, ◌*◌, ◌-◌, ◌≤◌}
+use Prim.Native.Nat.{◌+◌, ◌*◌, ◌≤◌}
 use Rattle.largest_entry.proofs.LargestIteration.{LanesPassed}
 use Rattle.largest_entry.proofs.sixteen_lanes.Given as goal
 
