@@ -1,5 +1,5 @@
 -- The left edge, then the near edges, one by one.
-use Prim.Native.Nat.{ℕ, ◌-◌, ◌≤◌, ◌<◌}
+use Prim.Native.Nat.{ℕ, ◌≤◌, ◌<◌}
 use Rattle.plan_steps.specs.Layout.{near_edge}
 use Rattle.totals_reuse.specs.Settled.{Settled}
 use Rattle.totals_reuse.proofs.step_may_change.Given as goal

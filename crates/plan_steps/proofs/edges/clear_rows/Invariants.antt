@@ -1,6 +1,6 @@
 -- Vertex by vertex.
 use mathlib.Core.Path.{◌≡◌}
-use Prim.Native.Nat.{◌-◌, ◌≤◌}
+use Prim.Native.Nat.{◌≤◌}
 use lib.ListN.{length}
 use Rattle.plan_steps.proofs.Entering.{Cleared}
 use Rattle.plan_steps.proofs.edges.clear_rows.Given as goal

@@ -1,6 +1,6 @@
 -- The first i numbers are filled.
 use mathlib.Core.Path.{◌≡◌}
-use Prim.Native.Nat.{◌-◌, ◌≤◌}
+use Prim.Native.Nat.{◌≤◌}
 use lib.ListN.{length}
 use Rattle.list_laws.specs.Part.{put}
 use Rattle.list_laws.specs.Tabulate.{tabulate}
