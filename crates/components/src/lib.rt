@@ -33,15 +33,11 @@ pub fn name_components(n: usize, early: &[usize], late: &[usize], out: &mut [usi
     let mut parents = [0usize; VERTICES];
     let p = &mut parents[..n];
     start(p);
-    let mut e: usize = 0;
-    while e < early.len() {
+    for e in 0..early.len() {
         union(p, early[e], late[e]);
-        e += 1;
     }
-    let mut v: usize = 0;
-    while v < n {
+    for v in 0..n {
         out[v] = find(p, v);
-        v += 1;
     }
 }
 

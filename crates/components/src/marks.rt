@@ -36,10 +36,8 @@ pub fn mark_roots(p: &[usize]) -> [u64; 16]
     ensures { result ≡ root_marks p.now }
 {
     let mut marks = [0u64; 16];
-    let mut k: usize = 0;
-    while k < 16 {
+    for k in 0..16 {
         marks[k] = word_at(p, 64 * k);
-        k += 1;
     }
     marks
 }

@@ -20,10 +20,8 @@ fn couple_at(results: &mut [f64], at: usize, beta: f64, mag: &[f64])
     ensures { results.new
         ≡ put results.old at (tabulate (λ e. mul binary64 beta (get_or mag.now e nan)) (length mag.now)) }
 {
-    let mut e = 0usize;
-    while e < mag.len() {
+    for e in 0..mag.len() {
         results[at + e] = beta * mag[e];
-        e += 1;
     }
 }
 
@@ -32,10 +30,8 @@ fn couple(results: &mut [f64], betas: &[f64], mag: &[f64])
     requires { (length results.old ≡ length betas.now * length mag.now) × (length results.old ≤ most_betas * most_edges) }
     ensures { results.new ≡ all_couplings betas.now mag.now }
 {
-    let mut b = 0usize;
-    while b < betas.len() {
+    for b in 0..betas.len() {
         couple_at(results, b * mag.len(), betas[b], mag);
-        b += 1;
     }
 }
 

@@ -40,11 +40,9 @@ fn sweep_up(early: &[usize], late: &[usize], d: &mut [usize]) -> bool
     ensures { EdgesRelaxed early.now late.now 0 (length early.now) d.old result d.new }
 {
     let mut more = false;
-    let mut i: usize = 0;
-    while i < early.len() {
+    for i in 0..early.len() {
         let x = relax_edge(early, late, d, i);
         more = more | x;
-        i += 1;
     }
     more
 }

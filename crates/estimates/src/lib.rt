@@ -28,11 +28,9 @@ fn fill_columns(
     ensures means_after { means.new ≡ mean_column count squares.now fourths.now means.old }
     ensures errors_after { errors.new ≡ error_column count squares.now fourths.now errors.old }
 {
-    let mut i = 0usize;
-    while i < squares.len() {
+    for i in 0..squares.len() {
         let answer = estimate(count, squares[i], fourths[i]);
         put_estimate(means, errors, i, answer);
-        i += 1;
     }
 }
 

@@ -15,12 +15,10 @@ pub fn bad_sums(count: usize, squares: &[f64], fourths: &[f64]) -> bool
         return true;
     }
     let n = count as f64;
-    let mut i = 0usize;
-    while i < squares.len() {
+    for i in 0..squares.len() {
         if !in_order(n, squares[i], fourths[i]) {
             return true;
         }
-        i += 1;
     }
     false
 }

@@ -29,11 +29,9 @@ fn fill_columns(
     ensures errors_after { errors.new ≡ error_column squares.now }
     ensures spreads_after { spreads.new ≡ spread_column n squares.now fourths.now }
 {
-    let mut i = 0usize;
-    while i < squares.len() {
+    for i in 0..squares.len() {
         let row = mean_spread(n, squares[i], fourths[i]);
         put_row(means, errors, spreads, i, row);
-        i += 1;
     }
 }
 

@@ -62,12 +62,10 @@ pub fn bad_edges(n: usize, a: &[usize], b: &[usize]) -> bool
     requires { length b.now ≡ length a.now }
     ensures { result ≡ some (bad_ends n a.now b.now) (length a.now) }
 {
-    let mut i: usize = 0;
-    while i < a.len() {
+    for i in 0..a.len() {
         if bad_edge(n, a[i], b[i]) {
             return true;
         }
-        i += 1;
     }
     false
 }
@@ -95,12 +93,10 @@ pub fn magnitude_dropping(m: &[f64], dropped: usize, i: usize) -> f64
 fn some_oversized(m: &[f64], dropped: usize) -> bool
     ensures { result ≡ some_oversized (dropping dropped m.now) }
 {
-    let mut i: usize = 0;
-    while i < m.len() {
+    for i in 0..m.len() {
         if is_oversized(magnitude_dropping(m, dropped, i)) {
             return true;
         }
-        i += 1;
     }
     false
 }

@@ -116,12 +116,10 @@ fn turn(n: usize, edges: usize, early: &mut [usize], late: &mut [usize])
     requires by_index { (e : ℕ) → e < edges → (get_or early.old e 0 < n) × (get_or late.old e 0 < n) }
     ensures { Turned n edges early.old early.new late.old late.new }
 {
-    let mut e: usize = 0;
-    while e < edges {
+    for e in 0..edges {
         let x = early[e];
         let y = late[e];
         early[e] = n - 1 - y;
         late[e] = n - 1 - x;
-        e += 1;
     }
 }

@@ -18,10 +18,8 @@ pub fn lay_factors(room: &mut [f64], at: usize, x: &[f64])
     requires { at + length x.now ≤ length room.old }
     ensures { room.new ≡ put room.old at x.now }
 {
-    let mut e = 0usize;
-    while e < x.len() {
+    for e in 0..x.len() {
         room[at + e] = x[e];
-        e += 1;
     }
 }
 

@@ -24,10 +24,8 @@ pub fn put_word(bytes: &mut [u8], place: usize, width: usize, x: u64)
     ensures { bytes.new ≡ put bytes.old place (bytes_of width x) }
 {
     let mut rest = x;
-    let mut i: usize = 0;
-    while i < width {
+    for i in 0..width {
         bytes[place + i] = (rest % 256) as u8;
         rest = rest / 256;
-        i += 1;
     }
 }

@@ -70,8 +70,7 @@ pub(crate) fn see_edges(
 ) -> Seen {
     let mut hashed = replay_format::OFFSET;
     let mut rest = true;
-    let mut i: usize = 0;
-    while i < 4096 {
+    for i in 0..4096 {
         let a = early[i];
         let b = late[i];
         let m = mag[i];
@@ -81,7 +80,6 @@ pub(crate) fn see_edges(
         } else {
             rest = rest & (a == GUARD) & (b == GUARD) & (m == GUARD_MAGNITUDE);
         }
-        i += 1;
     }
     Seen { hash: hashed, rest }
 }

@@ -29,8 +29,7 @@ fn kept_of(k: usize, early: &[usize; 4096], late: &[usize; 4096], mag: &[f64; 40
     let mut edges: usize = 0;
     let mut hashed = replay_format::OFFSET;
     let mut longest: usize = 1;
-    let mut i: usize = 0;
-    while i < 4096 {
+    for i in 0..4096 {
         let a = early[i];
         let b = late[i];
         let m = mag[i];
@@ -40,7 +39,6 @@ fn kept_of(k: usize, early: &[usize; 4096], late: &[usize; 4096], mag: &[f64; 40
             hashed = replay_format::mix(hashed, replay_format::bits_of(m));
             longest = longer(longest, a, b);
         }
-        i += 1;
     }
     Kept {
         edges,

@@ -96,8 +96,7 @@ fn lengths_agree(s: Strip, k: usize, sum: u64) -> bool {
 fn see_ends(k: u64, us: &[usize; 20], vs: &[usize; 20]) -> Seen {
     let mut hashed = replay_format::OFFSET;
     let mut rest = true;
-    let mut i: usize = 0;
-    while i < 20 {
+    for i in 0..20 {
         let u = us[i];
         let v = vs[i];
         if wide(i) < k {
@@ -105,7 +104,6 @@ fn see_ends(k: u64, us: &[usize; 20], vs: &[usize; 20]) -> Seen {
         } else {
             rest = rest & (u == GUARD) & (v == GUARD);
         }
-        i += 1;
     }
     Seen { hash: hashed, rest }
 }
@@ -119,8 +117,7 @@ fn see_labels(k: u64, ends: Seen, labels: &[u8; 320]) -> Seen {
     let mut hashed = ends.hash;
     let mut rest = ends.rest;
     let mut closed: u64 = 0;
-    let mut i: usize = 0;
-    while i < 320 {
+    for i in 0..320 {
         let x = labels[i];
         if closed < k {
             hashed = replay_format::mix(hashed, byte(x));
@@ -128,7 +125,6 @@ fn see_labels(k: u64, ends: Seen, labels: &[u8; 320]) -> Seen {
             rest = rest & (x == GUARD_BYTE);
         }
         closed = std::num::wrapping_add_u64(closed, if x == 0 { 1 } else { 0 });
-        i += 1;
     }
     Seen { hash: hashed, rest }
 }

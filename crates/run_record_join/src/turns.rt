@@ -17,10 +17,8 @@ fn copy_behind(source: &[u8], from: usize, target: &mut [u8], at: usize)
     ensures { target.new ≡ put target.old at (drop from source.now) }
 {
     let count = source.len() - from;
-    let mut i: usize = 0;
-    while i < count {
+    for i in 0..count {
         target[at + i] = source[from + i];
-        i += 1;
     }
 }
 

@@ -16,10 +16,8 @@ fn column_sum(bytes: &[u8], per: usize, chunks: usize, k: usize, offset: usize) 
     ensures { result ≡ column_sum bytes.now per chunks offset k }
 {
     let mut total: f64 = 0.0;
-    let mut c: usize = 0;
-    while c < chunks {
+    for c in 0..chunks {
         total = total + double_at(bytes, 32 + 28 * (c * per + k) + offset);
-        c += 1;
     }
     total
 }
@@ -29,10 +27,8 @@ fn fill_totals(bytes: &[u8], chunks: usize, offset: usize, totals: &mut [f64])
     ensures { totals.new ≡ tabulate (column_sum bytes.now (length totals.old) chunks offset) (length totals.old) }
 {
     let per = totals.len();
-    let mut k: usize = 0;
-    while k < per {
+    for k in 0..per {
         totals[k] = column_sum(bytes, per, chunks, k, offset);
-        k += 1;
     }
 }
 

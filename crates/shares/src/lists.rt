@@ -21,14 +21,12 @@ pub fn bad_lists(lengths: &[usize], lent: usize) -> bool
         return true;
     }
     let mut total: usize = 0;
-    let mut k: usize = 0;
-    while k < lengths.len() {
+    for k in 0..lengths.len() {
         let entries = lengths[k];
         if bad_length(entries) {
             return true;
         }
         total += entries;
-        k += 1;
     }
     total != lent
 }

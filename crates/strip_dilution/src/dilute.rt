@@ -40,13 +40,11 @@ fn draw_magnitudes(k: usize, keep: f64, mlo: f64, mhi: f64, seed: u64, mag: &mut
     ensures { mag.new ≡ over (magnitudes (dilution keep mlo mhi) seed k) mag.old }
 {
     let mut rng = Rng::new(seed ^ 0xD11);
-    let mut i: usize = 0;
-    while i < k {
+    for i in 0..k {
         let drawn = draw_magnitude(rng, keep, mlo, mhi);
         mag[i] = drawn.value;
         let after = drawn.rng;
         rng = after;
-        i += 1;
     }
 }
 

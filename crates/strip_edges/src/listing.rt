@@ -36,10 +36,8 @@ pub fn count_edges(s: Strip) -> usize
     let w = s.w;
     let sites = vertex_count(w, s.l);
     let mut k: usize = 0;
-    let mut v: usize = 0;
-    while v < sites {
+    for v in 0..sites {
         k += count_site(s, v / w, v % w);
-        v += 1;
     }
     k
 }
@@ -92,10 +90,8 @@ pub fn write_edges(s: Strip, early: &mut [usize], late: &mut [usize], mag: &mut 
     let w = s.w;
     let sites = vertex_count(w, s.l);
     let mut k: usize = 0;
-    let mut v: usize = 0;
-    while v < sites {
+    for v in 0..sites {
         k = place_site(s, v / w, v % w, k, early, late, mag);
-        v += 1;
     }
 }
 

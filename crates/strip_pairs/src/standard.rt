@@ -58,12 +58,10 @@ fn count_pairs(w: usize, l: usize) -> Filled
     ensures { (result.pairs ≡ length (pairs_below w l 18)) × (result.bytes ≡ length (label_bytes (pairs_below w l 18))) }
 {
     let mut at = Filled { pairs: 0, bytes: 0 };
-    let mut i: usize = 0;
-    while i < 18 {
+    for i in 0..18 {
         let name = label_of(i);
         let next = counted(at, picked(w, l, i), name.len);
         at = next;
-        i += 1;
     }
     at
 }
@@ -75,10 +73,8 @@ fn put_label(name: Label, labels: &mut [u8], at: usize) -> usize
 {
     let len = name.len;
     let bytes = name.bytes;
-    let mut j: usize = 0;
-    while j < len {
+    for j in 0..len {
         labels[at + j] = bytes[j];
-        j += 1;
     }
     labels[at + len] = 0;
     at + (len + 1)
@@ -115,11 +111,9 @@ fn write_pairs(w: usize, l: usize, us: &mut [usize], vs: &mut [usize], labels: &
     ensures { PairsWritten (pairs_below w l 18) us.old us.new vs.old vs.new labels.old labels.new }
 {
     let mut at = Filled { pairs: 0, bytes: 0 };
-    let mut i: usize = 0;
-    while i < 18 {
+    for i in 0..18 {
         let next = place_pair(picked(w, l, i), label_of(i), at, us, vs, labels);
         at = next;
-        i += 1;
     }
 }
 

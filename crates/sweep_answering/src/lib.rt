@@ -33,14 +33,12 @@ fn first_of(us: &[usize], vs: &[usize], order: &[usize], left: usize, v: usize) 
     requires { (length us.now ≡ length vs.now) × Ordered order.now (length us.now) × (left ≤ length order.now) }
     ensures { VertexPairs us.now vs.now order.now left v result }
 {
-    let mut k = left;
-    while k > 0 {
-        if last_vertex(us, vs, order, k) != v {
-            return k;
+    for k in (0..left).rev() {
+        if last_vertex(us, vs, order, k + 1) != v {
+            return k + 1;
         }
-        k -= 1;
     }
-    k
+    0
 }
 
 // Sweeps back from the last vertex, down to the first of the backward vectors that the plan has a place for, and keeps these. The first `passing`

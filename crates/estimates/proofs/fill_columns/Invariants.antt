@@ -18,6 +18,3 @@ error_at count squares fourths i = error_in (estimate_at count squares fourths i
 abbrev pub invariant-loop-i : goal.invariant-loop-i
 invariant-loop-i l =
     (l.i ≤ length l.squares) × (l.means ≡ rows (mean_at l.count l.squares l.fourths) l.initial.means l.i) × (l.errors ≡ rows (error_at l.count l.squares l.fourths) l.initial.errors l.i)
-
-abbrev pub decreases-loop-i : goal.decreases-loop-i
-decreases-loop-i l = length l.squares - l.i

@@ -6,6 +6,3 @@ use Rattle.union_find.proofs.start.Given as goal
 
 abbrev pub invariant-loop-i : goal.invariant-loop-i
 invariant-loop-i l = Filled 0 (λ v. v) (length l.initial.p) l.i l.p
-
-abbrev pub decreases-loop-i : goal.decreases-loop-i
-decreases-loop-i l = length l.initial.p - l.i

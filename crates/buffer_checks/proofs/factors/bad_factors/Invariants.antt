@@ -10,6 +10,3 @@ use Rattle.buffer_checks.proofs.factors.bad_factors.Given as goal
 
 abbrev pub invariant-loop-i : goal.invariant-loop-i
 invariant-loop-i l = (length l.factors ≡ l.count) × (some (λ e. not (passes (get_or l.factors e nan))) l.i ≡ false) × (l.i ≤ length l.factors)
-
-abbrev pub decreases-loop-i : goal.decreases-loop-i
-decreases-loop-i l = length l.factors - l.i

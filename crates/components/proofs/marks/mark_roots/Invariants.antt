@@ -7,6 +7,3 @@ use Rattle.components.proofs.marks.mark_roots.Given as goal
 
 abbrev pub invariant-loop-k : goal.invariant-loop-k
 invariant-loop-k l = Filled 0 (λ j. bits (is_root l.p) (64 * j) 64) 16 l.k l.marks
-
-abbrev pub decreases-loop-k : goal.decreases-loop-k
-decreases-loop-k l = 16 - l.k

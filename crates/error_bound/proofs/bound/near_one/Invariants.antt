@@ -10,6 +10,3 @@ use Rattle.error_bound.proofs.bound.near_one.Given as goal
 
 abbrev pub invariant-loop-i : goal.invariant-loop-i
 invariant-loop-i l = (some (λ e. not (inside_powers l.bits (get_or l.factors e nan))) l.i ≡ false) × (l.i ≤ length l.factors)
-
-abbrev pub decreases-loop-i : goal.decreases-loop-i
-decreases-loop-i l = length l.factors - l.i

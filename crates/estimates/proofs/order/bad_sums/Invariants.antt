@@ -9,6 +9,3 @@ use Rattle.estimates.proofs.order.bad_sums.Given as goal
 
 abbrev pub invariant-loop-i : goal.invariant-loop-i
 invariant-loop-i l = (l.i ≤ length l.squares) × (some (disordered l.count l.squares l.fourths) l.i ≡ false)
-
-abbrev pub decreases-loop-i : goal.decreases-loop-i
-decreases-loop-i l = length l.squares - l.i

@@ -11,6 +11,3 @@ use Rattle.graph_checks.proofs.lists.some_oversized.Given as goal
 
 abbrev pub invariant-loop-i : goal.invariant-loop-i
 invariant-loop-i l = (some (λ e. oversized (get_or (dropping l.dropped l.m) e nan)) l.i ≡ false) × (l.i ≤ length l.m)
-
-abbrev pub decreases-loop-i : goal.decreases-loop-i
-decreases-loop-i l = length l.m - l.i

@@ -10,6 +10,3 @@ use Rattle.house_checks.proofs.couplings.bad_couplings.Given as goal
 
 abbrev pub invariant-loop-i : goal.invariant-loop-i
 invariant-loop-i l = (length l.couplings ≡ l.count) × (some (λ e. off_grid (get_or l.couplings e nan)) l.i ≡ false) × (l.i ≤ length l.couplings)
-
-abbrev pub decreases-loop-i : goal.decreases-loop-i
-decreases-loop-i l = length l.couplings - l.i

@@ -9,6 +9,3 @@ use Rattle.house_checks.proofs.couplings.bad_products.Given as goal
 
 abbrev pub invariant-loop-b : goal.invariant-loop-b
 invariant-loop-b l = ((i : ℕ) → i < l.b → some (off_of l.betas l.mag i) (length l.mag) ≡ false) × (l.b ≤ length l.betas)
-
-abbrev pub decreases-loop-b : goal.decreases-loop-b
-decreases-loop-b l = length l.betas - l.b

@@ -10,6 +10,3 @@ use Rattle.house_checks.proofs.couplings.off_products.Given as goal
 
 abbrev pub invariant-loop-e : goal.invariant-loop-e
 invariant-loop-e l = (some (λ i. off_grid (mul binary64 l.beta (get_or l.mag i nan))) l.e ≡ false) × (l.e ≤ length l.mag)
-
-abbrev pub decreases-loop-e : goal.decreases-loop-e
-decreases-loop-e l = length l.mag - l.e

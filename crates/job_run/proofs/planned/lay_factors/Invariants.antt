@@ -8,6 +8,3 @@ use Rattle.job_run.proofs.planned.lay_factors.Given as goal
 
 abbrev pub invariant-loop-e : goal.invariant-loop-e
 invariant-loop-e l = (l.e ≤ length l.x) × (l.room ≡ put l.initial.room l.at (tabulate (λ i. get_or l.x i nan) l.e))
-
-abbrev pub decreases-loop-e : goal.decreases-loop-e
-decreases-loop-e l = length l.x - l.e

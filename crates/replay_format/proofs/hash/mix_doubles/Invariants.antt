@@ -6,6 +6,3 @@ use Rattle.replay_format.proofs.hash.mix_doubles.Given as goal
 
 abbrev pub invariant-loop-i : goal.invariant-loop-i
 invariant-loop-i l = (l.h ≡ mixed_all l.hash (λ j. to_bits binary64 (get_or l.xs j nan)) l.i) × (l.i ≤ length l.xs)
-
-abbrev pub decreases-loop-i : goal.decreases-loop-i
-decreases-loop-i l = length l.xs - l.i

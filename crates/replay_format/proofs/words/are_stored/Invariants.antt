@@ -6,6 +6,3 @@ use Rattle.replay_format.proofs.words.are_stored.Given as goal
 
 abbrev pub invariant-loop-i : goal.invariant-loop-i
 invariant-loop-i l = (l.same ≡ every (λ j. eqb (to_bits binary64 (get_or l.xs j nan)) (word_at l.list (place_at l.start j))) l.i) × (l.i ≤ length l.xs)
-
-abbrev pub decreases-loop-i : goal.decreases-loop-i
-decreases-loop-i l = length l.xs - l.i

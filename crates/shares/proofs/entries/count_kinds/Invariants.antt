@@ -10,6 +10,3 @@ abbrev pub invariant-loop-i : goal.invariant-loop-i
 invariant-loop-i l =
     (l.i ≤ length l.stored) × (l.bad ≡ count (λ j. bad_entry (at l.stored j)) l.i) × (l.above ≡ count (λ j. is_above (at l.stored j)) l.i)
     × (l.below ≡ count (λ j. is_below (at l.stored j)) l.i) × (l.half ≡ count (λ j. is_half (at l.stored j)) l.i)
-
-abbrev pub decreases-loop-i : goal.decreases-loop-i
-decreases-loop-i l = length l.stored - l.i

@@ -10,6 +10,3 @@ use Rattle.shares.proofs.lists.bad_lists.Given as goal
 abbrev pub invariant-loop-k : goal.invariant-loop-k
 invariant-loop-k l =
     (l.k ≤ length l.lengths) × (some (λ j. bad_length (get_or l.lengths j 0)) l.k ≡ false) × (l.total ≡ start_of l.lengths l.k) × (l.total ≤ l.k * most_entries)
-
-abbrev pub decreases-loop-k : goal.decreases-loop-k
-decreases-loop-k l = length l.lengths - l.k

@@ -6,6 +6,3 @@ use Rattle.strip_dilution.proofs.dilute.draw_magnitudes.Given as goal
 
 abbrev pub invariant-loop-i : goal.invariant-loop-i
 invariant-loop-i l = Drawing (dilution l.keep l.mlo l.mhi) l.seed l.i l.initial.mag l.mag l.rng.s × (l.i ≤ l.k)
-
-abbrev pub decreases-loop-i : goal.decreases-loop-i
-decreases-loop-i l = l.k - l.i

@@ -5,6 +5,3 @@ use Rattle.strip_pairs.proofs.standard.put_label.Given as goal
 
 abbrev pub invariant-loop-j : goal.invariant-loop-j
 invariant-loop-j l = Putting l.bytes l.at l.j l.initial.labels l.labels × (l.j ≤ l.len)
-
-abbrev pub decreases-loop-j : goal.decreases-loop-j
-decreases-loop-j l = l.len - l.j

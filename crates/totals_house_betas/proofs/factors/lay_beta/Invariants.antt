@@ -7,6 +7,3 @@ use Rattle.totals_house_betas.proofs.factors.lay_beta.Given as goal
 
 abbrev pub invariant-loop-e : goal.invariant-loop-e
 invariant-loop-e l = (l.e ≤ length l.mag) × (l.factors ≡ laid l.initial.factors l.beta l.mag l.e)
-
-abbrev pub decreases-loop-e : goal.decreases-loop-e
-decreases-loop-e l = length l.mag - l.e

@@ -8,6 +8,3 @@ use Rattle.totals_record.proofs.bytes.clear_bytes.Given as goal
 
 abbrev pub invariant-loop-i : goal.invariant-loop-i
 invariant-loop-i l = (l.i ≤ length l.initial.bytes) × (l.bytes ≡ over (tabulate (λ _. 0) l.i) l.initial.bytes) × (length l.bytes ≡ length l.initial.bytes)
-
-abbrev pub decreases-loop-i : goal.decreases-loop-i
-decreases-loop-i l = length l.initial.bytes - l.i
