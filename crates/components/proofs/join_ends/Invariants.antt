@@ -11,6 +11,3 @@ use Rattle.components.proofs.join_ends.Given as goal
 abbrev pub invariant-loop-e : goal.invariant-loop-e
 invariant-loop-e l =
     (l.trees ≡ count (is_tree l.early l.late) l.e) × (l.trees ≤ l.e) × (l.e ≤ length l.early) × Labelled (length l.initial.p) (lowest l.early l.late l.e) l.p
-
-abbrev pub decreases-loop-e : goal.decreases-loop-e
-decreases-loop-e l = length l.early - l.e

@@ -6,6 +6,3 @@ use Rattle.graph_checks.proofs.parallel.find_twice.Given as goal
 
 abbrev pub invariant-loop-e : goal.invariant-loop-e
 invariant-loop-e l = Finding l.early l.late l.heads l.next (length l.initial.next) (length l.initial.heads) l.e
-
-abbrev pub decreases-loop-e : goal.decreases-loop-e
-decreases-loop-e l = length l.early - l.e

@@ -7,5 +7,5 @@ use Rattle.list_laws.specs.Search.{some}
 use Rattle.refusals.proofs.Laws.Couplings.{off_of}
 use Rattle.house_checks.proofs.couplings.bad_products.Given as goal
 
-abbrev pub invariant-loop-b : goal.invariant-loop-b
-invariant-loop-b l = ((i : ℕ) → i < l.b → some (off_of l.betas l.mag i) (length l.mag) ≡ false) × (l.b ≤ length l.betas)
+abbrev pub invariant-loop-beta : goal.invariant-loop-beta
+invariant-loop-beta l = ((i : ℕ) → i < l.beta-index → some (off_of l.betas l.mag i) (length l.mag) ≡ false) × (l.beta-index ≤ length l.betas)

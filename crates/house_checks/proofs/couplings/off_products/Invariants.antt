@@ -8,5 +8,5 @@ use mathlib.Core.Bool.{false}
 use mathlib.Core.Path.{◌≡◌}
 use Rattle.house_checks.proofs.couplings.off_products.Given as goal
 
-abbrev pub invariant-loop-e : goal.invariant-loop-e
-invariant-loop-e l = (some (λ i. off_grid (mul binary64 l.beta (get_or l.mag i nan))) l.e ≡ false) × (l.e ≤ length l.mag)
+abbrev pub invariant-loop-m : goal.invariant-loop-m
+invariant-loop-m l = (some (λ i. off_grid (mul binary64 l.beta (get_or l.mag i nan))) l.m-index ≡ false) × (l.m-index ≤ length l.mag)

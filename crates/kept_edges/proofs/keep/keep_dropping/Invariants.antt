@@ -7,6 +7,3 @@ use Rattle.kept_edges.proofs.keep.keep_dropping.Given as goal
 
 abbrev pub invariant-loop-i : goal.invariant-loop-i
 invariant-loop-i l = Keeping l.a l.b (dropping l.dropped l.m) l.i l.k l.initial.early l.early l.initial.late l.late l.initial.mag l.mag
-
-abbrev pub decreases-loop-i : goal.decreases-loop-i
-decreases-loop-i l = length l.a - l.i

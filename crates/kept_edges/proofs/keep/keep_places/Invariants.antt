@@ -4,8 +4,5 @@ use lib.ListN.{length}
 use Prim.Native.Nat.{◌-◌}
 use Rattle.kept_edges.proofs.keep.keep_places.Given as goal
 
-abbrev pub invariant-loop-i : goal.invariant-loop-i
-invariant-loop-i l = Placing l.m l.i l.k l.initial.raw l.raw
-
-abbrev pub decreases-loop-i : goal.decreases-loop-i
-decreases-loop-i l = length l.m - l.i
+abbrev pub invariant-loop-place : goal.invariant-loop-place
+invariant-loop-place l = Placing l.m l.place l.k l.initial.raw l.raw
