@@ -24,7 +24,7 @@ loop-e-preserved c =
     let tree = lower-tree it _ (omega arith) c.loop-e.invariant.3 c.union_lower-joins.ensures in
     let grown = lower-labels it _ (omega arith) c.loop-e.invariant.3 c.union_lower-joins.ensures in
     elim c.if-joins.branch [
-        then-joins w ↦ (w.trees-is ∙ ap (λ (x : ℕ). x + 1) c.loop-e.invariant.0 ∙ sym (count_hit _ _ (sym tree ∙ w.if-joins.true)), omega arith, omega arith, grown)
+      | then-joins w ↦ (w.trees-is ∙ ap (λ (x : ℕ). x + 1) c.loop-e.invariant.0 ∙ sym (count_hit _ _ (sym tree ∙ w.if-joins.true)), omega arith, omega arith, grown)
       | else-joins w ↦ (w.trees-is ∙ c.loop-e.invariant.0 ∙ sym (count_miss _ _ (sym tree ∙ w.if-joins.false)), omega arith, omega arith, grown)
     ]
 

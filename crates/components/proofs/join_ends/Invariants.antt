@@ -1,6 +1,6 @@
 -- The roots stay the lowest labels, edge by edge, and each union of two sets is a tree edge's.
 use mathlib.Core.Path.{◌≡◌}
-use Prim.Native.Nat.{◌-◌, ◌≤◌}
+use Prim.Native.Nat.{◌≤◌}
 use lib.ListN.{length}
 use Rattle.list_laws.specs.Count.{count}
 use Rattle.forest.specs.Labels.{is_tree}

@@ -3,7 +3,7 @@ use Rattle.refusals.specs.Request.{passes}
 use Rattle.list_laws.specs.Search.{some}
 use lib.Ieee.{nan}
 use lib.ListN.{length, get_or}
-use Prim.Native.Nat.{◌-◌, ◌≤◌}
+use Prim.Native.Nat.{◌≤◌}
 use mathlib.Core.Bool.{false, not}
 use mathlib.Core.Path.{◌≡◌}
 use Rattle.buffer_checks.proofs.factors.bad_factors.Given as goal

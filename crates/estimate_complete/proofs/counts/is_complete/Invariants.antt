@@ -1,7 +1,7 @@
 -- A search through the powers of two.
 use mathlib.Core.Path.{◌≡◌}
 use mathlib.Core.Bool.{false}
-use Prim.Native.Nat.{suc, ◌-◌, ◌^◌, ◌≤◌}
+use Prim.Native.Nat.{suc, ◌^◌, ◌≤◌}
 use lib.Dec.{eqb}
 use Rattle.limits.specs.Limits.{most_counted}
 use Rattle.list_laws.specs.Search.{some}

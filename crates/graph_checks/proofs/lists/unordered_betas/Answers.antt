@@ -1,7 +1,6 @@
 use Rattle.list_laws.proofs.Laws.Search.{start, hit, miss, none}
 use native.Mathlib.Omega.{arith}
 use mathlib.Core.Path.{◌≡◌}
-use mathlib.Core.Bool.{false}
 use Prim.Native.Nat.{◌+◌, ◌-◌}
 use Rattle.graph_checks.proofs.lists.unordered_betas.Goals as goal
 

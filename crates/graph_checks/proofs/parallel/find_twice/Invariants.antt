@@ -1,7 +1,6 @@
 -- The chains grow with the edges, and none joined the same vertices as one before it.
 use Rattle.graph_checks.proofs.Chaining.{Finding}
 use lib.ListN.{length}
-use Prim.Native.Nat.{◌-◌}
 use Rattle.graph_checks.proofs.parallel.find_twice.Given as goal
 
 abbrev pub invariant-loop-e : goal.invariant-loop-e

@@ -1,7 +1,7 @@
 -- A search over the betas: no coupling of theirs was off the grid so far.
 use mathlib.Core.Path.{◌≡◌}
 use mathlib.Core.Bool.{false}
-use Prim.Native.Nat.{ℕ, ◌-◌, ◌≤◌, ◌<◌}
+use Prim.Native.Nat.{ℕ, ◌≤◌, ◌<◌}
 use lib.ListN.{length}
 use Rattle.list_laws.specs.Search.{some}
 use Rattle.refusals.proofs.Laws.Couplings.{off_of}

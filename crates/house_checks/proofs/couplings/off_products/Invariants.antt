@@ -3,7 +3,7 @@ use Rattle.coupling_grid.specs.Grid.{off_grid}
 use Rattle.list_laws.specs.Search.{some}
 use lib.Ieee.{nan, binary64, mul}
 use lib.ListN.{length, get_or}
-use Prim.Native.Nat.{◌-◌, ◌≤◌}
+use Prim.Native.Nat.{◌≤◌}
 use mathlib.Core.Bool.{false}
 use mathlib.Core.Path.{◌≡◌}
 use Rattle.house_checks.proofs.couplings.off_products.Given as goal

@@ -38,7 +38,7 @@ overflow_add-k c = omega (arith, (roomy c).0)
 pub loop-i-preserved : goal.loop-i-preserved
 loop-i-preserved c =
     elim c.if-w.branch [
-        then-w w ↦ rw (w.early-is, w.late-is, w.mag-is, w.k-is) (keep_it c.loop-i.invariant c.loop-i-test.true (zero_at c.magnitude_dropping-w.ensures (ne_eq _ _ false w.if-w.true)) _ _ _ c.smaller-x.ensures c.larger-y.ensures c.magnitude_dropping-w.ensures)
+      | then-w w ↦ rw (w.early-is, w.late-is, w.mag-is, w.k-is) (keep_it c.loop-i.invariant c.loop-i-test.true (zero_at c.magnitude_dropping-w.ensures (ne_eq _ _ false w.if-w.true)) _ _ _ c.smaller-x.ensures c.larger-y.ensures c.magnitude_dropping-w.ensures)
       | else-w w ↦ rw (w.early-is, w.late-is, w.mag-is, w.k-is) (keep_not c.loop-i.invariant c.loop-i-test.true (zero_at c.magnitude_dropping-w.ensures (ne_eq _ _ true w.if-w.false)))
     ]
 

@@ -1,8 +1,6 @@
 -- The kept edges of the first i raw ones stand at the fronts of the buffers.
 use Rattle.kept_edges.proofs.Keeping.{Keeping}
-use lib.ListN.{length}
 use Rattle.refusals.specs.Edges.{dropping}
-use Prim.Native.Nat.{◌-◌}
 use Rattle.kept_edges.proofs.keep.keep_dropping.Given as goal
 
 abbrev pub invariant-loop-i : goal.invariant-loop-i

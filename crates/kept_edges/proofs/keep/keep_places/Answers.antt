@@ -27,7 +27,7 @@ overflow_add-k c = omega (arith, roomy c)
 pub loop-place-preserved : goal.loop-place-preserved
 loop-place-preserved c =
     elim c.if-w.branch [
-        then-w w ↦ rw (w.raw-is, w.k-is) (place_it c.loop-place.invariant c.loop-place-test.true (ne_eq _ _ false w.if-w.true))
+      | then-w w ↦ rw (w.raw-is, w.k-is) (place_it c.loop-place.invariant c.loop-place-test.true (ne_eq _ _ false w.if-w.true))
       | else-w w ↦ rw (w.raw-is, w.k-is) (place_not c.loop-place.invariant c.loop-place-test.true (ne_eq _ _ true w.if-w.false))
     ]
 

@@ -1,7 +1,5 @@
 -- The places of the kept ones of the first i raw edges stand at the front of the buffer.
 use Rattle.kept_edges.proofs.Placing.{Placing}
-use lib.ListN.{length}
-use Prim.Native.Nat.{◌-◌}
 use Rattle.kept_edges.proofs.keep.keep_places.Given as goal
 
 abbrev pub invariant-loop-place : goal.invariant-loop-place

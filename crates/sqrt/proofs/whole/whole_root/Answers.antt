@@ -9,7 +9,7 @@ loop-digit-init c = partial_start _ c.requires
 pub loop-digit-preserved : goal.loop-digit-preserved
 loop-digit-preserved c =
     elim c.if-odd-taken.branch [
-        then-odd-taken w ↦ rw (w.rest-is, w.root-is) (partial_one _ _ _ _ _ c.loop-digit.invariant (omega arith) (omega arith))
+      | then-odd-taken w ↦ rw (w.rest-is, w.root-is) (partial_one _ _ _ _ _ c.loop-digit.invariant (omega arith) (omega arith))
       | else-odd-taken w ↦ rw (w.rest-is, w.root-is) (partial_zero _ _ _ _ _ c.loop-digit.invariant (omega arith) (omega arith))
     ]
 

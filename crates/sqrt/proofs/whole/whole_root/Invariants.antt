@@ -1,5 +1,4 @@
 -- Each turn of the loop is a law of Digits.
-use Prim.Native.Nat.{◌-◌}
 use Rattle.sqrt.proofs.Digits.{Partial}
 use Rattle.sqrt.proofs.whole.whole_root.Given as goal
 
