@@ -1,6 +1,6 @@
 -- How many components a graph has: the vertices that are their own label when every edge has merged its two.
 -- Each tree edge makes of two components one, so trees and components together are as many as the vertices.
-use Rattle.std.specs.Prelude.{Bool, List, ℕ, eqb, length}
+use Rattle.std.specs.Prelude.{Bool, List, ℕ, ◌-◌, eqb, length}
 use Rattle.list_laws.specs.Count.{count}
 use Rattle.forest.specs.Labels.{labels}
 

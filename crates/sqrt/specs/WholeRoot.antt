@@ -1,5 +1,5 @@
 -- The whole part of a square root, found digit by digit, and that it is that.
-use Rattle.std.specs.Prelude.{ℕ, zero, suc, ◌+◌, ◌*◌, ◌/◌, ◌≤◌, ◌<◌, cond, leb}
+use Rattle.std.specs.Prelude.{ℕ, zero, suc, ◌+◌, ◌*◌, ◌/◌, ◌^◌, ◌≤◌, ◌<◌, not, cond, leb}
 use Rattle.std.specs.Float.Ieee.{size}
 
 -- r is the whole part of √n

@@ -1,5 +1,5 @@
 -- Laws of what specs/Walks defines.
-use Rattle.std.specs.Prelude.{◌≡◌, refl, List, ℕ, ◌<◌}
+use Rattle.std.specs.Prelude.{◌≡◌, refl, List, ℕ, ◌<◌, length}
 use Rattle.std.proofs.Common.{ap, arith}
 use Rattle.std.proofs.Math.Decide.{dec_lt}
 use Rattle.distance.specs.declared.Reach.{Reach}

@@ -1,11 +1,11 @@
 -- Laws of what specs/Components defines.
 use Rattle.std.specs.Prelude.{◌≡◌, refl, Bool, true, false, not, List, eqb, length}
-use Rattle.std.proofs.Common.{sym, ap, ◌∙◌, le_refl, arith, eq-eqb, ne_eqb, eqb-true}
+use Rattle.std.proofs.Common.{sym, ap, ◌∙◌, le_refl, add-one, arith, eq-eqb, ne_eqb, eqb-true}
 use Rattle.std.proofs.Math.Bool.{cond}
-use Prim.Native.Nat.{ℕ, zero, suc, ◌+◌, ◌<◌}
+use Prim.Native.Nat.{ℕ, zero, suc, ◌+◌, ◌-◌, ◌≤◌, ◌<◌}
 use Rattle.std.proofs.Math.Decide.{ℕ_discrete}
 use Rattle.list_laws.specs.Count.{count}
-use Rattle.list_laws.proofs.Laws.Count.{count_zero, count_ext}
+use Rattle.list_laws.proofs.Laws.Count.{count_zero, count_hit, count_miss, count_ext}
 use Rattle.forest.specs.Paths.{end, Edges, Joined}
 use Rattle.union_find.specs.Merging.{merge}
 use Rattle.forest.specs.Labels.{labels, is_tree}

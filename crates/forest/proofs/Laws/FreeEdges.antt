@@ -1,18 +1,20 @@
 -- Laws of what specs/FreeEdges defines.
-use Rattle.std.specs.Prelude.{◌≡◌, refl, Bool, true, false, cond, List, ℕ, zero, suc, ◌+◌, ◌-◌, ◌≤◌, ◌<◌, length}
+use Rattle.std.specs.Prelude.{◌≡◌, refl, Bool, true, false, cond, List, ℕ, zero, suc, ◌+◌, ◌-◌, ◌≤◌, ◌<◌, eqb, length, get_or}
 use Rattle.std.proofs.Math.Path.{sym, ap}
 use Rattle.std.proofs.Common.{◌∙◌, true≢false, le_refl, arith, ext_get_or, eq-eqb, ne_eqb, eqb-true}
 use Rattle.std.proofs.Math.Bool.{not}
-use Rattle.std.proofs.Math.Decide.{dec_lt}
+use Rattle.std.proofs.Math.Decide.{ℕ_discrete, dec_lt}
 use Rattle.std.proofs.Math.Numerals.{add-one}
 use Rattle.std.proofs.lemmas.Bool.{not-false}
 use Rattle.edge_bits.specs.Having.{tree, has_bit}
 use Rattle.list_laws.specs.Count.{count}
-use Rattle.list_laws.proofs.Laws.Count.{count_zero, count_most, count-both, count_ext}
+use Rattle.list_laws.proofs.Laws.Count.{count_zero, count_hit, count_miss, count_most, count-both, count_ext}
+use Rattle.list_laws.specs.Tabulate.{tabulate}
 use Rattle.list_laws.proofs.Laws.Tabulate.{tabulate-length, tabulate-at}
 use Rattle.forest.specs.Paths.{Edges}
 use Rattle.forest.specs.Labels.{is_tree}
 use Rattle.forest.proofs.Laws.Labels.{tree_open, free_closes}
+use Rattle.forest.specs.Components.{component_count}
 use Rattle.forest.proofs.Laws.Components.{trees_and_components}
 use Rattle.forest.specs.FreeEdges.{free_before, free_count, bit_of, bits_of, at, cycles, ForestBits}
 

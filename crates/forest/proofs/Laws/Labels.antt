@@ -1,7 +1,7 @@
 -- Laws of what specs/Labels defines.
-use Rattle.std.specs.Prelude.{◌≡◌, true, false, List, ◌⊎◌, length}
+use Rattle.std.specs.Prelude.{◌≡◌, true, false, cond, List, ◌⊎◌, eqb, length}
 use Rattle.std.proofs.Math.Path.{refl, sym, ap, subst}
-use Rattle.std.proofs.Common.{◌∙◌, inl, inr, le_refl, not-suc-le-zero, arith, eq-eqb, eqb-true}
+use Rattle.std.proofs.Common.{◌∙◌, inl, inr, le_refl, not-suc-le-zero, arith, eq-eqb, ne_eqb, eqb-true}
 use Rattle.std.proofs.Math.Bool.{not, true≢false}
 use Prim.Native.Nat.{ℕ, zero, suc, ◌≤◌, ◌<◌}
 use Rattle.std.proofs.Math.Decide.{ℕ_discrete}

@@ -1,16 +1,18 @@
 -- Laws of what specs/Lowest defines.
-use Rattle.std.specs.Prelude.{◌≡◌, not, List, ◌⊎◌, eqb, length}
+use Rattle.std.specs.Prelude.{◌≡◌, Bool, true, false, not, List, ◌⊎◌, eqb, ltb, length}
 use Rattle.std.proofs.Math.Path.{refl}
-use Rattle.std.proofs.Common.{sym, ap, ◌∙◌, inl, inr, arith, eq-eqb, ne_eqb, lt-ltb, le-ltb}
+use Rattle.std.proofs.Common.{sym, ap, ◌∙◌, inl, inr, add-one, arith, eq-eqb, ne_eqb, eqb-true, lt-ltb, le-ltb}
 use Rattle.std.proofs.Math.Bool.{cond}
 use Prim.Native.Nat.{ℕ, zero, suc, ◌+◌, ◌≤◌, ◌<◌}
 use Rattle.std.proofs.Math.Decide.{ℕ_discrete, dec_lt}
 use Rattle.std.proofs.Math.Nat.{le_refl}
+use Rattle.std.proofs.lemmas.Bool.{eqb-false}
 use Rattle.list_laws.specs.Count.{count}
+use Rattle.list_laws.proofs.Laws.Count.{count_zero, count_hit, count_miss}
 use Rattle.forest.specs.Paths.{end, Edges, Joined}
 use Rattle.union_find.specs.Merging.{merge}
 use Rattle.forest.specs.Labels.{labels, is_tree}
-use Rattle.union_find.proofs.Laws.Merging.{merge_in, merge_out, merge-own}
+use Rattle.union_find.proofs.Laws.Merging.{merge_in, merge_out, merge-own, merge-below}
 use Rattle.forest.proofs.Laws.Labels.{joined-labels, labels-joined}
 use Rattle.forest.specs.Components.{component_count}
 use Rattle.forest.proofs.Laws.Components.{own_count, one_less, own_and_trees, trees_and_components}
