@@ -16,8 +16,8 @@ pub fn bad_factors(factors: &[f64], count: usize) -> bool
     if factors.len() != count {
         return true;
     }
-    for i in 0..factors.len() {
-        if !passes(factors[i]) {
+    for x in factors {
+        if !passes(*x) {
             return true;
         }
     }

@@ -49,10 +49,8 @@ fn join_ends(p: &mut [usize], early: &[usize], late: &[usize]) -> usize
 {
     start(p);
     let mut trees: usize = 0;
-    let mut e: usize = 0;
-    while e < early.len() {
+    for e in 0..early.len() {
         let joins = union_lower(p, early[e], late[e]);
-        e += 1;
         if joins {
             trees += 1;
         }

@@ -24,9 +24,7 @@ fn word_at(p: &[usize], first: usize) -> u64
     ensures { result ≡ bits (is_root p.now) first 64 }
 {
     let mut word: u64 = 0;
-    let mut b: usize = 64;
-    while b > 0 {
-        b -= 1;
+    for b in (0..64).rev() {
         word = bit_of(is_root(p, first + b)) + 2 * word;
     }
     word

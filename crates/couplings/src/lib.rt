@@ -20,8 +20,8 @@ fn couple_at(results: &mut [f64], at: usize, beta: f64, mag: &[f64])
     ensures { results.new
         ≡ put results.old at (tabulate (λ e. mul binary64 beta (get_or mag.now e nan)) (length mag.now)) }
 {
-    for e in 0..mag.len() {
-        results[at + e] = beta * mag[e];
+    for (e, m) in mag.iter().enumerate() {
+        results[at + e] = beta * *m;
     }
 }
 
@@ -30,8 +30,8 @@ fn couple(results: &mut [f64], betas: &[f64], mag: &[f64])
     requires { (length results.old ≡ length betas.now * length mag.now) × (length results.old ≤ most_betas * most_edges) }
     ensures { results.new ≡ all_couplings betas.now mag.now }
 {
-    for b in 0..betas.len() {
-        couple_at(results, b * mag.len(), betas[b], mag);
+    for (b, beta) in betas.iter().enumerate() {
+        couple_at(results, b * mag.len(), *beta, mag);
     }
 }
 

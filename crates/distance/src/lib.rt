@@ -53,9 +53,7 @@ fn sweep_down(early: &[usize], late: &[usize], d: &mut [usize]) -> bool
     ensures { EdgesRelaxed early.now late.now 0 (length early.now) d.old result d.new }
 {
     let mut more = false;
-    let mut i = early.len();
-    while 0 < i {
-        i -= 1;
+    for i in (0..early.len()).rev() {
         let x = relax_edge(early, late, d, i);
         more = more | x;
     }

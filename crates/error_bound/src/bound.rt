@@ -40,8 +40,8 @@ pub fn near_one(factors: &[f64], bits: usize) -> bool
     requires { bits < 53 }
     ensures { result ≡ near_one bits factors.now }
 {
-    for i in 0..factors.len() {
-        if !inside_powers(factors[i], bits) {
+    for x in factors {
+        if !inside_powers(*x, bits) {
             return false;
         }
     }

@@ -121,12 +121,10 @@ fn is_not_less(x: f64, y: f64) -> bool
 pub fn unordered_betas(betas: &[f64]) -> bool
     ensures { result ≡ unordered betas.now }
 {
-    let mut i: usize = 0;
-    while i + 1 < betas.len() {
-        if is_not_less(betas[i], betas[i + 1]) {
+    for i in 1..betas.len() {
+        if is_not_less(betas[i - 1], betas[i]) {
             return true;
         }
-        i += 1;
     }
     false
 }

@@ -16,8 +16,8 @@ pub fn bad_couplings(couplings: &[f64], count: usize) -> bool
     if couplings.len() != count {
         return true;
     }
-    for i in 0..couplings.len() {
-        if off_grid(couplings[i]) {
+    for x in couplings {
+        if off_grid(*x) {
             return true;
         }
     }
@@ -28,8 +28,8 @@ pub fn bad_couplings(couplings: &[f64], count: usize) -> bool
 fn off_products(beta: f64, mag: &[f64]) -> bool
     ensures { result ≡ some (λ e. off_grid (mul binary64 beta (get_or mag.now e nan))) (length mag.now) }
 {
-    for e in 0..mag.len() {
-        if off_grid(beta * mag[e]) {
+    for m in mag {
+        if off_grid(beta * *m) {
             return true;
         }
     }
@@ -40,8 +40,8 @@ fn off_products(beta: f64, mag: &[f64]) -> bool
 pub fn bad_products(betas: &[f64], mag: &[f64]) -> bool
     ensures { result ≡ bad_coupling_list (all_couplings betas.now mag.now) (length betas.now * length mag.now) }
 {
-    for b in 0..betas.len() {
-        if off_products(betas[b], mag) {
+    for beta in betas {
+        if off_products(*beta, mag) {
             return true;
         }
     }

@@ -31,8 +31,8 @@ fn lay_from(table: &[f64; 1025], couplings: &[f64], factors: &mut [f64])
     requires { (table.now ≡ house_table) × (length factors.old ≡ length couplings.now) × (some_off_grid couplings.now ≡ false) }
     ensures { factors.new ≡ single_factors couplings.now }
 {
-    for e in 0..couplings.len() {
-        factors[e] = factor(table, couplings[e], false);
+    for (e, x) in couplings.iter().enumerate() {
+        factors[e] = factor(table, *x, false);
     }
 }
 

@@ -20,8 +20,8 @@ pub fn put_betas(sheet: &mut [u8], place: usize, betas: &[f64])
     requires { place + 9 * length betas.now ≤ length sheet.old }
     ensures { Appended place (rows (raw_beta betas.now) (length betas.now)) sheet.old sheet.new }
 {
-    for i in 0..betas.len() {
-        put_beta(sheet, place + 9 * i, bits_of(betas[i]));
+    for (i, beta) in betas.iter().enumerate() {
+        put_beta(sheet, place + 9 * i, bits_of(*beta));
     }
 }
 

@@ -9,9 +9,7 @@ pub fn word_at(bytes: &[u8], place: usize, width: usize) -> u64
     ensures { result ≡ word_at bytes.now place width }
 {
     let mut x: u64 = 0;
-    let mut i = width;
-    while 0 < i {
-        i -= 1;
+    for i in (0..width).rev() {
         let byte = bytes[place + i] as u64;
         x = 256 * x + byte;
     }

@@ -68,7 +68,7 @@ fn replay(list: &[u8], start: usize) -> Replayed {
 // The first word is the number of calls. Those that agree are counted by their refusal's number.
 pub(crate) fn replay_all(list: &[u8], counts: &mut [usize; NUMBERS]) -> Counted {
     let mut progress = begin(list);
-    while progress.left > 0 {
+    for _call in 0..progress.left {
         let place = progress.place;
         let r = replay(list, place);
         progress = advance(progress, r, number_at(list, at(place, NUMBER)), counts);

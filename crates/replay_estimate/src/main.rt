@@ -77,12 +77,10 @@ fn count_same(size: usize, list: &[u8]) -> usize
     requires { (0 < size) × (size ≤ 48) }
 {
     let mut count: usize = 0;
-    let mut at: usize = 0;
-    while at < list.len() {
+    for at in (0..list.len()).step_by(size) {
         if replay(size, list, at) {
             count += 1;
         }
-        at += size;
     }
     count
 }

@@ -5,17 +5,15 @@ use little_endian::bits_of;
 // All of a list the double at `place`.
 pub fn fill(list: &[u8], place: usize, out: &mut [f64]) {
     let x = float_of(word(list, place));
-    for i in 0..out.len() {
-        out[i] = x;
-    }
+    out.fill(x);
 }
 
 // Whether the first `cleared` are +0.0 and the others have the bits given.
 pub fn are_cleared(xs: &[f64], cleared: usize, others: u64) -> bool {
     let mut same = true;
-    for i in 0..xs.len() {
+    for (i, x) in xs.iter().enumerate() {
         let expected = if i < cleared { 0 } else { others };
-        same = same & (bits_of(xs[i]) == expected);
+        same = same & (bits_of(*x) == expected);
     }
     same
 }

@@ -69,16 +69,16 @@ pub fn at(start: usize, words: usize) -> usize
 pub fn load_numbers(list: &[u8], start: usize, out: &mut [usize])
     ensures { out.new ≡ tabulate (λ i. word_at list.now (place_at start i)) (length out.old) }
 {
-    for i in 0..out.len() {
-        out[i] = word(list, at(start, i)) as usize;
+    for (i, x) in out.iter_mut().enumerate() {
+        *x = word(list, at(start, i)) as usize;
     }
 }
 
 pub fn load_doubles(list: &[u8], start: usize, out: &mut [f64])
     ensures { out.new ≡ tabulate (λ i. from_bits binary64 (word_at list.now (place_at start i))) (length out.old) }
 {
-    for i in 0..out.len() {
-        out[i] = float_of(word(list, at(start, i)));
+    for (i, x) in out.iter_mut().enumerate() {
+        *x = float_of(word(list, at(start, i)));
     }
 }
 
@@ -87,8 +87,8 @@ pub fn are_stored(xs: &[f64], list: &[u8], start: usize) -> bool
     ensures { result ≡ every (λ i. nat_eq (to_bits binary64 (slice_index_or xs.now i nan)) (word_at list.now (place_at start i))) (length xs.now) }
 {
     let mut same = true;
-    for i in 0..xs.len() {
-        same = same & (bits_of(xs[i]) == word(list, at(start, i)));
+    for (i, x) in xs.iter().enumerate() {
+        same = same & (bits_of(*x) == word(list, at(start, i)));
     }
     same
 }

@@ -178,15 +178,13 @@ fn distances(
 ) -> bool {
     let mut same = true;
     let mut p = start;
-    let mut left = pairs;
-    while left > 0 {
+    for _ in 0..pairs {
         let u = replay_format::word(list, p) as usize;
         let v = replay_format::word(list, at(p, 1)) as usize;
         same = same
             & (reached_word(graph::distance(n, a, b, m, u, v))
                 == replay_format::word(list, at(p, 2)));
         p = at(p, 3);
-        left -= 1;
     }
     same
 }
@@ -261,14 +259,12 @@ pub(crate) fn replay_all(list: &[u8]) -> Counted {
     let all = replay_format::word(list, 0) as usize;
     let mut same: usize = 0;
     let mut p: usize = 8;
-    let mut left = all;
-    while left > 0 {
+    for _ in 0..all {
         let r = replay(list, p);
         if r.same {
             same = std::num::wrapping_add_usize(same, 1);
         }
         p = r.next;
-        left -= 1;
     }
     Counted {
         same,

@@ -117,14 +117,13 @@ fn see_labels(k: u64, ends: Seen, labels: &[u8; 320]) -> Seen {
     let mut hashed = ends.hash;
     let mut rest = ends.rest;
     let mut closed: u64 = 0;
-    for i in 0..320 {
-        let x = labels[i];
+    for x in labels {
         if closed < k {
-            hashed = replay_format::mix(hashed, byte(x));
+            hashed = replay_format::mix(hashed, byte(*x));
         } else {
-            rest = rest & (x == GUARD_BYTE);
+            rest = rest & (*x == GUARD_BYTE);
         }
-        closed = std::num::wrapping_add_u64(closed, if x == 0 { 1 } else { 0 });
+        closed = std::num::wrapping_add_u64(closed, if *x == 0 { 1 } else { 0 });
     }
     Seen { hash: hashed, rest }
 }

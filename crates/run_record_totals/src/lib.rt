@@ -27,8 +27,8 @@ fn fill_totals(bytes: &[u8], chunks: usize, offset: usize, totals: &mut [f64])
     ensures { totals.new ≡ tabulate (column_sum bytes.now (length totals.old) chunks offset) (length totals.old) }
 {
     let per = totals.len();
-    for k in 0..per {
-        totals[k] = column_sum(bytes, per, chunks, k, offset);
+    for (k, total) in totals.iter_mut().enumerate() {
+        *total = column_sum(bytes, per, chunks, k, offset);
     }
 }
 

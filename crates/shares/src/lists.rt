@@ -21,12 +21,11 @@ pub fn bad_lists(lengths: &[usize], lent: usize) -> bool
         return true;
     }
     let mut total: usize = 0;
-    for k in 0..lengths.len() {
-        let entries = lengths[k];
-        if bad_length(entries) {
+    for entries in lengths {
+        if bad_length(*entries) {
             return true;
         }
-        total += entries;
+        total += *entries;
     }
     total != lent
 }

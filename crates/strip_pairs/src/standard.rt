@@ -73,9 +73,7 @@ fn put_label(name: Label, labels: &mut [u8], at: usize) -> usize
 {
     let len = name.len;
     let bytes = name.bytes;
-    for j in 0..len {
-        labels[at + j] = bytes[j];
-    }
+    labels[at..at + len].copy_from_slice(&bytes[..len]);
     labels[at + len] = 0;
     at + (len + 1)
 }

@@ -8,8 +8,8 @@ ghost use Rattle.union_find.specs.Forest.{Forest, Fresh, Found, Merged, MergedLo
 pub fn start(p: &mut [usize])
     ensures { Fresh p.new }
 {
-    for i in 0..p.len() {
-        p[i] = i;
+    for (i, x) in p.iter_mut().enumerate() {
+        *x = i;
     }
 }
 

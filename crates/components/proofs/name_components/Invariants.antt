@@ -1,5 +1,5 @@
 -- The roots stay the labels, edge by edge and then through every `find`, which answers them.
-use Prim.Native.Nat.{◌-◌, ◌≤◌}
+use Prim.Native.Nat.{◌≤◌}
 use lib.ListN.{length}
 use Rattle.forest.specs.Labels.{labels}
 use Rattle.union_find.specs.Forest.{Labelled}

@@ -1,5 +1,5 @@
 -- `sweep_up` meets its contract. Invariant: the edges below i are swept.
-use Prim.Native.Nat.{◌≤◌, ◌-◌}
+use Prim.Native.Nat.{◌≤◌}
 use lib.ListN.{length}
 use Rattle.distance.specs.Lengths.{EdgesRelaxed}
 use Rattle.distance.proofs.sweep_up.Given as goal

@@ -1,6 +1,6 @@
 -- The roots stay the lowest labels, edge by edge, so what `union_lower` returns is the tree edge's test, and the free edges so far are counted.
 use mathlib.Core.Path.{◌≡◌}
-use Prim.Native.Nat.{◌-◌, ◌≤◌}
+use Prim.Native.Nat.{◌≤◌}
 use lib.ListN.{length}
 use Rattle.forest.specs.Lowest.{lowest}
 use Rattle.forest.specs.FreeEdges.{free_before, bit_of}

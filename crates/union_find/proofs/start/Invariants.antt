@@ -1,5 +1,4 @@
 -- The list is filled from the front, each vertex with itself.
-use Prim.Native.Nat.{◌-◌}
 use lib.ListN.{length}
 use Rattle.union_find.proofs.Laws.Filled.{Filled}
 use Rattle.union_find.proofs.start.Given as goal

@@ -1,5 +1,5 @@
 -- The words so far are of the roots.
-use Prim.Native.Nat.{◌*◌, ◌-◌}
+use Prim.Native.Nat.{◌*◌}
 use Rattle.forest.specs.Lowest.{bits}
 use Rattle.components.specs.Marks.{is_root}
 use Rattle.union_find.proofs.Laws.Filled.{Filled}

@@ -7,6 +7,3 @@ use Rattle.error_bound.proofs.near.most_planned.Given as goal
 
 abbrev pub invariant-loop-t : goal.invariant-loop-t
 invariant-loop-t l = (l.near ≡ M.most (near_count l.plan) l.t) × (l.t ≤ l.n)
-
-abbrev pub decreases-loop-t : goal.decreases-loop-t
-decreases-loop-t l = l.n - l.t

@@ -2,7 +2,7 @@
 use Rattle.refusals.specs.Request.{bad_ends}
 use Rattle.list_laws.specs.Search.{some}
 use lib.ListN.{length}
-use Prim.Native.Nat.{◌-◌, ◌≤◌}
+use Prim.Native.Nat.{◌≤◌}
 use mathlib.Core.Bool.{false}
 use mathlib.Core.Path.{◌≡◌}
 use Rattle.graph_checks.proofs.lists.bad_edges.Given as goal

@@ -4,7 +4,7 @@ use Rattle.refusals.specs.Request.{oversized}
 use Rattle.list_laws.specs.Search.{some}
 use lib.Ieee.{nan}
 use lib.ListN.{length, get_or}
-use Prim.Native.Nat.{◌-◌, ◌≤◌}
+use Prim.Native.Nat.{◌≤◌}
 use mathlib.Core.Bool.{false}
 use mathlib.Core.Path.{◌≡◌}
 use Rattle.graph_checks.proofs.lists.some_oversized.Given as goal

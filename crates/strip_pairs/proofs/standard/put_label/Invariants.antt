@@ -1,7 +1,0 @@
--- The first j bytes of the label stand behind the front.
-use Prim.Native.Nat.{◌-◌, ◌≤◌}
-use Rattle.strip_pairs.proofs.Pairing.{Putting}
-use Rattle.strip_pairs.proofs.standard.put_label.Given as goal
-
-abbrev pub invariant-loop-j : goal.invariant-loop-j
-invariant-loop-j l = Putting l.bytes l.at l.j l.initial.labels l.labels × (l.j ≤ l.len)
