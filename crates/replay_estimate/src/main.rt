@@ -55,14 +55,14 @@ fn words_of(answer: Result<Estimate, Refusal>) -> Told {
 }
 
 fn replay_estimate(list: &[u8], at: usize) -> bool {
-    let squares = replay_format::float_of(word(list, at, 1));
-    let fourths = replay_format::float_of(word(list, at, 2));
+    let squares = replay_format::double_of(word(list, at, 1));
+    let fourths = replay_format::double_of(word(list, at, 2));
     let t = words_of(estimate::estimate(word(list, at, 0) as usize, squares, fourths));
     (t.case == word(list, at, 3)) & (t.mean == word(list, at, 4)) & (t.error == word(list, at, 5))
 }
 
 fn replay_root(list: &[u8], at: usize) -> bool {
-    replay_format::bits_of(sqrt::sqrt(replay_format::float_of(word(list, at, 0))))
+    replay_format::bits_of(sqrt::sqrt(replay_format::double_of(word(list, at, 0))))
         == word(list, at, 1)
 }
 

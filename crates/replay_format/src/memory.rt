@@ -1,10 +1,10 @@
 // What results and work memory hold: filled before a call, and looked at after it.
-use crate::words::{float_of, word};
-use little_endian::bits_of;
+use crate::words::word;
+use little_endian::{bits_of, double_of};
 
 // All of a list the double at `place`.
 pub fn fill(list: &[u8], place: usize, out: &mut [f64]) {
-    let x = float_of(word(list, place));
+    let x = double_of(word(list, place));
     out.fill(x);
 }
 

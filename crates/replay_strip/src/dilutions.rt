@@ -131,9 +131,9 @@ fn lengths_agree(s: Strip, x: Dilution, k: usize, hash: u64) -> bool {
 pub(crate) fn replay(list: &[u8], at: usize) -> bool {
     let s = strip_of(word(list, at, 0));
     let x = Dilution {
-        keep: replay_format::float_of(word(list, at, 2)),
-        low: replay_format::float_of(word(list, at, 3)),
-        high: replay_format::float_of(word(list, at, 4)),
+        keep: replay_format::double_of(word(list, at, 2)),
+        low: replay_format::double_of(word(list, at, 3)),
+        high: replay_format::double_of(word(list, at, 4)),
         seed: word(list, at, 1),
     };
     let mut early = [GUARD; 4096];

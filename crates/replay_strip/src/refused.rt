@@ -16,9 +16,9 @@ fn edges_agree(s: Strip, list: &[u8], at: usize, diluted: bool) -> bool {
     let mut early = [GUARD; 4096];
     let mut late = [GUARD; 4096];
     let mut mag = [GUARD_MAGNITUDE; 4096];
-    let keep = replay_format::float_of(word(list, at, 5));
-    let low = replay_format::float_of(word(list, at, 6));
-    let high = replay_format::float_of(word(list, at, 7));
+    let keep = replay_format::double_of(word(list, at, 5));
+    let low = replay_format::double_of(word(list, at, 6));
+    let high = replay_format::double_of(word(list, at, 7));
     let expected = word(list, at, 8);
     let answered = if diluted {
         refusal(strip_dilution::diluted(s, keep, low, high, 1, &mut early, &mut late, &mut mag))

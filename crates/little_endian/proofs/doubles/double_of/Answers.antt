@@ -1,17 +1,12 @@
 -- Without its sign the pattern is at most an infinity's, so it is no NaN's.
 use Rattle.std.proofs.Common.{◌≡◌, ℕ, ◌%◌, ◌<◌, ◌≤◌, Bool, not, T, sym, refl, ◌∙◌, subst, le-ltb, lt-ltb}
-use lib.Ieee.{Float, nan, inf, fin, nan_bits, is_nan, binary64, of_bits, div}
+use lib.Ieee.{nan, nan_bits, binary64, of_bits, div}
 use lib.Ieee.Bits.{nan_bits_above, nan_bits_is}
-use Rattle.replay_format.proofs.words.float_of.Goals as goal
+use Rattle.little_endian.proofs.Laws.Nans.{is-nan}
+use Rattle.little_endian.proofs.doubles.double_of.Goals as goal
 
 no_nan : (n : ℕ) → n % 0x8000_0000_0000_0000 ≤ 0x7ff0_0000_0000_0000 → T (not (nan_bits binary64 n))
 no_nan n h = subst (λ (b : Bool). T (not b)) (sym (nan_bits_above binary64 n ∙ le-ltb _ _ h)) tt
-
-is-nan : (x : Float) → T (is_nan x) → nan ≡ x
-unfolding is_nan
-is-nan nan t = refl
-is-nan (inf s) t = absurd t
-is-nan (fin s m e) t = absurd t
 
 -- above it, it is one
 a_nan : (n : ℕ) → 0x7ff0_0000_0000_0000 < n % 0x8000_0000_0000_0000 → nan ≡ of_bits binary64 n
@@ -23,7 +18,7 @@ unfolding div of_bits
 quotient_nan = refl
 
 pub float_from_bits-result : goal.float_from_bits-result
-float_from_bits-result c = no_nan c.args.bits c.if-bits-le9218868437227405312.true
+float_from_bits-result c = no_nan c.args.bits c.if-bits-le-INFINITY.true
 
 pub returns : goal.returns
-returns c = quotient_nan ∙ a_nan c.args.bits c.if-bits-le9218868437227405312.false
+returns c = quotient_nan ∙ a_nan c.args.bits c.if-bits-le-INFINITY.false
