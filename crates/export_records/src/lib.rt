@@ -4,7 +4,7 @@
 ghost use Rattle.std.specs.Prelude.{◌≡◌, ℕ};
 ghost use Rattle.std.specs.declared.result.Result.{Result};
 ghost use Rattle.refusals.specs.declared.Refusal.{Refusal};
-ghost use Rattle.c_answers.specs.Numbers.{Tells};
+ghost use Rattle.refusals.specs.Answers.{Answered};
 ghost use Rattle.run_record_join.specs.Joining.{Joined};
 ghost use Rattle.run_record_totals.specs.Totals.{Totalled};
 
@@ -29,7 +29,7 @@ pub extern "C" fn copperhook_record_totals(
     fourths: &mut [f64],
     count: &mut usize,
 ) -> usize
-    ensures totalled { (answer : Result ℕ Refusal) × Tells answer result count.old count.new
+    ensures totalled { (answer : Result ℕ Refusal) × Answered result count.new answer
         × Totalled bytes.now answer squares.old squares.new fourths.old fourths.new }
     ensures count_unchanged { (result ≡ 0 → ⊥) → count.new ≡ count.old }
 {
