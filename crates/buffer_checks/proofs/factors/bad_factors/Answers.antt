@@ -1,8 +1,7 @@
 use borrow.Author.Tests.{eq-eqb, ne_eqb}
-use Rattle.refusals.specs.Request.{passes}
 use Rattle.list_laws.proofs.Laws.Search.{start, hit, miss, none}
 use native.Mathlib.Omega.{arith}
-use mathlib.Core.Bool.{false, not}
+use mathlib.Core.Bool.{not}
 use mathlib.Core.Path.{ap}
 use Rattle.buffer_checks.proofs.factors.bad_factors.Goals as goal
 

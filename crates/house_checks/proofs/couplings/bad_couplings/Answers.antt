@@ -1,8 +1,6 @@
 use borrow.Author.Tests.{eq-eqb, ne_eqb}
-use Rattle.coupling_grid.specs.Grid.{off_grid}
 use Rattle.list_laws.proofs.Laws.Search.{start, hit, miss, none}
 use native.Mathlib.Omega.{arith}
-use mathlib.Core.Bool.{false}
 use Rattle.house_checks.proofs.couplings.bad_couplings.Goals as goal
 
 pub returns-then-couplings-count : goal.returns-then-couplings-count

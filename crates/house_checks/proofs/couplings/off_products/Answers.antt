@@ -1,7 +1,5 @@
-use Rattle.coupling_grid.specs.Grid.{off_grid}
 use Rattle.list_laws.proofs.Laws.Search.{start, hit, miss, none}
 use native.Mathlib.Omega.{arith}
-use mathlib.Core.Bool.{false}
 use Rattle.house_checks.proofs.couplings.off_products.Goals as goal
 
 pub loop-e-init : goal.loop-e-init
