@@ -7,6 +7,7 @@ ghost use Rattle.c_values.specs.Options.{options_numbered};
 
 use c_answers::tell_number;
 use c_values::options_numbered;
+use refusals::refused;
 
 // As `entry_house_correlations::house_correlations`.
 #[unsafe(no_mangle)]
@@ -30,7 +31,7 @@ pub extern "C" fn copperhook_house_correlations(
     let manner = asked.manner;
     let arrangement = asked.arrangement;
     let caller = asked.caller;
-    entry_house_correlations::house_correlations(
+    let answer = entry_house_correlations::house_correlations(
         n,
         floor,
         a,
@@ -44,7 +45,8 @@ pub extern "C" fn copperhook_house_correlations(
         caller,
         results,
         work,
-    )
+    );
+    refused(answer)
 }
 
 // As `entry_house_exhaustive::house_exhaustive`, how many configurations there are in `count`; where the call is refused, that keeps what it held.
