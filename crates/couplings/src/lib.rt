@@ -7,10 +7,12 @@ ghost use Rattle.std.specs.Float.Ieee.{mul};
 ghost use Rattle.limits.specs.Limits.{most_betas, most_edges};
 ghost use Rattle.list_laws.specs.Part.{put};
 ghost use Rattle.list_laws.specs.Tabulate.{tabulate};
+ghost use Rattle.refusals.specs.Numbers.{refused};
 ghost use Rattle.couplings.specs.Couplings.{all_couplings, Coupled};
 
 use graph_build::check_graph;
 use limits::EDGES;
+use refusals::Refusal;
 
 // The couplings of one beta to the results, from `at` on.
 fn couple_at(results: &mut [f64], at: usize, beta: f64, mag: &[f64])
@@ -37,7 +39,7 @@ fn couple(results: &mut [f64], betas: &[f64], mag: &[f64])
     }
 }
 
-// Writes beta times magnitude to `results`, for each beta and kept edge. Returns the refusal's number, 0 for accepted.
+// Writes beta times magnitude to `results`, for each beta and kept edge.
 pub fn couplings(
     n: usize,
     a: &[usize],
@@ -45,25 +47,20 @@ pub fn couplings(
     m: &[f64],
     betas: &[f64],
     results: &mut [f64],
-) -> usize
-    ensures { Coupled n a.now b.now m.now betas.now result
+) -> Result<(), Refusal>
+    ensures { Coupled n a.now b.now m.now betas.now (refused result)
         results.old results.new }
 {
     let mut early = [0usize; EDGES];
     let mut late = [0usize; EDGES];
     let mut mag = [0.0f64; EDGES];
     let none = &a[..0];
-    let graph = check_graph(
+    let edges = check_graph(
         n, a, b, m, none, none, betas, &mut early, &mut late, &mut mag,
-    );
-    let refusal = graph.refusal;
-    if refusal != 0 {
-        return refusal;
-    }
-    let edges = graph.edges;
+    )?;
     if results.len() != betas.len() * edges {
-        return 12;
+        return Err(Refusal::Buffer);
     }
     couple(results, betas, &mag[..edges]);
-    0
+    Ok(())
 }

@@ -8,12 +8,6 @@ ghost use Rattle.distance.specs.Lengths.{Ready, Relaxed, EdgesRelaxed, Settled, 
 
 use limits::VERTICES;
 
-#[derive(Drop)]
-pub enum Reach {
-    Length(usize),
-    NotJoined,
-}
-
 // Relaxes the step from a to b: one more than a's length becomes b's where that is less. Returns whether it did.
 fn relax(d: &mut [usize], a: usize, b: usize) -> bool
     requires { (a < length d.old) × (b < length d.old) × (get_or d.old a 0 ≤ 1024) }
@@ -86,8 +80,8 @@ fn settle(early: &[usize], late: &[usize], d: &mut [usize])
     }
 }
 
-// 1024 stands for a length that is not known: a shortest walk meets no vertex twice, so it has fewer edges.
-pub fn shortest_walk(early: &[usize], late: &[usize], u: usize, v: usize) -> Reach
+// The length of a shortest walk, if one joins u and v. 1024 stands for a length that is not known: a shortest walk meets no vertex twice, so it has fewer edges.
+pub fn shortest_walk(early: &[usize], late: &[usize], u: usize, v: usize) -> Option<usize>
     requires { (length late.now ≡ length early.now) × Inside early.now late.now 1024 × (u < 1024) × (v < 1024) }
     ensures { Distance early.now late.now u v result }
 {
@@ -96,7 +90,7 @@ pub fn shortest_walk(early: &[usize], late: &[usize], u: usize, v: usize) -> Rea
     settle(early, late, &mut d);
     let r = d[v];
     if r == VERTICES {
-        return Reach::NotJoined;
+        return None;
     }
-    Reach::Length(r)
+    Some(r)
 }

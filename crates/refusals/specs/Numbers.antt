@@ -38,3 +38,8 @@ number R.Join = 27
 abbrev pub refused : {A : Type 0} → Result A Refusal → ℕ
 refused (Ok x) = 0
 refused (Err e) = number e
+
+-- an answer with its refusal by number
+abbrev pub by_number : {A : Type 0} → Result A Refusal → Result A ℕ
+by_number (Ok x) = Ok x
+by_number (Err e) = Err (number e)

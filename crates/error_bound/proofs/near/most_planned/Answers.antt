@@ -1,7 +1,6 @@
 use mathlib.Core.Path.{◌≡◌, sym, ◌∙◌}
 use native.Mathlib.Nat.{max-eq_left, max-eq_right}
 use native.Mathlib.Omega.{arith}
-use Rattle.list_laws.specs.Most as M
 use Rattle.list_laws.proofs.Laws.Most.{most-more, most_zero}
 use Rattle.plan_steps.specs.Layout.{near_count}
 use Rattle.error_bound.proofs.near.most_planned.Goals as goal
