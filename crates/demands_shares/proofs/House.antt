@@ -5,7 +5,7 @@ use Rattle.plan_layout.specs.declared.Arrangement.{Arrangement}
 use Rattle.limits.specs.declared.Caller.{Caller}
 use Rattle.transfer_matrix.specs.Rounded.{ieee}
 use Rattle.transfer_matrix.specs.Sweep as S
-use Rattle.refusals.specs.declared.Answer.TheVariants.{Number}
+use Rattle.std.specs.declared.result.Result.TheVariants.{Ok}
 use Rattle.entry_correlations.specs.declared.Manner.{Manner}
 use Rattle.totals_call.specs.Calls.{EnumeratedEach, HouseEnumeratedEach}
 use Rattle.demands.proofs.Configurations.{free}
@@ -19,8 +19,8 @@ use Rattle.demands_shares.specs.Stored as Stored
 
 module _ {n floor : ℕ} {a b : List ℕ} {m : List Float} {us vs : List ℕ} {betas : List Float} {manner : Manner} {arrangement : Arrangement} {caller : Caller}
     {stored stored' work work' : List Float} {count : ℕ}
-    (call : HouseEnumeratedEach n floor a b m us vs betas manner arrangement caller (Number count) stored stored' work work') where
-  lent : EnumeratedEach n floor a b m us vs betas (table_factors a b m betas) manner arrangement caller (Number count) stored stored' work work'
+    (call : HouseEnumeratedEach n floor a b m us vs betas manner arrangement caller (Ok count) stored stored' work work') where
+  lent : EnumeratedEach n floor a b m us vs betas (table_factors a b m betas) manner arrangement caller (Ok count) stored stored' work work'
   lent = house-storing-lent call number_not
 
   pub house_stored_not_25 : 0 < length betas * length us → length betas * length us ≤ most_lists
