@@ -1,5 +1,7 @@
 -- What the demands say of an accepted call of `sample`, of the stored totals and with no tolerance.
 use Rattle.std.specs.Prelude.{◌≡◌, refl, Bool, true, false, List, ℕ, ◌+◌, ◌-◌, ◌*◌, ◌/◌, ◌%◌, ◌^◌, ◌≤◌, ◌<◌, Float, get_or}
+use Rattle.std.specs.declared.result.Result.TheVariants.{Ok}
+use Rattle.std.specs.declared.option.Option.TheVariants.{Some}
 use Rattle.std.proofs.Math.Path.{subst}
 use Rattle.std.proofs.Common.{inl, le_trans, arith, lit≤}
 use Rattle.std.specs.Float.{nan, binary64}
@@ -22,7 +24,6 @@ use Rattle.transfer_matrix.specs.Configuration.{sampled_minus}
 use Rattle.transfer_matrix.specs.Job.{Job}
 use Rattle.transfer_matrix.specs.Rounded.{ieee}
 use Rattle.transfer_matrix.specs.Totals.{square, fourth, sampled, sampled_count}
-use Rattle.std.specs.declared.result.Result.TheVariants.{Ok}
 use Rattle.refusals.specs.Accepted.{Rising}
 use Rattle.refusals.proofs.Laws.Rising.{rising}
 use Rattle.refusals.specs.AcceptedTotals.{AcceptedTotals, misfits}
@@ -40,7 +41,6 @@ use Rattle.entry_correlations.specs.declared.Manner.{Manner}
 use Rattle.totals_call.specs.Jobs.{unsound_sampling}
 use Rattle.totals_call.specs.Calls.{Sampled, refused_sampling}
 use Rattle.error_bound.specs.Bound.{error_bound_of}
-use Rattle.error_bound.specs.declared.answer.ErrorBound.TheVariants.{Within}
 use Rattle.demands.proofs.Laws.Lists.{settled_at}
 use Rattle.demands.proofs.Configurations as C
 use Rattle.demands.proofs.Configurations.{accepted-number, pair_inside, beta-inside, signed-sound}
@@ -138,7 +138,7 @@ module _ {n floor : ℕ} {a b : List ℕ} {m : List Float} {us vs : List ℕ} {b
   sampling_mirrored chunk j beta u v s l = mirrored (sampling_sound chunk j beta u v s l)
 
   -- Accurate: where `totals_error_bound` answers a bound for the same graph, floor, betas and factors,
-  module _ (bound : Float) (answered : error_bound_of n floor a b m betas factors true ≡ Within bound) where
+  module _ (bound : Float) (answered : error_bound_of n floor a b m betas factors true ≡ Ok (Some bound)) where
     -- each correlation summed is within it of the textbook ratio,
     pub sampling_accurate : (chunk j beta : ℕ) → from ≤ chunk → chunk < to → j < samples → beta < length betas → Accurate (drawn chunk j beta) us vs bound
     sampling_accurate chunk j beta u v s l =

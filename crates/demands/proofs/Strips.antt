@@ -1,19 +1,18 @@
 -- What the demands say of a strip of any kind, width, length and boundary, with any magnitudes: its edge list is a graph, and they speak of graphs.
 use Rattle.std.specs.Prelude.{◌≡◌, refl, true, false, List, [], ℕ, ◌*◌, ◌^◌, ◌≤◌, ◌<◌, Float, length, get_or}
+use Rattle.std.specs.declared.result.Result.TheVariants.{Ok}
+use Rattle.std.specs.declared.option.Option.TheVariants.{Some}
 use Rattle.std.specs.Float.{nan, binary64}
 use Rattle.plan_layout.specs.declared.Arrangement.{Arrangement}
 use Rattle.limits.specs.declared.Caller.{Caller}
 use Rattle.rounding.specs.Powers.{Ordered}
 use Rattle.transfer_matrix.specs.Job.{Job}
-use Rattle.std.specs.declared.result.Result.TheVariants.{Ok}
 use Rattle.strip.specs.declared.strip.Strip.{Strip}
 use Rattle.strip_bonds.specs.Edges.{edges, early_ends, late_ends}
 use Rattle.entry_correlations.specs.Correlations.{job_given, Correlated}
 use Rattle.entry_correlations.specs.declared.Manner.{Manner}
 use Rattle.totals_call.specs.Calls.{Enumerated, EnumeratedEach, Sampled}
-use Rattle.error_bound.specs.Bound.{error_bound_of}
-use Rattle.error_bound.specs.declared.answer.ErrorBound.{ErrorBound}
-use Rattle.error_bound.specs.declared.answer.ErrorBound.TheVariants.{Within}
+use Rattle.error_bound.specs.Bound.{ErrorBound, error_bound_of}
 use Rattle.demands.proofs.Configurations.{free, configuration, drawn_configuration}
 use Rattle.demands.specs.OneJob.{Exact, Bounded}
 use Rattle.demands.specs.Mirror.{Mirrored}
@@ -28,7 +27,7 @@ pub record Demanded (J : Job Float) (us vs : List ℕ) (told : ErrorBound) : Typ
   pub exact : Exact J us vs
   pub bounded : Bounded J us vs
   pub mirrored : Mirrored J us vs
-  pub accurate : (bound : Float) → told ≡ Within bound → Accurate J us vs bound
+  pub accurate : (bound : Float) → told ≡ Ok (Some bound) → Accurate J us vs bound
 
 -- A strip, and what else its jobs have. The magnitudes may be 1.0 throughout, drawn by dilution, or the caller's own.
 module _ (s : Strip) (floor : ℕ) (m : List Float) (us vs : List ℕ) (factors : List Float) (manner : Manner) (arrangement : Arrangement) (caller : Caller) where

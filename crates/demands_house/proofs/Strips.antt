@@ -10,8 +10,7 @@ use Rattle.plan_layout.specs.declared.Arrangement.{Arrangement}
 use Rattle.entry_correlations.specs.Correlations.{job_given, HouseCorrelated}
 use Rattle.entry_correlations.specs.declared.Manner.{Manner}
 use Rattle.totals_call.specs.Calls.{HouseEnumerated, HouseEnumeratedEach, HouseSampled}
-use Rattle.error_bound.specs.Bound.{error_bound_of}
-use Rattle.error_bound.specs.declared.answer.ErrorBound.{ErrorBound}
+use Rattle.error_bound.specs.Bound.{ErrorBound, error_bound_of}
 use Rattle.demands.proofs.Configurations.{free}
 use Rattle.demands.proofs.Strips.{Demanded, strip_result, strip_enumeration, strip_stored, strip_sampling}
 use Rattle.demands_house.specs.Factors.{table_factors, configuration_of, drawn_of}

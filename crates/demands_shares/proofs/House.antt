@@ -5,7 +5,6 @@ use Rattle.plan_layout.specs.declared.Arrangement.{Arrangement}
 use Rattle.limits.specs.declared.Caller.{Caller}
 use Rattle.transfer_matrix.specs.Rounded.{ieee}
 use Rattle.transfer_matrix.specs.Sweep as S
-use Rattle.std.specs.declared.result.Result.TheVariants.{Ok}
 use Rattle.entry_correlations.specs.declared.Manner.{Manner}
 use Rattle.totals_call.specs.Calls.{EnumeratedEach, HouseEnumeratedEach}
 use Rattle.demands.proofs.Configurations.{free}

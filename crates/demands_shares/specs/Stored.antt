@@ -10,7 +10,6 @@ use Rattle.limits.specs.declared.Caller.{Caller}
 use Rattle.transfer_matrix.specs.Rounded.{ieee}
 use Rattle.transfer_matrix.specs.Sweep as S
 use Rattle.transfer_matrix.specs.Totals.{enumerated_count}
-use Rattle.std.specs.declared.result.Result.TheVariants.{Ok}
 use Rattle.refusals.specs.Request.{most_stored}
 use Rattle.entry_correlations.specs.declared.Manner.{Manner}
 use Rattle.totals_call.specs.Jobs.{stored_count}

@@ -21,6 +21,7 @@ use Rattle.strip_bonds.specs.Edges.{edges, early_ends, late_ends, edges_below}
 use Rattle.strip_bonds.proofs.Laws.Square.{square, square_edges, EdgesOfSquare, edges-of-square}
 use Rattle.strip_window.specs.Window as Window
 use Rattle.sqrt.specs.Sqrt.{sqrt}
+use Rattle.std.specs.declared.result.Result.TheVariants.{Ok}
 use Rattle.estimate.specs.declared.answer.Estimate.TheVariants.{Estimated, TooFew}
 use Rattle.estimate.specs.Estimates.{estimate_of}
 
@@ -106,8 +107,8 @@ examples =
     ∷ (answer ieee (configuration 1) 0 3 ≡ +0·0)
     ∷ Distance early late 0 3 (Length 2)
     -- count 2, sums 1 and 1: mean 0.5, error 0.5; count 1, sums 1 and 1: too few, mean 1
-    ∷ (estimate_of 2 one one ≡ Estimated (record { mean = half; error = half }))
-    ∷ (estimate_of 1 one one ≡ TooFew one)
+    ∷ (estimate_of 2 one one ≡ Ok (Estimated (record { mean = half; error = half })))
+    ∷ (estimate_of 1 one one ≡ Ok (TooFew one))
     ∷ []
 
 -- ---- no walk from 0 to 3 is shorter than 2

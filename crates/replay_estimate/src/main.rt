@@ -5,6 +5,7 @@
 ghost use Rattle.std.specs.Prelude.{◌<◌, ◌≤◌};
 
 use estimate::Estimate;
+use refusals::Refusal;
 use std::io;
 use std::rt::Files;
 
@@ -28,25 +29,25 @@ struct Told {
     error: u64,
 }
 
-fn words_of(e: Estimate) -> Told {
-    match e {
-        Estimate::Estimated(m) => Told {
+fn words_of(answer: Result<Estimate, Refusal>) -> Told {
+    match answer {
+        Ok(Estimate::Estimated(m)) => Told {
             case: 0,
             mean: replay_format::bits_of(m.mean),
             error: replay_format::bits_of(m.error),
         },
-        Estimate::TooFew(mean) => Told {
+        Ok(Estimate::TooFew(mean)) => Told {
             case: 1,
             mean: replay_format::bits_of(mean),
             error: 0,
         },
-        Estimate::Complete(m) => Told {
+        Ok(Estimate::Complete(m)) => Told {
             case: 2,
             mean: replay_format::bits_of(m.mean),
             error: replay_format::bits_of(m.error),
         },
-        Estimate::Refused(k) => Told {
-            case: k as u64,
+        Err(refusal) => Told {
+            case: refusal.number() as u64,
             mean: 0,
             error: 0,
         },

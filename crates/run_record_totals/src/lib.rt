@@ -6,7 +6,7 @@ ghost use Rattle.list_laws.specs.Tabulate.{tabulate};
 ghost use Rattle.run_record_totals.specs.Totals.{column_sum, Totalled};
 
 use buffer_checks::misfit;
-use refusals::Answer;
+use refusals::Refusal;
 use run_record::{double_at, head_of};
 use run_record_reader::is_record;
 
@@ -37,19 +37,23 @@ fn fill_totals(bytes: &[u8], chunks: usize, offset: usize, totals: &mut [f64])
 }
 
 // 26, then 12; else how many samples there are, chunks times samples per chunk.
-pub fn record_totals(bytes: &[u8], squares: &mut [f64], fourths: &mut [f64]) -> Answer
+pub fn record_totals(
+    bytes: &[u8],
+    squares: &mut [f64],
+    fourths: &mut [f64],
+) -> Result<usize, Refusal>
     ensures { Totalled bytes.now result squares.old squares.new fourths.old fourths.new }
 {
     if !is_record(bytes) {
-        return Answer::Refused(26);
+        return Err(Refusal::Record);
     }
     let h = head_of(bytes);
     let chunks = (h.end - h.start) as usize;
     let samples = h.samples;
     if misfit(h.betas * h.pairs, squares.len(), fourths.len()) {
-        return Answer::Refused(12);
+        return Err(Refusal::Buffer);
     }
     fill_totals(bytes, chunks, 12, squares);
     fill_totals(bytes, chunks, 20, fourths);
-    Answer::Number(chunks * samples)
+    Ok(chunks * samples)
 }
