@@ -53,7 +53,7 @@ known : (k n w near : ℕ) (factors : List Float) (x : Float) → bound_of k n w
     → (near_one (most_bits w near) factors ≡ true) × (x ≡ error_bound n w near)
 known zero n w near factors x e = go (near_one (most_bits w near) factors) e
   where
-    go : (b : Bool) → cond b (Ok (Some (error_bound n w near))) (Ok None) ≡ Ok (Some x) → (b ≡ true) × (x ≡ error_bound n w near)
+    go : (b : Bool) → ◌≡◌ {A = ErrorBound} (cond b (Ok (Some (error_bound n w near))) (Ok None)) (Ok (Some x)) → (b ≡ true) × (x ≡ error_bound n w near)
     go true e = (refl, sym (ap held_bound e))
     go false e = let apart = ap is_within e in absurd (omega arith)
 known (suc k) n w near factors x e = let apart = ap is_within e in absurd (omega arith)

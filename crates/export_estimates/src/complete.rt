@@ -39,7 +39,8 @@ pub extern "C" fn copperhook_estimates_complete(
     ensures { CompleteColumns count squares.now fourths.now result means.old means.new
         errors.old errors.new spreads.old spreads.new }
 {
-    let answer =
-        estimates_complete::estimates_complete(count, squares, fourths, means, errors, spreads);
+    let answer = estimates_complete::estimates_complete(
+        count, squares, fourths, means, errors, spreads,
+    );
     refusals::refused(answer)
 }
