@@ -72,8 +72,7 @@ fn backward_run(
         third: f2,
         fourth: f3,
     } = f;
-    let mut i = 0usize;
-    while i < n {
+    for i in (0..n).step_by(2) {
         let r = n - i;
         let a0 = v[s + 4 * i] * e0;
         let b0 = v[s + 4 * i + 1] * f0;
@@ -99,7 +98,6 @@ fn backward_run(
         v[c + i + 1] = em * n1 + ep * m1;
         v[d + r - 2] = em * k1 + ep * l1;
         v[d + r - 1] = em * k0 + ep * l0;
-        i += 2;
     }
 }
 
@@ -145,8 +143,7 @@ fn backward_runs(
         two,
     } = two_step_runs(bits, n, bits2, n2, h);
     let o = dst + quarter;
-    let mut k = 0usize;
-    while k < end {
+    for k in (0..end).step_by(size) {
         let t = quarter - k - size;
         let m = pattern_of(k, bits, n);
         let r = pattern_of(t, bits, n);
@@ -172,7 +169,6 @@ fn backward_runs(
             f,
             g,
         );
-        k += size;
     }
 }
 
