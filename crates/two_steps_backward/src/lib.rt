@@ -72,7 +72,8 @@ fn backward_run(
         third: f2,
         fourth: f3,
     } = f;
-    for i in (0..n).step_by(2) {
+    let mut i = 0usize;
+    while i < n {
         let r = n - i;
         let a0 = v[s + 4 * i] * e0;
         let b0 = v[s + 4 * i + 1] * f0;
@@ -98,6 +99,7 @@ fn backward_run(
         v[c + i + 1] = em * n1 + ep * m1;
         v[d + r - 2] = em * k1 + ep * l1;
         v[d + r - 1] = em * k0 + ep * l0;
+        i += 2;
     }
 }
 
@@ -143,7 +145,8 @@ fn backward_runs(
         two,
     } = two_step_runs(bits, n, bits2, n2, h);
     let o = dst + quarter;
-    for k in (0..end).step_by(size) {
+    let mut k = 0usize;
+    while k < end {
         let t = quarter - k - size;
         let m = pattern_of(k, bits, n);
         let r = pattern_of(t, bits, n);
@@ -169,6 +172,7 @@ fn backward_runs(
             f,
             g,
         );
+        k += size;
     }
 }
 

@@ -73,7 +73,8 @@ fn forward_run(
         third: f2,
         fourth: f3,
     } = f;
-    for i in (0..n).step_by(2) {
+    let mut i = 0usize;
+    while i < n {
         let r = n - i;
         let a0 = v[a + i];
         let a1 = v[a + i + 1];
@@ -99,6 +100,7 @@ fn forward_run(
         v[o + 4 * i + 5] = (em2 * k1 + sep2 * m1) * f2;
         v[o + 4 * i + 6] = (ep2 * l1 + sem2 * n1) * e3;
         v[o + 4 * i + 7] = (em2 * l1 + sep2 * n1) * f3;
+        i += 2;
     }
 }
 
@@ -146,7 +148,8 @@ fn forward_runs(
         two,
     } = two_step_runs(bits, n, bits2, n2, h);
     let s = src + quarter;
-    for k in (0..end).step_by(size) {
+    let mut k = 0usize;
+    while k < end {
         let t = quarter - k - size;
         let m = pattern_of(k, bits, n);
         let r = pattern_of(t, bits, n);
@@ -176,6 +179,7 @@ fn forward_runs(
             f,
             g,
         );
+        k += size;
     }
 }
 

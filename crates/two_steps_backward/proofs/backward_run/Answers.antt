@@ -383,6 +383,12 @@ offset_bounds-v-d-in-loop-i c = scaled_Fits _ _ 8 ((let it : Last (length c.loop
 pub bounds-v-d-in-loop-i : goal.bounds-v-d-in-loop-i
 bounds-v-d-in-loop-i c = after_seven _ c.loop-i.v _ _ _ _ _ _ _ _ _ _ _ _ _ _ ((let it : Last (length c.loop-i.v) c.args.d (c.args.n - c.loop-i.i) = last_of _ _ _ _ ((let it : c.loop-i.i + 1 < c.args.n = omega arith in it)) (rw c.loop-i.invariant.0 c.requires.5.to) in it)).at
 
+pub overflow_add-i : goal.overflow_add-i
+overflow_add-i c = let t = (let it : (let s = c.args in
+    Iteration (length c.loop-i.v) s.a s.b s.c s.d s.s c.loop-i.i) = let p = c.requires in
+    let l = c.loop-i.invariant.0 in
+    iteration_of _ _ _ _ _ _ _ _ ((let it : c.loop-i.i + 1 < c.args.n = omega arith in it)) (rw l p.2.to) (rw l p.3.to) (rw l p.4.to) (rw l p.5.to) (rw l p.2.from) ((let it : length c.loop-i.v * 8 < 2 ^ 63 = omega arith in it)) in it) in word t.after t.bytes
+
 pub loop-i-smaller : goal.loop-i-smaller
 loop-i-smaller c = less_by_two _ _ ((let it : c.loop-i.i + 1 < c.args.n = omega arith in it))
 
@@ -406,16 +412,3 @@ returns c =
     let eb : a.b + 0 ≡ a.b = omega arith in
     let ed : a.d + 0 ≡ a.d = omega arith in
     rw (e, z, eb, ed) at c.loop-i.invariant.3
-
-pub returns-2 : goal.returns-2
-unfolding mix
-returns-2 c =
-    let a = c.args in
-    let pre = c.requires in
-    let inv = c.loop-i.invariant in
-    let h : c.loop-i.i + 1 < a.n = omega arith in
-    let e : c.loop-i.i + 2 ≡ a.n = omega (arith, h) in
-    let z : a.n - a.n ≡ 0 = omega arith in
-    let eb : a.b + 0 ≡ a.b = omega arith in
-    let ed : a.d + 0 ≡ a.d = omega arith in
-    rw (e, z, eb, ed) at (run_iteration _ _ _ _ _ _ _ _ _ _ _ _ _ _ _ _ _ pre.1 pre.2 pre.3 pre.4 pre.5 inv.3 h inv.1)

@@ -159,6 +159,17 @@ backward_run-requires c =
     let f = run_apart i.2 i.3 under i.5 _ _ _ i.1 in
     (run_even i.2.first, rw i.0 g, rw i.0 f.0, rw i.0 f.1, rw i.0 f.2, rw i.0 f.3)
 
+pub overflow_add-k : goal.overflow_add-k
+overflow_add-k c = omega (
+  arith,
+  (let it : (let at = c in
+      let r = at.two_step_runs-end.result in
+      let a = at.args in
+      (a.src + 2 * 2 ^ a.h < 18446744073709551616) × (a.dst + 2 * 2 ^ a.h < 18446744073709551616) × (at.loop-k.k + r.size ≤ r.end)
+      × (r.quarter ≡ 2 * r.end) × (r.quarter ≡ 2 ^ a.h)) = let i = c.loop-k.invariant in
+      omega (arith, i.1, i.2.whole, i.5, run_ends i.2.first i.3 c.loop-k-test.true, c) in it),
+)
+
 pub loop-k-smaller : goal.loop-k-smaller
 loop-k-smaller c =
     let iteration = c in
@@ -191,14 +202,3 @@ returns c =
     let e : at.loop-k.k ≡ 2 ^ (a.h - 1) = omega (arith, i.2.first.ends, i.3.within) in
     let z : 2 ^ a.h - 2 ^ (a.h - 1) ≡ 2 ^ (a.h - 1) = omega (arith, i.2.first.ends, i.5) in
     rw (e, z) at i.4
-
-pub returns-2 : goal.returns-2
-returns-2 c =
-    let under = c.loop-k-test.true in
-    let i = c.loop-k.invariant in
-    let a = c.args in
-    let e : c.loop-k.k + c.two_step_runs-end.result.size ≡ 2 ^ (a.h - 1) = omega (arith, i.2.first.ends, run_ends i.2.first i.3 under) in
-    let z : 2 ^ a.h - 2 ^ (a.h - 1) ≡ 2 ^ (a.h - 1) = omega (arith, i.2.first.ends, i.5, i.2.whole) in
-    rw (e, z) at (runs_iteration i.2 i.3 under i.5 _ _ _ _ a.up.now a.down.now a.up2.now a.down2.now _ _ _ _ _ _ _ _ _ a.v.now
-        c.loop-k.v c.pattern_of-m.ensures.value c.pattern_of-r.ensures.value c.pattern_of-j.ensures.value
-        c.opposed-p.ensures c.opposed-q.ensures c.four_at-f.ensures c.four_at-g.ensures i.1 i.4 _ c.backward_run.ensures)

@@ -383,6 +383,12 @@ bounds-v-o-in-loop-i-7 c = after_seven _ c.loop-i.v _ _ _ _ _ _ _ _ _ _ _ _ _ _ 
     let l = c.loop-i.invariant.0 in
     iteration_of _ _ _ _ _ _ _ _ ((let it : c.loop-i.i + 1 < c.args.n = omega arith in it)) (rw l p.1.from) (rw l p.2.from) (rw l p.3.from) (rw l p.4.from) (rw l p.1.to) ((let it : length c.loop-i.v * 8 < 2 ^ 63 = omega arith in it)) in it)).eight.at_7
 
+pub overflow_add-i : goal.overflow_add-i
+overflow_add-i c = let t = (let it : (let s = c.args in
+    Iteration (length c.loop-i.v) s.a s.b s.c s.d s.o c.loop-i.i) = let p = c.requires in
+    let l = c.loop-i.invariant.0 in
+    iteration_of _ _ _ _ _ _ _ _ ((let it : c.loop-i.i + 1 < c.args.n = omega arith in it)) (rw l p.1.from) (rw l p.2.from) (rw l p.3.from) (rw l p.4.from) (rw l p.1.to) ((let it : length c.loop-i.v * 8 < 2 ^ 63 = omega arith in it)) in it) in word t.after t.bytes
+
 pub loop-i-smaller : goal.loop-i-smaller
 loop-i-smaller c = less_by_two _ _ ((let it : c.loop-i.i + 1 < c.args.n = omega arith in it))
 
@@ -400,12 +406,3 @@ loop-i-preserved c =
 
 pub returns : goal.returns
 returns c = let e : c.loop-i.i ≡ c.args.n = omega arith in rw e at c.loop-i.invariant.3
-
-pub returns-2 : goal.returns-2
-unfolding blend
-returns-2 c =
-    let pre = c.requires in
-    let inv = c.loop-i.invariant in
-    let h : c.loop-i.i + 1 < c.args.n = omega arith in
-    let e : c.loop-i.i + 2 ≡ c.args.n = omega (arith, h) in
-    rw e at (run_iteration _ _ _ _ _ _ _ _ _ _ _ _ _ _ _ _ _ _ _ _ _ pre.1 pre.2 pre.3 pre.4 inv.3 h inv.1)
