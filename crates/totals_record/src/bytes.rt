@@ -6,7 +6,5 @@ ghost use Rattle.totals_record.specs.Written.{zero_bytes};
 pub fn clear_bytes(bytes: &mut [u8])
     ensures { bytes.new ≡ zero_bytes (length bytes.old) }
 {
-    for i in 0..bytes.len() {
-        bytes[i] = 0;
-    }
+    bytes.fill(0);
 }

@@ -20,7 +20,7 @@ pub fn lay_signed(room: &mut [f64], at: usize, factors: &[f64], b: usize, signs:
         (factors_in_use factors.now (length signs.now) b signs.now) }
 {
     let first = b * signs.len();
-    for e in 0..signs.len() {
-        room[at + e] = factors[factor_at(first + e, signs[e])];
+    for (e, minus) in signs.iter().enumerate() {
+        room[at + e] = factors[factor_at(first + e, *minus)];
     }
 }
