@@ -1,7 +1,6 @@
-use mathlib.Core.Bool.{false, not}
+use mathlib.Core.Bool.{not}
 use native.Mathlib.Omega.{arith}
 use Rattle.list_laws.proofs.Laws.Search.{start, hit, miss, none}
-use Rattle.error_bound.specs.Bound.{inside_powers}
 use mathlib.Core.Path.{ap}
 use Rattle.error_bound.proofs.bound.near_one.Goals as goal
 

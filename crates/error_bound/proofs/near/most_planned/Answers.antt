@@ -1,7 +1,6 @@
 use mathlib.Core.Path.{◌≡◌, sym, ◌∙◌}
 use native.Mathlib.Nat.{max-eq_left, max-eq_right}
 use native.Mathlib.Omega.{arith}
-use Rattle.list_laws.specs.Most as M
 use Rattle.list_laws.proofs.Laws.Most.{most-more, most_zero}
 use Rattle.plan_steps.specs.Layout.{near_count}
 use Rattle.error_bound.proofs.near.most_planned.Goals as goal
@@ -15,7 +14,7 @@ loop-t-preserved c =
     let l = c.loop-t in
     let e = c.near_count-count.ensures in
     elim c.if-near-count.branch [
-        then-near-count w ↦ (most-more (near_count c.args.plan.now) l.t l.near _ l.invariant.0 (w.near-is ∙ e ∙ sym (max-eq_right (omega arith))), omega arith)
+      | then-near-count w ↦ (most-more (near_count c.args.plan.now) l.t l.near _ l.invariant.0 (w.near-is ∙ e ∙ sym (max-eq_right (omega arith))), omega arith)
       | else-near-count w ↦ (most-more (near_count c.args.plan.now) l.t l.near _ l.invariant.0 (w.near-is ∙ sym (max-eq_left (omega arith))), omega arith)
     ]
 
