@@ -1,6 +1,6 @@
 -- Each turn stores the factor of one coupling.
 use mathlib.Core.Path.{◌≡◌}
-use Prim.Native.Nat.{◌-◌, ◌≤◌}
+use Prim.Native.Nat.{◌≤◌}
 use lib.ListN.{length}
 use Rattle.list_laws.specs.Front.{over}
 use Rattle.house_factors.proofs.Laying.{laid}

@@ -1,7 +1,7 @@
 -- A search over the factors: none was outside so far.
 use mathlib.Core.Bool.{false, not}
 use mathlib.Core.Path.{◌≡◌}
-use Prim.Native.Nat.{◌-◌, ◌≤◌}
+use Prim.Native.Nat.{◌≤◌}
 use lib.Ieee.{nan}
 use lib.ListN.{length, get_or}
 use Rattle.list_laws.specs.Search.{some}

@@ -14,7 +14,7 @@ loop-t-preserved c =
     let l = c.loop-t in
     let e = c.near_count-count.ensures in
     elim c.if-near-count.branch [
-        then-near-count w ↦ (most-more (near_count c.args.plan.now) l.t l.near _ l.invariant.0 (w.near-is ∙ e ∙ sym (max-eq_right (omega arith))), omega arith)
+      | then-near-count w ↦ (most-more (near_count c.args.plan.now) l.t l.near _ l.invariant.0 (w.near-is ∙ e ∙ sym (max-eq_right (omega arith))), omega arith)
       | else-near-count w ↦ (most-more (near_count c.args.plan.now) l.t l.near _ l.invariant.0 (w.near-is ∙ sym (max-eq_left (omega arith))), omega arith)
     ]
 

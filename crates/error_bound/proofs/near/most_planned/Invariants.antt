@@ -1,6 +1,6 @@
 -- The most of the counts passed.
 use mathlib.Core.Path.{◌≡◌}
-use Prim.Native.Nat.{◌-◌, ◌≤◌}
+use Prim.Native.Nat.{◌≤◌}
 use Rattle.list_laws.specs.Most as M
 use Rattle.plan_steps.specs.Layout.{near_count}
 use Rattle.error_bound.proofs.near.most_planned.Given as goal

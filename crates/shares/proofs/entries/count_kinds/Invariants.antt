@@ -1,6 +1,6 @@
 -- By the counts so far of each kind.
 use mathlib.Core.Path.{◌≡◌}
-use Prim.Native.Nat.{◌-◌, ◌≤◌}
+use Prim.Native.Nat.{◌≤◌}
 use lib.ListN.{length}
 use Rattle.list_laws.specs.Count.{count}
 use Rattle.shares.specs.Shares.{at, is_above, is_below, is_half, bad_entry}

@@ -1,7 +1,7 @@
 -- A search of the lengths that adds them on its way.
 use mathlib.Core.Path.{◌≡◌}
 use mathlib.Core.Bool.{false}
-use Prim.Native.Nat.{◌-◌, ◌*◌, ◌≤◌}
+use Prim.Native.Nat.{◌*◌, ◌≤◌}
 use lib.ListN.{length, get_or}
 use Rattle.list_laws.specs.Search.{some}
 use Rattle.shares.specs.Shares.{most_entries, bad_length, start_of}
