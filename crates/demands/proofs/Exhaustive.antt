@@ -27,7 +27,6 @@ use Rattle.transfer_matrix.specs.Configuration.{enumerated_minus}
 use Rattle.transfer_matrix.specs.Job.{Job}
 use Rattle.transfer_matrix.specs.Rounded.{ieee}
 use Rattle.transfer_matrix.specs.Totals.{square, fourth, chunk_size, chunk_count, enumerated, enumerated_count}
-use Rattle.refusals.specs.declared.Answer.TheVariants.{Number}
 use Rattle.refusals.specs.AcceptedTotals.{AcceptedTotals, misfits}
 use Rattle.refusals.specs.Request.{most_counted}
 use Rattle.refusals.specs.Accepted.{Rising}
@@ -50,7 +49,7 @@ use Rattle.demands.specs.Mirror.{Mirrored}
 
 module _ {n floor : ℕ} {a b : List ℕ} {m : List Float} {us vs : List ℕ} {betas factors : List Float} {manner : Manner} {arrangement : Arrangement} {caller : Caller}
     {squares squares' fourths fourths' work work' : List Float} {count : ℕ}
-    (call : Enumerated n floor a b m us vs betas factors manner arrangement caller (Number count) squares squares' fourths fourths' work work') where
+    (call : Enumerated n floor a b m us vs betas factors manner arrangement caller (Ok count) squares squares' fourths fourths' work work') where
   abbrev free : ℕ
   free = C.free a b m
 

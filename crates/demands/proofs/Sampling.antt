@@ -24,7 +24,6 @@ use Rattle.transfer_matrix.specs.Configuration.{sampled_minus}
 use Rattle.transfer_matrix.specs.Job.{Job}
 use Rattle.transfer_matrix.specs.Rounded.{ieee}
 use Rattle.transfer_matrix.specs.Totals.{square, fourth, sampled, sampled_count}
-use Rattle.refusals.specs.declared.Answer.TheVariants.{Number}
 use Rattle.refusals.specs.Accepted.{Rising}
 use Rattle.refusals.proofs.Laws.Rising.{rising}
 use Rattle.refusals.specs.AcceptedTotals.{AcceptedTotals, misfits}
@@ -54,7 +53,7 @@ use Rattle.demands.specs.Mirror.{Mirrored}
 
 module _ {n floor : ℕ} {a b : List ℕ} {m : List Float} {us vs : List ℕ} {betas factors : List Float} {manner : Manner} {arrangement : Arrangement} {caller : Caller} {seed from to samples : ℕ}
     {squares squares' fourths fourths' work work' : List Float} {count : ℕ}
-    (call : Sampled n floor a b m us vs betas factors manner arrangement caller seed from to samples (Number count) squares squares' fourths fourths' work work') where
+    (call : Sampled n floor a b m us vs betas factors manner arrangement caller seed from to samples (Ok count) squares squares' fourths fourths' work work') where
   -- The job of a chunk's sample, at a beta.
   abbrev drawn : (chunk sample : ℕ) → ℕ → Job Float
   drawn = C.drawn_configuration n floor a b m factors manner seed

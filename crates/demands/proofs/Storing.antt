@@ -16,7 +16,6 @@ use Rattle.transfer_matrix.specs.Job.{Job}
 use Rattle.transfer_matrix.specs.Rounded.{ieee}
 use Rattle.transfer_matrix.specs.Sweep as S
 use Rattle.transfer_matrix.specs.Totals.{enumerated_count}
-use Rattle.refusals.specs.declared.Answer.TheVariants.{Number}
 use Rattle.refusals.specs.AcceptedTotals.{AcceptedTotals}
 use Rattle.refusals.specs.Accepted.{Rising}
 use Rattle.refusals.proofs.Laws.Rising.{rising}
@@ -38,7 +37,7 @@ use Rattle.demands.specs.Mirror.{Mirrored}
 
 module _ {n floor : ℕ} {a b : List ℕ} {m : List Float} {us vs : List ℕ} {betas factors : List Float} {manner : Manner} {arrangement : Arrangement} {caller : Caller}
     {stored stored' work work' : List Float} {count : ℕ}
-    (call : EnumeratedEach n floor a b m us vs betas factors manner arrangement caller (Number count) stored stored' work work') where
+    (call : EnumeratedEach n floor a b m us vs betas factors manner arrangement caller (Ok count) stored stored' work work') where
   abbrev free : ℕ
   free = C.free a b m
 

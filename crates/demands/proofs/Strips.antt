@@ -7,7 +7,6 @@ use Rattle.plan_layout.specs.declared.Arrangement.{Arrangement}
 use Rattle.limits.specs.declared.Caller.{Caller}
 use Rattle.rounding.specs.Powers.{Ordered}
 use Rattle.transfer_matrix.specs.Job.{Job}
-use Rattle.refusals.specs.declared.Answer.TheVariants.{Number}
 use Rattle.strip.specs.declared.strip.Strip.{Strip}
 use Rattle.strip_bonds.specs.Edges.{edges, early_ends, late_ends}
 use Rattle.entry_correlations.specs.Correlations.{job_given, Correlated}
@@ -58,7 +57,7 @@ module _ (s : Strip) (floor : ℕ) (m : List Float) (us vs : List ℕ) (factors 
 
     -- of `exhaustive`, every configuration and beta,
     pub strip_enumeration : {count : ℕ} {squares squares' fourths fourths' work work' : List Float}
-        → Enumerated n floor a b m us vs betas factors manner arrangement caller (Number count) squares squares' fourths fourths' work work'
+        → Enumerated n floor a b m us vs betas factors manner arrangement caller (Ok count) squares squares' fourths fourths' work work'
         → (x beta : ℕ) → x < 2 ^ free a b m → beta < length betas → Demanded (configuration n floor a b m factors manner x beta) us vs told
     strip_enumeration call x beta h l =
         record {
@@ -70,13 +69,13 @@ module _ (s : Strip) (floor : ℕ) (m : List Float) (us vs : List ℕ) (factors 
 
     -- whose totals are in order too,
     pub strip_totals : {count : ℕ} {squares squares' fourths fourths' work work' : List Float}
-        → Enumerated n floor a b m us vs betas factors manner arrangement caller (Number count) squares squares' fourths fourths' work work'
+        → Enumerated n floor a b m us vs betas factors manner arrangement caller (Ok count) squares squares' fourths fourths' work work'
         → (k : ℕ) → k < length betas * length us → Ordered binary64 (get_or fourths' k nan) (get_or squares' k nan) count
     strip_totals call = enumeration_bounded call
 
     -- of `exhaustive_c`, the same,
     pub strip_stored : {count : ℕ} {stored stored' work work' : List Float}
-        → EnumeratedEach n floor a b m us vs betas factors manner arrangement caller (Number count) stored stored' work work'
+        → EnumeratedEach n floor a b m us vs betas factors manner arrangement caller (Ok count) stored stored' work work'
         → (x beta : ℕ) → x < 2 ^ free a b m → beta < length betas → Demanded (configuration n floor a b m factors manner x beta) us vs told
     strip_stored call x beta h l =
         record {
@@ -88,7 +87,7 @@ module _ (s : Strip) (floor : ℕ) (m : List Float) (us vs : List ℕ) (factors 
 
     -- and of `sample`, every sample and beta, and its totals.
     pub strip_sampling : {seed from to samples count : ℕ} {squares squares' fourths fourths' work work' : List Float}
-        → Sampled n floor a b m us vs betas factors manner arrangement caller seed from to samples (Number count) squares squares' fourths fourths' work work'
+        → Sampled n floor a b m us vs betas factors manner arrangement caller seed from to samples (Ok count) squares squares' fourths fourths' work work'
         → (chunk j beta : ℕ) → from ≤ chunk → chunk < to → j < samples → beta < length betas
         → Demanded (drawn_configuration n floor a b m factors manner seed chunk j beta) us vs told
     strip_sampling call chunk j beta u v i l =
@@ -100,6 +99,6 @@ module _ (s : Strip) (floor : ℕ) (m : List Float) (us vs : List ℕ) (factors 
         }
 
     pub strip_sampled_totals : {seed from to samples count : ℕ} {squares squares' fourths fourths' work work' : List Float}
-        → Sampled n floor a b m us vs betas factors manner arrangement caller seed from to samples (Number count) squares squares' fourths fourths' work work'
+        → Sampled n floor a b m us vs betas factors manner arrangement caller seed from to samples (Ok count) squares squares' fourths fourths' work work'
         → (k : ℕ) → k < length betas * length us → Ordered binary64 (get_or fourths' k nan) (get_or squares' k nan) count
     strip_sampled_totals call = sampling_bounded call

@@ -23,7 +23,6 @@ use Rattle.estimate.specs.declared.answer.Estimate.TheVariants.{Complete}
 use Rattle.estimate.specs.Estimates.{number, mean_of}
 use Rattle.estimate_complete.specs.Complete.{mean_spread_of, complete_of}
 use Rattle.estimates_complete.specs.Columns as Columns
-use Rattle.refusals.specs.declared.Answer.TheVariants.{Number}
 use Rattle.refusals.specs.Accepted.{Rising}
 use Rattle.house_factors.specs.Factors.{single_factors}
 use Rattle.plan_layout.specs.declared.Arrangement.{Arrangement}
@@ -83,8 +82,8 @@ module _ {n floor : ℕ} {a b : List ℕ} {m : List Float} {us vs : List ℕ} {c
 
 module _ {n floor : ℕ} {a b : List ℕ} {m : List Float} {us vs : List ℕ} {betas : List Float} {manner : Manner} {arrangement : Arrangement} {caller : Caller}
     {squares squares' fourths fourths' work work' : List Float} {count : ℕ}
-    (call : HouseEnumerated n floor a b m us vs betas manner arrangement caller (Number count) squares squares' fourths fourths' work work') where
-  lent_totals : Enumerated n floor a b m us vs betas (table_factors a b m betas) manner arrangement caller (Number count) squares squares' fourths fourths' work work'
+    (call : HouseEnumerated n floor a b m us vs betas manner arrangement caller (Ok count) squares squares' fourths fourths' work work') where
+  lent_totals : Enumerated n floor a b m us vs betas (table_factors a b m betas) manner arrangement caller (Ok count) squares squares' fourths fourths' work work'
   lent_totals = house_enumeration_lent call number_not
 
   -- The betas rise strictly.
@@ -149,8 +148,8 @@ module _ {n floor : ℕ} {a b : List ℕ} {m : List Float} {us vs : List ℕ} {b
 
 module _ {n floor : ℕ} {a b : List ℕ} {m : List Float} {us vs : List ℕ} {betas : List Float} {manner : Manner} {arrangement : Arrangement} {caller : Caller}
     {stored stored' work work' : List Float} {count : ℕ}
-    (call : HouseEnumeratedEach n floor a b m us vs betas manner arrangement caller (Number count) stored stored' work work') where
-  lent-stored : EnumeratedEach n floor a b m us vs betas (table_factors a b m betas) manner arrangement caller (Number count) stored stored' work work'
+    (call : HouseEnumeratedEach n floor a b m us vs betas manner arrangement caller (Ok count) stored stored' work work') where
+  lent-stored : EnumeratedEach n floor a b m us vs betas (table_factors a b m betas) manner arrangement caller (Ok count) stored stored' work work'
   lent-stored = house-storing-lent call number_not
 
   -- The betas rise strictly.
@@ -189,8 +188,8 @@ module _ {n floor : ℕ} {a b : List ℕ} {m : List Float} {us vs : List ℕ} {b
 
 module _ {n floor : ℕ} {a b : List ℕ} {m : List Float} {us vs : List ℕ} {betas : List Float} {manner : Manner} {arrangement : Arrangement} {caller : Caller} {seed from to samples : ℕ}
     {squares squares' fourths fourths' work work' : List Float} {count : ℕ}
-    (call : HouseSampled n floor a b m us vs betas manner arrangement caller seed from to samples (Number count) squares squares' fourths fourths' work work') where
-  lent-samples : Sampled n floor a b m us vs betas (table_factors a b m betas) manner arrangement caller seed from to samples (Number count) squares squares' fourths fourths' work work'
+    (call : HouseSampled n floor a b m us vs betas manner arrangement caller seed from to samples (Ok count) squares squares' fourths fourths' work work') where
+  lent-samples : Sampled n floor a b m us vs betas (table_factors a b m betas) manner arrangement caller seed from to samples (Ok count) squares squares' fourths fourths' work work'
   lent-samples = house_sampling_lent call number_not
 
   -- The betas rise strictly.
