@@ -1,5 +1,7 @@
 -- The settled examples of document 01 that are to be proved, in its order: one list of statements, and one statement over it.
-use Rattle.std.specs.Prelude.{◌≡◌, refl, Some, true, false, List, [], ◌∷◌, map, ℕ, zero, suc, ◌<◌, pos, negsuc, Float, get_or}
+use Rattle.std.specs.Prelude.{◌≡◌, refl, true, false, List, [], ◌∷◌, map, ℕ, zero, suc, ◌<◌, pos, negsuc, Float, get_or}
+use Rattle.std.specs.declared.result.Result.TheVariants.{Ok}
+use Rattle.std.specs.declared.option.Option.TheVariants.{Some}
 use Rattle.std.proofs.Common.{sym, arith}
 use Rattle.std.specs.Float.{fin, binary64}
 use Rattle.std.specs.Float.Ieee.{round, of_bits, of_int, add, sub, mul, div, neg, lt, le}
@@ -20,7 +22,6 @@ use Rattle.strip_bonds.specs.Edges.{edges, early_ends, late_ends, edges_below}
 use Rattle.strip_bonds.proofs.Laws.Square.{square, square_edges, EdgesOfSquare, edges-of-square}
 use Rattle.strip_window.specs.Window as Window
 use Rattle.sqrt.specs.Sqrt.{sqrt}
-use Rattle.std.specs.declared.result.Result.TheVariants.{Ok}
 use Rattle.estimate.specs.declared.answer.Estimate.TheVariants.{Estimated, TooFew}
 use Rattle.estimate.specs.Estimates.{estimate_of}
 

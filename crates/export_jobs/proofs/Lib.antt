@@ -1,1 +1,1 @@
-mod Previews
+mod Telling

@@ -1,5 +1,5 @@
 -- The figures go out, or nothing does.
-use Rattle.export_jobs.proofs.Previews.{told-figures, told-refusal}
+use Rattle.export_jobs.proofs.Telling.{told-figures, told-refusal}
 use Rattle.export_jobs.proofs.previews.tell_preview.Goals as goal
 
 pub returns-in-Ok : goal.returns-in-Ok
