@@ -1,4 +1,5 @@
 // One call: its lists are loaded, the call is made, and what it answers and leaves in its results is compared.
+use refusals::refused;
 use replay_format::{
     Counted, NUMBERS, Replayed, advance, are_stored, at, begin, edge_lists, finish, length_at,
     load_doubles, load_edges, load_numbers, number_at,
@@ -42,8 +43,8 @@ fn replay_betas(
     let results = &mut second[..l];
     let answers = at(place, k);
     load_doubles(list, place, betas);
-    let number = couplings::couplings(number_at(list, start), a, b, m, betas, results);
-    let same = number == number_at(list, at(start, NUMBER));
+    let answer = couplings::couplings(number_at(list, start), a, b, m, betas, results);
+    let same = refused(answer) == number_at(list, at(start, NUMBER));
     Replayed {
         same: same & are_stored(results, list, answers),
         next: at(answers, l),

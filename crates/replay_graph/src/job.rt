@@ -1,7 +1,6 @@
 // One job: its lists are loaded, every graph entry is called, and what they answer and leave is hashed.
-use graph::Reached;
-use graph_edges::{Graph, Made};
-use refusals::Answer;
+use graph_edges::Graph;
+use refusals::{Refusal, refused};
 use replay_format::{
     Counted, OFFSET, Replayed, at, load_doubles, load_numbers, mix, mix_doubles, mix_number,
     mix_numbers,
@@ -16,38 +15,42 @@ const BEFORE: usize = 9;
 
 const FEW: usize = 3;
 
-fn answer_word(a: Answer) -> u64 {
+fn refused_word(refusal: Refusal) -> u64 {
+    std::num::wrapping_add_u64(REFUSED, refusal.number() as u64)
+}
+
+fn answer_word(a: Result<usize, Refusal>) -> u64 {
     match a {
-        Answer::Number(k) => k as u64,
-        Answer::Refused(k) => std::num::wrapping_add_u64(REFUSED, k as u64),
+        Ok(k) => k as u64,
+        Err(refusal) => refused_word(refusal),
     }
 }
 
-fn reached_word(r: Reached) -> u64 {
+fn reached_word(r: Result<Option<usize>, Refusal>) -> u64 {
     match r {
-        Reached::Length(k) => k as u64,
-        Reached::NotJoined => NOT_JOINED,
-        Reached::Refused(k) => std::num::wrapping_add_u64(REFUSED, k as u64),
+        Ok(Some(k)) => k as u64,
+        Ok(None) => NOT_JOINED,
+        Err(refusal) => refused_word(refusal),
     }
 }
 
-fn made_word(m: Made) -> u64 {
+fn graph_word(m: Result<Graph, Refusal>) -> u64 {
     match m {
-        Made::Kept(g) => g.win as u64,
-        Made::Refused(k) => std::num::wrapping_add_u64(REFUSED, k as u64),
+        Ok(g) => g.win as u64,
+        Err(refusal) => refused_word(refusal),
     }
 }
 
-fn kept_count(m: Made) -> usize {
+fn kept_count(m: Result<Graph, Refusal>) -> usize {
     match m {
-        Made::Kept(g) => g.edges,
-        Made::Refused(_) => 4097,
+        Ok(g) => g.edges,
+        Err(_) => 4097,
     }
 }
 
 // How many elements a buffer is given: `whole`, or one less, or a few where the job is refused.
-fn lent(refused: bool, whole: usize, short: bool) -> usize {
-    if refused {
+fn lent(bad: bool, whole: usize, short: bool) -> usize {
+    if bad {
         return FEW;
     }
     if short {
@@ -59,21 +62,14 @@ fn lent(refused: bool, whole: usize, short: bool) -> usize {
     whole
 }
 
-fn spare(refused: bool, edges: usize, short: bool) -> usize {
-    if refused {
+fn spare(bad: bool, edges: usize, short: bool) -> usize {
+    if bad {
         return FEW;
     }
     if short {
-        return lent(refused, edges, short);
+        return lent(bad, edges, short);
     }
     std::num::wrapping_add_usize(edges, 2)
-}
-
-fn is_refused(a: Answer) -> bool {
-    match a {
-        Answer::Number(_) => false,
-        Answer::Refused(_) => true,
-    }
 }
 
 fn count_kept(n: usize, a: &[usize], b: &[usize], m: &[f64]) -> usize {
@@ -90,7 +86,7 @@ fn mix_components(hash: u64, n: usize, a: &[usize], b: &[usize], m: &[f64], lent
         return hash;
     }
     let names = &mut out[..lent];
-    let h = mix_number(hash, graph::components(n, a, b, m, names));
+    let h = mix_number(hash, refused(graph::components(n, a, b, m, names)));
     mix_numbers(h, names)
 }
 
@@ -100,7 +96,7 @@ fn mix_forest(hash: u64, n: usize, a: &[usize], b: &[usize], m: &[f64], lent: us
         return hash;
     }
     let bits = &mut out[..lent];
-    let h = mix_number(hash, graph::spanning_forest(n, a, b, m, bits));
+    let h = mix_number(hash, refused(graph::spanning_forest(n, a, b, m, bits)));
     mix_numbers(h, bits)
 }
 
@@ -118,7 +114,7 @@ fn mix_graph(hash: u64, n: usize, a: &[usize], b: &[usize], m: &[f64], lent: usi
     let raw = &mut fourth[..lent];
     let h = mix(
         hash,
-        made_word(Graph::new(n, 0, a, b, m, early, late, mag, raw)),
+        graph_word(Graph::new(n, 0, a, b, m, early, late, mag, raw)),
     );
     mix_numbers(
         mix_doubles(mix_numbers(mix_numbers(h, early), late), mag),
@@ -140,7 +136,7 @@ fn mix_rotated(hash: u64, n: usize, a: &[usize], b: &[usize], m: &[f64], lent: u
     let raw = &mut fourth[..lent];
     let h = mix(
         hash,
-        made_word(Graph::rotated(n, 0, a, b, m, early, late, mag, raw)),
+        graph_word(Graph::rotated(n, 0, a, b, m, early, late, mag, raw)),
     );
     mix_numbers(
         mix_doubles(mix_numbers(mix_numbers(h, early), late), mag),
@@ -155,15 +151,15 @@ fn components_word(n: usize, a: &[usize], b: &[usize], m: &[f64]) -> u64 {
 }
 
 fn hash_of(n: usize, a: &[usize], b: &[usize], m: &[f64], short: bool) -> u64 {
-    let refused = is_refused(graph::window(n, a, b, m, 0));
+    let bad = graph::window(n, a, b, m, 0).is_err();
     let edges = count_kept(n, a, b, m);
     let w = mix(OFFSET, answer_word(graph::window(n, a, b, m, 0)));
     let k = mix(w, components_word(n, a, b, m));
     let f = mix(k, answer_word(graph::cyclomatic(n, a, b, m)));
-    let c = mix_components(f, n, a, b, m, lent(refused, n, short));
-    let t = mix_forest(c, n, a, b, m, lent(refused, edges, short));
-    let g = mix_graph(t, n, a, b, m, spare(refused, edges, short));
-    mix_rotated(g, n, a, b, m, spare(refused, edges, short))
+    let c = mix_components(f, n, a, b, m, lent(bad, n, short));
+    let t = mix_forest(c, n, a, b, m, lent(bad, edges, short));
+    let g = mix_graph(t, n, a, b, m, spare(bad, edges, short));
+    mix_rotated(g, n, a, b, m, spare(bad, edges, short))
 }
 
 // Whether the distances of the pairs are the stored ones.

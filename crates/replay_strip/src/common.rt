@@ -1,7 +1,7 @@
 // What the replays share: strips from stored words, checksums, and buffers filled with guards, which a call must leave where it writes nothing.
 ghost use Rattle.std.specs.Prelude.{◌≤◌};
 
-use refusals::Answer;
+use refusals::Refusal;
 use strip::{Kind, Strip};
 
 pub(crate) const GUARD: usize = 77;
@@ -40,17 +40,17 @@ pub(crate) fn word(list: &[u8], at: usize, i: usize) -> u64
     replay_format::word(list, std::num::wrapping_add_usize(at, i * 8))
 }
 
-pub(crate) fn is_number(a: Answer, n: u64) -> bool {
+pub(crate) fn is_number(a: Result<usize, Refusal>, n: u64) -> bool {
     match a {
-        Answer::Number(k) => wide(k) == n,
-        Answer::Refused(_) => false,
+        Ok(k) => wide(k) == n,
+        Err(_) => false,
     }
 }
 
-pub(crate) fn is_refused(a: Answer, n: u64) -> bool {
+pub(crate) fn is_refused(a: Result<usize, Refusal>, by: Refusal) -> bool {
     match a {
-        Answer::Number(_) => false,
-        Answer::Refused(k) => wide(k) == n,
+        Ok(_) => false,
+        Err(refusal) => refusal == by,
     }
 }
 

@@ -5,7 +5,7 @@ use crate::common::{
     GUARD, GUARD_MAGNITUDE, cut, is_number, is_refused, see_edges, strip_of, wide, word,
 };
 use crate::diluted_graphs;
-use refusals::Answer;
+use refusals::Refusal;
 use strip::Strip;
 
 // The kept edges among the first k: how many, their checksum, and the longest.
@@ -49,10 +49,10 @@ fn kept_of(k: usize, early: &[usize; 4096], late: &[usize; 4096], mag: &[f64; 40
     }
 }
 
-fn number(a: &Answer) -> usize {
+fn number(a: &Result<usize, Refusal>) -> usize {
     match a {
-        Answer::Number(k) => *k,
-        Answer::Refused(_) => 0,
+        Ok(k) => *k,
+        Err(_) => 0,
     }
 }
 
@@ -74,7 +74,7 @@ fn lend(
     early: &mut [usize],
     late: &mut [usize],
     mag: &mut [f64],
-) -> Answer
+) -> Result<usize, Refusal>
     requires { (a ≤ length early.old) × (b ≤ length late.old) × (c ≤ length mag.old) }
 {
     strip_dilution::diluted(
@@ -102,7 +102,7 @@ fn short_agrees(s: Strip, x: Dilution, k: usize, buffer: usize) -> bool {
     let c = cut(k, buffer == 2);
     let answer = lend(s, x, a, b, c, &mut early, &mut late, &mut mag);
     let seen = see_edges(0, &early, &late, &mag);
-    is_refused(answer, 12) & seen.rest
+    is_refused(answer, Refusal::Buffer) & seen.rest
 }
 
 // Buffers of exactly k: the same kept edges, and no more is written.

@@ -1,13 +1,13 @@
 // Refusals and near misses of every entry.
 use crate::common::{GUARD, GUARD_BYTE, GUARD_MAGNITUDE, kind_of, see_edges, wide, word};
-use refusals::Answer;
+use refusals::Refusal;
 use strip::Strip;
 
 // The refusal's number, 0 for accepted.
-fn refusal(a: Answer) -> u64 {
+fn refusal(a: Result<usize, Refusal>) -> u64 {
     match a {
-        Answer::Number(_) => 0,
-        Answer::Refused(k) => wide(k),
+        Ok(_) => 0,
+        Err(refusal) => wide(refusal.number()),
     }
 }
 

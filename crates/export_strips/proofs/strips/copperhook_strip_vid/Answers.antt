@@ -1,4 +1,5 @@
 -- What the answer that was told says, for the strip that the numbers name.
+use Rattle.export_strips.proofs.Told.{vertex-told}
 use borrow.Author.Rules.{rules}
 use Rattle.export_strips.proofs.strips.copperhook_strip_vid.Goals as goal
 
@@ -14,5 +15,5 @@ tell_vertex-requires c = search rules
 pub returns : goal.returns
 returns c =
     let e = rw c.strip_numbered-s.ensures at c.vid-answer.ensures in
-    let t = rw e at c.tell_vertex.ensures in
-    record { value = t.number; inside_after = t.within; vertex_after = t.at }
+    let t = vertex-told _ _ e c.tell_vertex.ensures in
+    record { value = t.0; inside_after = t.1; vertex_after = t.2 }
