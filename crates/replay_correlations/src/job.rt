@@ -2,7 +2,7 @@
 use entry_correlations::Manner;
 use limits::Caller;
 use plan_layout::Arrangement;
-use refusals::Answer;
+use refusals::{Refusal, refused};
 use replay_format::{
     Counted, NUMBERS, Replayed, advance, are_cleared, are_stored, at, begin, edge_lists, fill,
     finish, length_at, load_doubles, load_edges, load_numbers, number_at, two_lists, word,
@@ -53,10 +53,10 @@ fn manner_of(elementwise: u64) -> Manner {
     Manner::Block
 }
 
-fn room_word(room: Answer) -> u64 {
+fn room_word(room: Result<usize, Refusal>) -> u64 {
     match room {
-        Answer::Number(k) => k as u64,
-        Answer::Refused(k) => std::num::wrapping_add_u64(REFUSED, k as u64),
+        Ok(k) => k as u64,
+        Err(refusal) => std::num::wrapping_add_u64(REFUSED, refusal.number() as u64),
     }
 }
 
@@ -79,7 +79,7 @@ fn call(
     let manner = manner_of(word(list, at(start, PER_ELEMENT)));
     fill(list, at(start, BEFORE), results);
     fill(list, at(start, BEFORE), memory);
-    entry_correlations::correlations(
+    let answer = entry_correlations::correlations(
         n,
         floor,
         a,
@@ -93,7 +93,8 @@ fn call(
         Caller::Desk,
         results,
         memory,
-    )
+    );
+    refused(answer)
 }
 
 // Whether the number, the results, which are stored at `place`, and the work memory, so much of it cleared, are what they should be.
@@ -128,13 +129,13 @@ fn room_agrees(
 }
 
 // How much is +0.0 after a call in less room: its own room, where the other arrangement's was cleared.
-fn less_cleared(cleared: usize, room: Answer) -> usize {
+fn less_cleared(cleared: usize, room: Result<usize, Refusal>) -> usize {
     if cleared == 0 {
         return 0;
     }
     match room {
-        Answer::Number(k) => k,
-        Answer::Refused(_) => 0,
+        Ok(k) => k,
+        Err(_) => 0,
     }
 }
 

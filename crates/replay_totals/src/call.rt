@@ -2,7 +2,7 @@
 use entry_correlations::Manner;
 use limits::Caller;
 use plan_layout::Arrangement;
-use refusals::Answer;
+use refusals::Refusal;
 use replay_format::{are_cleared, are_stored, at, fill, number_at, word};
 
 // Refused for short work memory.
@@ -41,10 +41,10 @@ fn manner_of(elementwise: u64) -> Manner {
     Manner::Block
 }
 
-fn answer_word(answer: Answer) -> u64 {
+fn answer_word(answer: Result<usize, Refusal>) -> u64 {
     match answer {
-        Answer::Number(k) => k as u64,
-        Answer::Refused(k) => std::num::wrapping_add_u64(REFUSED, k as u64),
+        Ok(k) => k as u64,
+        Err(refusal) => std::num::wrapping_add_u64(REFUSED, refusal.number() as u64),
     }
 }
 
@@ -72,7 +72,7 @@ fn answer(
     first: &mut [f64],
     second: &mut [f64],
     memory: &mut [f64],
-) -> Answer {
+) -> Result<usize, Refusal> {
     let n = number_at(list, start);
     let floor = number_at(list, at(start, FLOOR));
     let manner = manner_of(word(list, at(start, PER_ELEMENT)));
@@ -199,8 +199,8 @@ pub(crate) fn less_cleared_at(
     let n = number_at(list, start);
     let floor = number_at(list, at(start, FLOOR));
     match job_checks::room(n, floor, a, b, m, us, vs, Arrangement::LessRoom) {
-        Answer::Number(k) => k,
-        Answer::Refused(_) => 0,
+        Ok(k) => k,
+        Err(_) => 0,
     }
 }
 
