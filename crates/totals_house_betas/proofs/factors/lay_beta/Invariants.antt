@@ -1,6 +1,6 @@
 -- The factors of the edges so far.
 use mathlib.Core.Path.{◌≡◌}
-use Prim.Native.Nat.{◌-◌, ◌≤◌}
+use Prim.Native.Nat.{◌≤◌}
 use lib.ListN.{length}
 use Rattle.totals_house_betas.proofs.Laws.Filling.{laid}
 use Rattle.totals_house_betas.proofs.factors.lay_beta.Given as goal

@@ -1,5 +1,5 @@
 use mathlib.Core.Path.{◌≡◌}
-use Prim.Native.Nat.{◌-◌, ◌/◌, ◌%◌, ◌≤◌}
+use Prim.Native.Nat.{◌/◌, ◌%◌, ◌≤◌}
 use lib.ListN.{length}
 use Rattle.rng.specs.Xoshiro.{output}
 use Rattle.list_laws.specs.Bits.{bit}
