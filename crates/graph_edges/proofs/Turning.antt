@@ -23,7 +23,6 @@ use Rattle.kept_edges.specs.Keep.{Written}
 use Rattle.graph_edges.specs.Graphs.{Set, Turned, turned, rotate}
 use Rattle.graph_edges.specs.declared.Graph.{Graph}
 use Rattle.graph_edges.specs.declared.Made.{Made}
-use Rattle.graph_edges.specs.declared.Made.TheVariants as Made
 
 -- e of the edges were turned
 pub record Turning (n k : ℕ) (early₀ early late₀ late : List ℕ) (e : ℕ) : Type 0 where

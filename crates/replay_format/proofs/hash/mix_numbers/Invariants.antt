@@ -1,5 +1,5 @@
 -- The first i words are mixed in.
-use Rattle.std.proofs.Common.{◌≡◌, ◌-◌, ◌≤◌, length, get_or}
+use Rattle.std.proofs.Common.{◌≡◌, ◌≤◌, length, get_or}
 use Rattle.replay_format.specs.Words.{mixed_all}
 use Rattle.replay_format.proofs.hash.mix_numbers.Given as goal
 

@@ -1,5 +1,5 @@
 -- The first i doubles were compared.
-use Rattle.std.proofs.Common.{◌≡◌, ◌-◌, ◌≤◌, eqb, length, get_or}
+use Rattle.std.proofs.Common.{◌≡◌, ◌≤◌, eqb, length, get_or}
 use lib.Ieee.{binary64, to_bits, nan}
 use Rattle.replay_format.specs.Words.{word_at, place_at, every}
 use Rattle.replay_format.proofs.words.are_stored.Given as goal

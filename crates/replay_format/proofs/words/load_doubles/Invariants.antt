@@ -1,5 +1,5 @@
 -- The first i entries are loaded.
-use Rattle.std.proofs.Common.{◌≡◌, ◌-◌, ◌≤◌, length}
+use Rattle.std.proofs.Common.{◌≡◌, ◌≤◌, length}
 use lib.Ieee.{binary64, of_bits}
 use Rattle.replay_format.specs.Words.{word_at, place_at}
 use Rattle.list_laws.specs.Front.{over}
