@@ -5,6 +5,7 @@ use Rattle.transfer_matrix.specs.Job.{window_of}
 use Rattle.refusals.specs.Edges.{Kept, early_ends, late_ends}
 use Rattle.graph_edges.specs.Graphs.{WrittenKept, Set}
 use Rattle.graph_edges.specs.declared.Made.{Made}
+use Rattle.graph_edges.specs.declared.Made.TheVariants as Made
 
 -- refused before anything was written
 pub refused-set : (K n floor : ℕ) (es : List Kept) (r : ℕ) (early late : List ℕ) (mag : List Float) (raw : List ℕ) → r ≡ K → (r ≡ 0 → ⊥)
