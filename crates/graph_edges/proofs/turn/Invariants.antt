@@ -1,6 +1,5 @@
 -- The edges before e are turned, the others as they were.
 use Rattle.graph_edges.proofs.Turning.{Turning}
-use Prim.Native.Nat.{◌-◌}
 use Rattle.graph_edges.proofs.turn.Given as goal
 
 abbrev pub invariant-loop-e : goal.invariant-loop-e

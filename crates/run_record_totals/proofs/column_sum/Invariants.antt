@@ -1,6 +1,6 @@
 -- The chunks so far are added.
 use mathlib.Core.Path.{◌≡◌}
-use Prim.Native.Nat.{◌-◌, ◌≤◌}
+use Prim.Native.Nat.{◌≤◌}
 use Rattle.run_record_totals.specs.Totals.{column_sum}
 use Rattle.run_record_totals.proofs.column_sum.Given as goal
 

@@ -1,7 +1,7 @@
 -- A search for a place out of order, once the count is known to be a double.
 use mathlib.Core.Path.{◌≡◌}
 use mathlib.Core.Bool.{false}
-use Prim.Native.Nat.{◌-◌, ◌≤◌}
+use Prim.Native.Nat.{◌≤◌}
 use lib.ListN.{length}
 use Rattle.list_laws.specs.Search.{some}
 use Rattle.estimates.proofs.Sums.{disordered}

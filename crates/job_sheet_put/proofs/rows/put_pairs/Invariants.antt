@@ -1,5 +1,5 @@
 -- The first i records are written.
-use Prim.Native.Nat.{◌-◌, ◌≤◌}
+use Prim.Native.Nat.{◌≤◌}
 use lib.ListN.{length}
 use Rattle.little_endian.specs.Rows.{rows}
 use Rattle.job_sheet_put.specs.Behind.{Appended, raw_pair}

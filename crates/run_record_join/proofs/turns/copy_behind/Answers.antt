@@ -1,4 +1,4 @@
-use Rattle.std.proofs.Common.{◌≡◌, sym, ap, ◌∙◌, arith, length-append, drop-drop, take_all}
+use Rattle.std.proofs.Common.{◌≡◌, sym, ap, ◌∙◌, arith, drop-drop, take_all}
 use mathlib.Core.List.{List, ◌++◌, append_assoc}
 use Prim.Native.Nat.{ℕ, ◌+◌, ◌-◌, ◌≤◌}
 use Rattle.std.specs.Prelude.{take, drop, length}

@@ -1,5 +1,5 @@
 -- The pairs among the first i candidates are counted.
-use Prim.Native.Nat.{◌-◌, ◌*◌, ◌≤◌}
+use Prim.Native.Nat.{◌*◌, ◌≤◌}
 use Rattle.strip_pairs.specs.PairSet.{pairs_below}
 use Rattle.strip_pairs.specs.PairListing.{Ends}
 use Rattle.strip_pairs.proofs.standard.count_pairs.Given as goal

@@ -1,4 +1,4 @@
-use Rattle.std.proofs.Common.{◌≡◌, sym, ap, ◌∙◌, arith, take_at, drop_at, drop-drop}
+use Rattle.std.proofs.Common.{◌≡◌, sym, ◌∙◌, arith, take_at, drop_at, drop-drop}
 use mathlib.Core.List.{List, ◌++◌, append_assoc}
 use Prim.Native.Nat.{ℕ, ◌+◌, ◌-◌, ◌≤◌}
 use lib.ListN.{length, take, drop, length-append, length-drop, length-take}

@@ -1,5 +1,5 @@
 -- The pairs among the first i candidates stand at the fronts of the buffers.
-use Prim.Native.Nat.{◌-◌, ◌≤◌}
+use Prim.Native.Nat.{◌≤◌}
 use Rattle.strip_pairs.specs.PairSet.{pairs_below}
 use Rattle.strip_pairs.specs.PairListing.{Ends, PairsWritten}
 use Rattle.strip_pairs.proofs.standard.write_pairs.Given as goal
