@@ -58,13 +58,13 @@ returns c =
     let m = c.loop-i-test.m in
     let most = run_most _ _ _ _ _ _ _ _ g.a g.b g.o g.n g.v.now c.loop-i-test.v {ma = m.a} {mb = m.b} {mc = m.c} {md = m.d} pre.0 in
     elim c.loop-i-test.branch [
-      else-loop-i-test w ↦
-        let e : c.loop-i.i ≡ g.n = omega arith in
-        record { v_after = w.v-is ∙ rw e at inv.3; value = most (rw w.m-is (rw e at inv.4)) c.larger_of.ensures c.larger_of-2.ensures c.larger_of-3.ensures }
-    | then-loop-i-test+else-n-i-gt2 w ↦
-        let h : c.loop-i.i + 1 < g.n = omega arith in
-        let e : c.loop-i.i + 2 ≡ g.n = omega arith in
-        let filled = run_iteration _ _ _ _ _ _ _ _ _ _ _ _ _ _ _ pre.1 pre.2 pre.3 inv.3 h inv.1 in
-        let lanes = run_lanes _ _ _ _ _ _ _ _ _ _ _ _ _ _ _ pre.1 pre.2 pre.3 inv.3 h inv.1 inv.4 w.joined-m.ensures in
-        record { v_after = w.v-is ∙ rw e at filled; value = most (rw w.m-is (rw e at lanes)) c.larger_of.ensures c.larger_of-2.ensures c.larger_of-3.ensures }
+      | else-loop-i-test w ↦
+          let e : c.loop-i.i ≡ g.n = omega arith in
+          record { v_after = w.v-is ∙ rw e at inv.3; value = most (rw w.m-is (rw e at inv.4)) c.larger_of.ensures c.larger_of-2.ensures c.larger_of-3.ensures }
+      | then-loop-i-test+else-n-i-gt2 w ↦
+          let h : c.loop-i.i + 1 < g.n = omega arith in
+          let e : c.loop-i.i + 2 ≡ g.n = omega arith in
+          let filled = run_iteration _ _ _ _ _ _ _ _ _ _ _ _ _ _ _ pre.1 pre.2 pre.3 inv.3 h inv.1 in
+          let lanes = run_lanes _ _ _ _ _ _ _ _ _ _ _ _ _ _ _ pre.1 pre.2 pre.3 inv.3 h inv.1 inv.4 w.joined-m.ensures in
+          record { v_after = w.v-is ∙ rw e at filled; value = most (rw w.m-is (rw e at lanes)) c.larger_of.ensures c.larger_of-2.ensures c.larger_of-3.ensures }
     ]

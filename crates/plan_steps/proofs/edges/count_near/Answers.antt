@@ -61,12 +61,12 @@ loop-e-preserved c =
     let i = c.loop-e.invariant in
     let g = c.requires.0 in
     elim c.if-d-w.branch [
-      then-d-w+else-c-eq-MOST_NEAR w ↦ (
+      | then-d-w+else-c-eq-MOST_NEAR w ↦ (
         omega (arith, b),
         c.if-d-w.auto.counts ∙ i.1,
         rw w.counts-is (counts_near _ _ _ _ _ _ g b i.2 w.if-d-w.true w.if-c-eq-MOST_NEAR.false),
       )
-    | else-d-w w ↦ (omega (arith, b), c.if-d-w.auto.counts ∙ i.1, rw w.counts-is (counts_left _ _ _ _ _ _ g b i.2 w.if-d-w.false))
+      | else-d-w w ↦ (omega (arith, b), c.if-d-w.auto.counts ∙ i.1, rw w.counts-is (counts_left _ _ _ _ _ _ g b i.2 w.if-d-w.false))
     ]
 
 pub returns : goal.returns

@@ -12,9 +12,9 @@ pub loop-i-preserved : goal.loop-i-preserved
 loop-i-preserved c =
     let before = c.loop-i.invariant.3 in
     elim c.if-b-low.branch [
-      then-b-low+then-b-e w ↦ (omega arith, omega arith, omega arith, rw w.e-is (sparse-more _ (omega arith) before (inr (omega arith))))
-    | then-b-low+else-b-e w ↦ (omega arith, omega arith, omega arith, rw w.e-is (sparse-more _ (omega arith) before (inr (omega arith))))
-    | else-b-low w ↦ (omega arith, omega arith, omega arith, rw w.e-is (sparse-more _ (omega arith) before (inl (omega arith))))
+      | then-b-low+then-b-e w ↦ (omega arith, omega arith, omega arith, rw w.e-is (sparse-more _ (omega arith) before (inr (omega arith))))
+      | then-b-low+else-b-e w ↦ (omega arith, omega arith, omega arith, rw w.e-is (sparse-more _ (omega arith) before (inr (omega arith))))
+      | else-b-low w ↦ (omega arith, omega arith, omega arith, rw w.e-is (sparse-more _ (omega arith) before (inl (omega arith))))
     ]
 
 pub returns : goal.returns
