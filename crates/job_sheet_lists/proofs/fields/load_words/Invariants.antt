@@ -1,6 +1,6 @@
 -- The first i fields are loaded.
 use mathlib.Core.Path.{◌≡◌}
-use Prim.Native.Nat.{◌+◌, ◌*◌, ◌≤◌, ◌-◌}
+use Prim.Native.Nat.{◌+◌, ◌*◌, ◌≤◌}
 use lib.ListN.{length}
 use Rattle.list_laws.specs.Front.{over}
 use Rattle.list_laws.specs.Tabulate.{tabulate}

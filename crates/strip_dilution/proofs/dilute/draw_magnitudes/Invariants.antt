@@ -1,5 +1,5 @@
 -- The magnitudes of the first i edges stand at the front.
-use Prim.Native.Nat.{◌-◌, ◌≤◌}
+use Prim.Native.Nat.{◌≤◌}
 use Rattle.strip_dilution.specs.Diluted.{dilution}
 use Rattle.strip_dilution.proofs.Drawing.{Drawing}
 use Rattle.strip_dilution.proofs.dilute.draw_magnitudes.Given as goal
