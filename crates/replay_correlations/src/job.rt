@@ -4,8 +4,9 @@ use limits::Caller;
 use plan_layout::Arrangement;
 use refusals::{Refusal, refused};
 use replay_format::{
-    Counted, NUMBERS, Replayed, advance, are_cleared, are_stored, at, begin, edge_lists, fill,
-    finish, length_at, load_doubles, load_edges, load_numbers, number_at, two_lists, word,
+    Counted, NUMBERS, Replayed, advance, answer_word, are_cleared, are_stored, at, begin,
+    edge_lists, fill, finish, length_at, load_doubles, load_edges, load_numbers, number_at,
+    two_lists, word,
 };
 
 // More than a call takes.
@@ -51,13 +52,6 @@ fn manner_of(elementwise: u64) -> Manner {
         return Manner::PerElement;
     }
     Manner::Block
-}
-
-fn room_word(room: Result<usize, Refusal>) -> u64 {
-    match room {
-        Ok(k) => k as u64,
-        Err(refusal) => std::num::wrapping_add_u64(REFUSED, refusal.number() as u64),
-    }
 }
 
 // Fills results and work memory with what they hold before the call, and calls.
@@ -125,7 +119,7 @@ fn room_agrees(
     let n = number_at(list, start);
     let floor = number_at(list, at(start, FLOOR));
     let room = job_checks::room(n, floor, a, b, m, us, vs, Arrangement::KeepAll);
-    room_word(room) == word(list, at(start, ROOM))
+    answer_word(room, REFUSED) == word(list, at(start, ROOM))
 }
 
 // How much is +0.0 after a call in less room: its own room, where the other arrangement's was cleared.

@@ -2,12 +2,12 @@
 // a count, both sums and the estimate; a pattern and its root.
 #![tactic(auto)]
 
-ghost use Rattle.std.specs.Prelude.{◌<◌, ◌≤◌};
+ghost use Rattle.std.specs.Prelude.{◌<◌};
 
 use estimate::Estimate;
 use refusals::Refusal;
+use replay_format::report_records;
 use std::io;
-use std::rt::Files;
 
 // bytes of a record of each list
 const ESTIMATE: usize = 8 * 6;
@@ -66,39 +66,13 @@ fn replay_root(list: &[u8], at: usize) -> bool {
         == word(list, at, 1)
 }
 
-fn replay(size: usize, list: &[u8], at: usize) -> bool {
-    if size == ESTIMATE {
-        return replay_estimate(list, at);
-    }
-    replay_root(list, at)
-}
-
-fn count_same(size: usize, list: &[u8]) -> usize
-    requires { (0 < size) × (size ≤ 48) }
-{
-    let mut count: usize = 0;
-    for at in (0..list.len()).step_by(size) {
-        if replay(size, list, at) {
-            count += 1;
-        }
-    }
-    count
-}
-
-fn report(rt: &(impl Files + Print), size: usize, path: &str, what: &str) -> io::Result<()>
-    requires { (0 < size) × (size ≤ 48) }
-{
-    let mut list = [0u8; 98304];
-    let n = replay_format::read_file(rt, path, &mut list)?;
-    replay_format::print_tally(rt, count_same(size, &list[..n]), n / size, what)
-}
-
 fn main(rt: HostRuntime) -> io::Result<()> {
-    report(
+    report_records(
         &rt,
-        ESTIMATE,
         "estimates.bin",
+        ESTIMATE,
         " estimates agree, refused ones among them\n",
+        replay_estimate,
     )?;
-    report(&rt, ROOT, "roots.bin", " square roots agree\n")
+    report_records(&rt, "roots.bin", ROOT, " square roots agree\n", replay_root)
 }

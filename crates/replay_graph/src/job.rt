@@ -1,9 +1,11 @@
 // One job: its lists are loaded, every graph entry is called, and what they answer and leave is hashed.
+ghost use Rattle.std.specs.Prelude.{◌≤◌};
+
 use graph_edges::Graph;
 use refusals::{Refusal, refused};
 use replay_format::{
-    Counted, OFFSET, Replayed, at, load_doubles, load_numbers, mix, mix_doubles, mix_number,
-    mix_numbers,
+    Counted, OFFSET, Replayed, answer_word, at, load_doubles, load_numbers, mix, mix_doubles,
+    mix_number, mix_numbers,
 };
 
 // A refusal's number, told from a value.
@@ -17,13 +19,6 @@ const FEW: usize = 3;
 
 fn refused_word(refusal: Refusal) -> u64 {
     std::num::wrapping_add_u64(REFUSED, refusal.number() as u64)
-}
-
-fn answer_word(a: Result<usize, Refusal>) -> u64 {
-    match a {
-        Ok(k) => k as u64,
-        Err(refusal) => refused_word(refusal),
-    }
 }
 
 fn reached_word(r: Result<Option<usize>, Refusal>) -> u64 {
@@ -80,27 +75,29 @@ fn count_kept(n: usize, a: &[usize], b: &[usize], m: &[f64]) -> usize {
     kept_count(Graph::new(n, 0, a, b, m, &mut early, &mut late, &mut mag, &mut raw))
 }
 
-fn mix_components(hash: u64, n: usize, a: &[usize], b: &[usize], m: &[f64], lent: usize) -> u64 {
-    let mut out = [BEFORE; 1024];
-    if 1024 < lent {
+// What a call answers and leaves in a list of `lent` numbers, up to N.
+fn mix_list<const N: usize, F: FnOnce(&mut [usize]) -> Result<(), Refusal>>(
+    hash: u64,
+    lent: usize,
+    call: F,
+) -> u64
+    requires { (N ≤ 4096) × F.IsAlwaysCallable call }
+{
+    let mut out = [BEFORE; N];
+    if N < lent {
         return hash;
     }
-    let names = &mut out[..lent];
-    let h = mix_number(hash, refused(graph::components(n, a, b, m, names)));
-    mix_numbers(h, names)
+    let list = &mut out[..lent];
+    let h = mix_number(hash, refused(call(list)));
+    mix_numbers(h, list)
 }
 
-fn mix_forest(hash: u64, n: usize, a: &[usize], b: &[usize], m: &[f64], lent: usize) -> u64 {
-    let mut out = [BEFORE; 4096];
-    if 4096 < lent {
-        return hash;
-    }
-    let bits = &mut out[..lent];
-    let h = mix_number(hash, refused(graph::spanning_forest(n, a, b, m, bits)));
-    mix_numbers(h, bits)
-}
-
-fn mix_graph(hash: u64, n: usize, a: &[usize], b: &[usize], m: &[f64], lent: usize) -> u64 {
+// The same of a call that sets out a graph in four lists.
+fn mix_graph<
+    F: FnOnce(&mut [usize], &mut [usize], &mut [f64], &mut [usize]) -> Result<Graph, Refusal>,
+>(hash: u64, lent: usize, call: F) -> u64
+    requires { F.IsAlwaysCallable call }
+{
     let mut first = [BEFORE; 4098];
     let mut second = [BEFORE; 4098];
     let mut third = [9.0f64; 4098];
@@ -112,32 +109,7 @@ fn mix_graph(hash: u64, n: usize, a: &[usize], b: &[usize], m: &[f64], lent: usi
     let late = &mut second[..lent];
     let mag = &mut third[..lent];
     let raw = &mut fourth[..lent];
-    let h = mix(
-        hash,
-        graph_word(Graph::new(n, 0, a, b, m, early, late, mag, raw)),
-    );
-    mix_numbers(
-        mix_doubles(mix_numbers(mix_numbers(h, early), late), mag),
-        raw,
-    )
-}
-
-fn mix_rotated(hash: u64, n: usize, a: &[usize], b: &[usize], m: &[f64], lent: usize) -> u64 {
-    let mut first = [BEFORE; 4098];
-    let mut second = [BEFORE; 4098];
-    let mut third = [9.0f64; 4098];
-    let mut fourth = [BEFORE; 4098];
-    if 4098 < lent {
-        return hash;
-    }
-    let early = &mut first[..lent];
-    let late = &mut second[..lent];
-    let mag = &mut third[..lent];
-    let raw = &mut fourth[..lent];
-    let h = mix(
-        hash,
-        graph_word(Graph::rotated(n, 0, a, b, m, early, late, mag, raw)),
-    );
+    let h = mix(hash, graph_word(call(early, late, mag, raw)));
     mix_numbers(
         mix_doubles(mix_numbers(mix_numbers(h, early), late), mag),
         raw,
@@ -147,19 +119,27 @@ fn mix_rotated(hash: u64, n: usize, a: &[usize], b: &[usize], m: &[f64], lent: u
 // The original marks no lowest vertex, so the count alone is compared.
 fn components_word(n: usize, a: &[usize], b: &[usize], m: &[f64]) -> u64 {
     let mut marks = [0u64; 16];
-    answer_word(graph::n_components(n, a, b, m, &mut marks))
+    answer_word(graph::n_components(n, a, b, m, &mut marks), REFUSED)
 }
 
 fn hash_of(n: usize, a: &[usize], b: &[usize], m: &[f64], short: bool) -> u64 {
     let bad = graph::window(n, a, b, m, 0).is_err();
     let edges = count_kept(n, a, b, m);
-    let w = mix(OFFSET, answer_word(graph::window(n, a, b, m, 0)));
+    let w = mix(OFFSET, answer_word(graph::window(n, a, b, m, 0), REFUSED));
     let k = mix(w, components_word(n, a, b, m));
-    let f = mix(k, answer_word(graph::cyclomatic(n, a, b, m)));
-    let c = mix_components(f, n, a, b, m, lent(bad, n, short));
-    let t = mix_forest(c, n, a, b, m, lent(bad, edges, short));
-    let g = mix_graph(t, n, a, b, m, spare(bad, edges, short));
-    mix_rotated(g, n, a, b, m, spare(bad, edges, short))
+    let f = mix(k, answer_word(graph::cyclomatic(n, a, b, m), REFUSED));
+    let c = mix_list::<1024, _>(f, lent(bad, n, short), |names| {
+        graph::components(n, a, b, m, names)
+    });
+    let t = mix_list::<4096, _>(c, lent(bad, edges, short), |bits| {
+        graph::spanning_forest(n, a, b, m, bits)
+    });
+    let g = mix_graph(t, spare(bad, edges, short), |early, late, mag, raw| {
+        Graph::new(n, 0, a, b, m, early, late, mag, raw)
+    });
+    mix_graph(g, spare(bad, edges, short), |early, late, mag, raw| {
+        Graph::rotated(n, 0, a, b, m, early, late, mag, raw)
+    })
 }
 
 // Whether the distances of the pairs are the stored ones.

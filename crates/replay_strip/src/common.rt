@@ -47,8 +47,8 @@ pub(crate) fn is_number(a: Result<usize, Refusal>, n: u64) -> bool {
     }
 }
 
-pub(crate) fn is_refused(a: Result<usize, Refusal>, by: Refusal) -> bool {
-    match a {
+pub(crate) fn is_refused<T: Drop>(answer: Result<T, Refusal>, by: Refusal) -> bool {
+    match answer {
         Ok(_) => false,
         Err(refusal) => refusal == by,
     }

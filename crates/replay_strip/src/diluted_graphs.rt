@@ -1,7 +1,7 @@
 // The graph of a diluted strip: the original's kept edges and window, each edge with its place in the strip's edge list. And lists one too short, or exact.
 ghost use Rattle.std.specs.Prelude.{◌≤◌, length};
 
-use crate::common::{GUARD, GUARD_MAGNITUDE, cut, see_edges, wide, word};
+use crate::common::{GUARD, GUARD_MAGNITUDE, cut, is_refused, see_edges, wide, word};
 use crate::dilutions::Dilution;
 use graph_edges::Graph;
 use refusals::Refusal;
@@ -41,13 +41,6 @@ fn is_graph(m: Result<Graph, Refusal>, edges: u64, window: u64) -> bool {
     match m {
         Ok(g) => (wide(g.edges) == edges) & (wide(g.win) == window),
         Err(_) => false,
-    }
-}
-
-fn is_refused(m: Result<Graph, Refusal>, by: Refusal) -> bool {
-    match m {
-        Ok(_) => false,
-        Err(refusal) => refusal == by,
     }
 }
 

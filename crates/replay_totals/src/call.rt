@@ -3,7 +3,7 @@ use entry_correlations::Manner;
 use limits::Caller;
 use plan_layout::Arrangement;
 use refusals::Refusal;
-use replay_format::{are_cleared, are_stored, at, fill, number_at, word};
+use replay_format::{answer_word, are_cleared, are_stored, at, fill, number_at, word};
 
 // Refused for short work memory.
 const SHORT: usize = 13;
@@ -39,13 +39,6 @@ fn manner_of(elementwise: u64) -> Manner {
         return Manner::PerElement;
     }
     Manner::Block
-}
-
-fn answer_word(answer: Result<usize, Refusal>) -> u64 {
-    match answer {
-        Ok(k) => k as u64,
-        Err(refusal) => std::num::wrapping_add_u64(REFUSED, refusal.number() as u64),
-    }
 }
 
 // The number of a stored answer's refusal, 0 where it is a count.
@@ -175,7 +168,7 @@ pub(crate) fn answers(
         second,
         memory,
     );
-    answer_word(answered) == word(list, at(start, ANSWER))
+    answer_word(answered, REFUSED) == word(list, at(start, ANSWER))
 }
 
 // How much of the work memory is +0.0 after a call that keeps every vector.
