@@ -7,8 +7,7 @@ use native.Mathlib.Nat.{mul-le-mul_right}
 use native.Mathlib.Numerals.{add-one}
 use native.Mathlib.Omega.{arith}
 use lib.Dec.{eqb, ltb}
-use lib.ListN.{length, take, drop, get_or, set, length-append, length-drop, length-take, length-map, length-set}
-use lib.Seq.{take-suc}
+use lib.ListN.{length, take, drop, set, length-append, length-drop, length-take, length-map, length-set}
 use borrow.Author.Tests.{ltb-true}
 use Rattle.list_laws.specs.Front.{over}
 use Rattle.list_laws.proofs.Laws.Front.{over-more, over-length}
@@ -17,8 +16,6 @@ use Rattle.strip.specs.Vertices.{vertex}
 use Rattle.strip.specs.Sides.{Sides}
 use Rattle.strip_candidates.specs.Candidates.{candidate_at}
 use Rattle.strip_candidates.specs.declared.Sites.{Sites}
-use Rattle.strip_labels.specs.Labels.{LabelFits}
-use Rattle.strip_labels.specs.declared.Label.{Label}
 use Rattle.strip_pairs.specs.PairSet.{Pair, taken, pair_at, pairs_below, firsts, seconds, label_bytes}
 use Rattle.strip_pairs.specs.PairListing.{shown, Counted, Put, PairRoom, PairsWritten, Ends, PairPlaced}
 use Rattle.std.specs.Prelude.{Option, Some, None}
@@ -109,22 +106,7 @@ pub record Putting (bytes : List ℕ) (at j : ℕ) (labels labels' : List ℕ) :
   pub length-kept : length labels' ≡ length labels
   pub then : (front labels₀ : List ℕ) → at ≡ length front → labels ≡ over front labels₀ → labels' ≡ over (front ++ take j bytes) labels₀
 
-pub put-none : (bytes labels : List ℕ) (at : ℕ) → Putting bytes at 0 labels labels
-put-none bytes labels at = record { length-kept = refl; then = λ front labels₀ e h. rw append-nil h }
-
 module _ (bytes : List ℕ) (at j : ℕ) {labels labels' : List ℕ} (P : Putting bytes at j labels labels') (b : at + j < length labels) where
-  pub put-more : j < length bytes → Putting bytes at (j + 1) labels (set labels' (at + j) (get_or bytes j 0))
-  put-more l =
-      record {
-        length-kept = length-set labels' (at + j) (get_or bytes j 0) ∙ P.length-kept;
-        then = λ front labels₀ e h.
-            let t = length-take j bytes in
-            let more = store (front ++ take j bytes) labels' labels₀ (at + j) (get_or bytes j 0) (P.then front labels₀ e h)
-            (omega (arith, length-append front (take j bytes))) (omega (arith, P.length-kept)) in
-            let s : take (j + 1) bytes ≡ take j bytes ++ (get_or bytes j 0 ∷ []) = rw (add-one, take-suc bytes j 0) in
-            rw (s, ← (append_assoc front (take j bytes) (get_or bytes j 0 ∷ []))) more;
-      }
-
   pub put-end : j ≤ length bytes → Put (take j bytes ++ (0 ∷ [])) at (at + (j + 1)) labels (set labels' (at + j) 0)
   put-end l =
       let t = length-take j bytes in
@@ -196,22 +178,20 @@ module _ (w l : ℕ) where
   )
 
   -- a candidate was counted under its label
-  pub count-ends : (i : ℕ) {at next : Filled} {p : Option Vertices} {name : Label} → Ends (pairs_below w l i) at → Counted p name.len at next
-      → shown p (candidate_at w l i).label ≡ pair_at w l i → take name.len name.bytes ≡ (candidate_at w l i).label → LabelFits name
+  pub count-ends : (i : ℕ) {at next : Filled} {p : Option Vertices} {name : List ℕ} → Ends (pairs_below w l i) at → Counted p (length name) at next
+      → shown p (candidate_at w l i).label ≡ pair_at w l i → name ≡ (candidate_at w l i).label
       → Ends (pairs_below w l (i + 1)) next
-  count-ends i {p = p} {name = name} e c q t f =
+  count-ends i {p = p} e c q t =
       let label = (candidate_at w l i).label in
       let n = counts i in
-      let held = f.held in
-      let h : length label ≡ name.len = sym (ap length t) ∙ length-take name.len name.bytes ∙ omega arith in
-      let b = c.bytes label h in
+      let b = c.bytes label (sym (ap length t)) in
       let bl : length (label_bytes (shown p label)) ≡ length (label_bytes (pair_at w l i)) = rw q in
       let pl : length (shown p label) ≡ length (pair_at w l i) = rw q in
       record { pairs = omega (arith, c.pairs label, e.pairs); bytes = omega (arith, e.bytes) }
 
   -- and placed under it
-  pub shown-at : (i : ℕ) (p : Option Vertices) (name : Label) → shown p (candidate_at w l i).label ≡ pair_at w l i
-      → take name.len name.bytes ≡ (candidate_at w l i).label → shown p (take name.len name.bytes) ≡ pair_at w l i
+  pub shown-at : (i : ℕ) (p : Option Vertices) (name : List ℕ) → shown p (candidate_at w l i).label ≡ pair_at w l i
+      → name ≡ (candidate_at w l i).label → shown p name ≡ pair_at w l i
   shown-at i p name q t = rw t q
 
   grow : (i d : ℕ) → (length (pairs_below w l i) ≤ length (pairs_below w l (i + d))) × (length (label_bytes (pairs_below w l i)) ≤ length (label_bytes (pairs_below w l (i + d))))
@@ -258,8 +238,6 @@ unfolding pairs_below label_bytes
 no_pairs_written w l us vs labels = record { firsts = refl; seconds = refl; bytes = refl }
 
 -- the labels' buffer has room for a label and its zero byte
-pub label-room : (q : Vertices) {us vs labels : List ℕ} (name : Label) (at : Filled) → LabelFits name
-    → PairRoom (shown (Some q) (take name.len name.bytes)) at us vs labels → at.bytes + (name.len + 1) ≤ length labels
-label-room q name at f r =
-    let label = take name.len name.bytes in
-    omega (arith, r.bytes, f.held, ap length (bytes_one label q), length-append label (0 ∷ []), length-take name.len name.bytes)
+pub label-room : (q : Vertices) {us vs labels : List ℕ} (name : List ℕ) (at : Filled)
+    → PairRoom (shown (Some q) name) at us vs labels → at.bytes + (length name + 1) ≤ length labels
+label-room q name at r = omega (arith, r.bytes, ap length (bytes_one name q), length-append name (0 ∷ []))

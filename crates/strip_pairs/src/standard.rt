@@ -4,14 +4,13 @@ ghost use Rattle.list_laws.specs.Front.{over};
 ghost use Rattle.refusals.specs.Answers.{Answered, left};
 ghost use Rattle.strip.specs.Sides.{Sides};
 ghost use Rattle.strip_candidates.specs.Candidates.{candidate_at};
-ghost use Rattle.strip_labels.specs.Labels.{LabelFits};
 ghost use Rattle.strip_pairs.specs.PairSet.{pair_at, pairs_below, pair_set, firsts, seconds, label_bytes, pairs_refusal};
 ghost use Rattle.strip_pairs.specs.PairListing.{shown, Counted, Put, PairRoom, PairsWritten, PairPlaced};
 
 use refusals::Refusal;
 use strip::{Strip, bad_sides};
 use strip_candidates::sites_of;
-use strip_labels::{Label, label_of};
+use strip_labels::label_of;
 
 // The two vertices of a pair.
 #[derive(Clone, Copy)]
@@ -63,34 +62,33 @@ fn count_pairs(w: usize, l: usize) -> Filled
     let mut at = Filled { pairs: 0, bytes: 0 };
     for i in 0..18 {
         let name = label_of(i);
-        let next = counted(at, picked(w, l, i), name.len);
+        let next = counted(at, picked(w, l, i), name.len());
         at = next;
     }
     at
 }
 
 // Writes a label and its zero byte, and answers where they end.
-fn put_label(name: Label, labels: &mut [u8], at: usize) -> usize
-    requires { LabelFits name × (at + (name.len + 1) ≤ length labels.old) }
-    ensures { Put (take name.len name.bytes ++ (0 ∷ [])) at result labels.old labels.new }
+fn put_label(name: &[u8], labels: &mut [u8], at: usize) -> usize
+    requires { at + (length name.now + 1) ≤ length labels.old }
+    ensures { Put (name.now ++ (0 ∷ [])) at result labels.old labels.new }
 {
-    let len = name.len;
-    let bytes = name.bytes;
-    labels[at..at + len].copy_from_slice(&bytes[..len]);
+    let len = name.len();
+    labels[at..at + len].copy_from_slice(name);
     labels[at + len] = 0;
     at + (len + 1)
 }
 
 fn place_pair(
     p: Option<Vertices>,
-    name: Label,
+    name: &[u8],
     at: Filled,
     us: &mut [usize],
     vs: &mut [usize],
     labels: &mut [u8],
 ) -> Filled
-    requires { LabelFits name × PairRoom (shown p (take name.len name.bytes)) at us.old vs.old labels.old }
-    ensures { PairPlaced (shown p (take name.len name.bytes)) at result us.old us.new vs.old vs.new labels.old labels.new }
+    requires { PairRoom (shown p name.now) at us.old vs.old labels.old }
+    ensures { PairPlaced (shown p name.now) at result us.old us.new vs.old vs.new labels.old labels.new }
 {
     let k = at.pairs;
     match p {

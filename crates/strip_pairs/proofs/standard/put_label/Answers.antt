@@ -3,6 +3,7 @@ use mathlib.Core.List.{List, ◌++◌, append_assoc}
 use Prim.Native.Nat.{ℕ, ◌+◌, ◌-◌, ◌≤◌}
 use lib.ListN.{length, take, drop, length-append, length-drop, length-take}
 use borrow.Rule.Slice.PartMut.{put_mid}
+use Rattle.std.proofs.Math.Seq.{take-length}
 use Rattle.strip_pairs.proofs.Pairing.{Putting, put-end}
 use Rattle.strip_pairs.proofs.standard.put_label.Goals as goal
 
@@ -23,7 +24,7 @@ behind bytes labels at j p q =
 pub returns : goal.returns
 returns c =
     let a = c.args in
-    let k : a.at + a.name.len - a.at ≡ a.name.len = omega arith in
-    let held = c.requires.0.held in
-    rw (c.copy_from_slice.ensures.after, k)
-    (put-end _ _ _ (behind a.name.bytes a.labels.now a.at a.name.len (omega arith) (omega arith)) (omega arith) held)
+    let bytes = a.name.now in
+    let k : a.at + length bytes - a.at ≡ length bytes = omega arith in
+    let put = put-end bytes a.at (length bytes) (behind bytes a.labels.now a.at (length bytes) (omega arith) (omega arith)) (omega arith) (omega arith) in
+    rw (c.copy_from_slice.ensures.after, k) (rw (take-length bytes) at put)
