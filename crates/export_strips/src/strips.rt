@@ -7,7 +7,7 @@ ghost use Rattle.strip.specs.Requests.{strip_request};
 ghost use Rattle.strip.specs.Vertices.{sited};
 ghost use Rattle.c_values.specs.Kinds.{strip_numbered};
 
-use c_answers::{tell_number, tell_vertex};
+use c_answers::{tell_found, tell_number};
 use c_values::strip_numbered;
 
 // As `Strip::n`, the number of vertices in `n`; where the call is refused, that keeps what it held.
@@ -46,7 +46,7 @@ pub extern "C" fn copperhook_strip_vid(
 {
     let s = strip_numbered(kind, w, l, periodic);
     let answer = s.vid(x, y);
-    tell_vertex(answer, inside, vertex)
+    tell_found(answer, inside, vertex)
 }
 
 // As `strip_window::window`, in `window`; where the call is refused, that keeps what it held.
