@@ -1,6 +1,6 @@
 -- Both arrangements of a call, with room for both: the same answer, 14 too, and the same bits in every list of results. And the second's room is no larger.
 use Rattle.std.specs.Prelude.{◌≡◌, refl, Bool, true, false, cond, ◌&&◌, ◌||◌, List, ℕ, zero, suc, ◌+◌, ◌*◌, ◌^◌, ◌≤◌, eqb, Float, length}
-use Rattle.std.proofs.Common.{sym, ap, ◌∙◌, mul-le-mul_left, arith}
+use Rattle.std.proofs.Common.{sym, ◌∙◌, mul-le-mul_left, arith}
 use Rattle.std.proofs.Math.Bool.{or-true}
 use Rattle.limits.specs.declared.Caller.{Caller}
 use Rattle.list_laws.specs.Count.{count}

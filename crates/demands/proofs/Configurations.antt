@@ -1,6 +1,6 @@
 -- The jobs of a call for totals, one for each configuration and beta: those of an accepted call are sound.
 use Rattle.std.specs.Prelude.{◌≡◌, refl, Bool, false, List, ℕ, zero, suc, ◌*◌, ◌/◌, ◌%◌, ◌^◌, ◌≤◌, ◌<◌, Float, length}
-use Rattle.std.proofs.Common.{sym, ap, inl, mod-lt, div-lt_iff_lt-mul, arith}
+use Rattle.std.proofs.Common.{sym, inl, mod-lt, div-lt_iff_lt-mul, arith}
 use Rattle.transfer_matrix.specs.Room as Room
 use Rattle.limits.specs.declared.Caller.{Caller}
 use Rattle.list_laws.specs.Search.{some}
@@ -12,7 +12,7 @@ use Rattle.std.specs.declared.result.Result.TheVariants.{Ok}
 use Rattle.refusals.specs.Answers.{Answered}
 use Rattle.refusals.specs.AcceptedTotals.{AcceptedTotals}
 use Rattle.refusals.proofs.Laws.AcceptedTotals.{accepted_enumeration}
-use Rattle.refusals.specs.Edges.{kept, window_from, kept_early, kept_late}
+use Rattle.refusals.specs.Edges.{window_from, kept_early, kept_late}
 use Rattle.refusals.specs.Key.{Key}
 use Rattle.refusals.proofs.Laws.First.{passed-at}
 use Rattle.refusals.specs.Refusal.{refusal, of_enumeration}

@@ -1,7 +1,7 @@
 -- The tester's calls: one that 22 does not refuse answers and leaves what the desk's call on the same lists does, so an accepted one too; the desk's is
 -- never refused by 22; and an accepted one is within the tester's limits.
-use Rattle.std.specs.Prelude.{◌≡◌, refl, Bool, true, List, ◌∷◌, ◌++◌, ℕ, zero, suc, ◌*◌, ◌≤◌, Float, length}
-use Rattle.std.proofs.Common.{sym, ap, ◌∙◌, arith, ltb-false}
+use Rattle.std.specs.Prelude.{◌≡◌, refl, Bool, true, List, ◌∷◌, ◌++◌, ℕ, ◌*◌, ◌≤◌, Float, length}
+use Rattle.std.proofs.Common.{sym, ap, ◌∙◌, ltb-false}
 use Rattle.plan_layout.specs.Arrangements.{arrangement_of}
 use Rattle.plan_layout.specs.declared.Arrangement.{Arrangement}
 use Rattle.limits.specs.declared.Caller.{Caller}

@@ -1,5 +1,5 @@
 -- The rows of a chunk are what `sample`, or its house twin, leaves over that chunk alone; and each chunk's sums keep what 26 asks of them.
-use Rattle.std.specs.Prelude.{◌≡◌, refl, Bool, true, false, not, ◌&&◌, List, ℕ, ◌+◌, ◌-◌, ◌*◌, ◌≤◌, ◌<◌, T, eqb, Float, length, get_or}
+use Rattle.std.specs.Prelude.{◌≡◌, refl, Bool, true, false, ◌&&◌, List, ℕ, ◌+◌, ◌-◌, ◌*◌, ◌≤◌, ◌<◌, T, Float, length}
 use Rattle.std.proofs.Common.{sym, ap, ◌∙◌, subst, one-mul, arith, eq-eqb}
 use Rattle.std.specs.Float.{nan, binary64}
 use Rattle.std.specs.Float.Ieee.{of_bits, of_int, le, fits}
@@ -11,7 +11,6 @@ use Rattle.list_laws.specs.Tabulate.{tabulate}
 use Rattle.list_laws.proofs.Laws.Tabulate.{tabulate-length}
 use Rattle.rounding.specs.Powers.{Ordered}
 use Rattle.rounding.specs.Laws.Sign.{not_minus}
-use Rattle.transfer_matrix.specs.Arithmetic.{sum}
 use Rattle.transfer_matrix.specs.Rounded.{ieee}
 use Rattle.transfer_matrix.specs.Totals.{square, fourth, sampled_count}
 use Rattle.std.specs.declared.result.Result.TheVariants.{Ok}
