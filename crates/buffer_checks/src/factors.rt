@@ -16,12 +16,10 @@ pub fn bad_factors(factors: &[f64], count: usize) -> bool
     if factors.len() != count {
         return true;
     }
-    let mut i = 0usize;
-    while i < factors.len() {
-        if !passes(factors[i]) {
+    for x in factors {
+        if !passes(*x) {
             return true;
         }
-        i += 1;
     }
     false
 }

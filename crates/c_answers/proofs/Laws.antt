@@ -1,3 +1,4 @@
 -- What is proved of the definitions.
 pub mod Numbers
 pub mod Graphs
+pub mod Found

@@ -1,21 +1,18 @@
 -- What a graph is as a number, 0 for accepted, and what it leaves in references that held `old`.
-use Rattle.std.specs.Prelude.{◌≡◌, ℕ}
-use Rattle.graph_edges.specs.declared.Made.{Made}
-use Rattle.graph_edges.specs.declared.Made.TheVariants.{Kept, Refused}
+use Rattle.std.specs.Prelude.{◌≡◌, Result, Ok, Err, ℕ}
+use Rattle.refusals.specs.declared.Refusal.{Refusal}
+use Rattle.refusals.specs.Numbers.{refused}
+use Rattle.graph_edges.specs.declared.Graph.{Graph}
 
-abbrev pub number_of : Made → ℕ
-number_of (Kept g) = 0
-number_of (Refused k) = k
+abbrev pub window_in : Result Graph Refusal → ℕ → ℕ
+window_in (Ok g) old = g.win
+window_in (Err e) old = old
 
-abbrev pub window_in : Made → ℕ → ℕ
-window_in (Kept g) old = g.win
-window_in (Refused k) old = old
+abbrev pub edges_in : Result Graph Refusal → ℕ → ℕ
+edges_in (Ok g) old = g.edges
+edges_in (Err e) old = old
 
-abbrev pub edges_in : Made → ℕ → ℕ
-edges_in (Kept g) old = g.edges
-edges_in (Refused k) old = old
-
-pub record Tells (a : Made) (r window window' edges edges' : ℕ) : Type 0 where
-  pub number : r ≡ number_of a
+pub record Tells (a : Result Graph Refusal) (r window window' edges edges' : ℕ) : Type 0 where
+  pub number : r ≡ refused a
   pub windowed : window' ≡ window_in a window
   pub counted : edges' ≡ edges_in a edges

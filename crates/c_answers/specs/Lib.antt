@@ -1,6 +1,7 @@
 -- Definitions,
 pub mod Numbers
 pub mod Graphs
+pub mod Found
 pub mod Distances
 pub mod Vertices
 pub mod Estimated

@@ -1,24 +1,19 @@
 -- What a vertex's answer is as a number, 0 for accepted, and what it leaves in references that held `old`.
-use Rattle.std.specs.Prelude.{◌≡◌, Bool, true, false, ℕ}
-use Rattle.strip.specs.declared.vertices.Sited.{Sited}
-use Rattle.strip.specs.declared.vertices.Sited.TheVariants.{Vertex, Outside, Refused}
+use Rattle.std.specs.Prelude.{◌≡◌, Option, Some, None, Result, Ok, Err, Bool, true, false, ℕ}
+use Rattle.refusals.specs.declared.Refusal.{Refusal}
+use Rattle.refusals.specs.Numbers.{refused}
 
-abbrev pub number_of : Sited → ℕ
-number_of (Vertex v) = 0
-number_of Outside = 0
-number_of (Refused k) = k
+abbrev pub inside_of : Result (Option ℕ) Refusal → Bool → Bool
+inside_of (Ok (Some v)) old = true
+inside_of (Ok None) old = false
+inside_of (Err e) old = old
 
-abbrev pub inside_of : Sited → Bool → Bool
-inside_of (Vertex v) old = true
-inside_of Outside old = false
-inside_of (Refused k) old = old
+abbrev pub vertex_of : Result (Option ℕ) Refusal → ℕ → ℕ
+vertex_of (Ok (Some v)) old = v
+vertex_of (Ok None) old = old
+vertex_of (Err e) old = old
 
-abbrev pub vertex_of : Sited → ℕ → ℕ
-vertex_of (Vertex v) old = v
-vertex_of Outside old = old
-vertex_of (Refused k) old = old
-
-pub record Tells (a : Sited) (r : ℕ) (inside inside' : Bool) (vertex vertex' : ℕ) : Type 0 where
-  pub number : r ≡ number_of a
+pub record Tells (a : Result (Option ℕ) Refusal) (r : ℕ) (inside inside' : Bool) (vertex vertex' : ℕ) : Type 0 where
+  pub number : r ≡ refused a
   pub within : inside' ≡ inside_of a inside
   pub at : vertex' ≡ vertex_of a vertex

@@ -1,17 +1,17 @@
 // A number through a reference.
 ghost use Rattle.c_answers.specs.Numbers.{Tells};
 
-use refusals::Answer;
+use refusals::Refusal;
 
 // Where the call is refused, `held` keeps what it held.
-pub fn tell_number(answer: Answer, held: &mut usize) -> usize
+pub fn tell_number(answer: Result<usize, Refusal>, held: &mut usize) -> usize
     ensures { Tells answer result held.old held.new }
 {
     match answer {
-        Answer::Number(number) => {
+        Ok(number) => {
             *held = number;
             0
         }
-        Answer::Refused(number) => number,
+        Err(refusal) => refusal.number(),
     }
 }

@@ -2,12 +2,14 @@
 #![tactic(auto)]
 
 ghost use Rattle.std.specs.Prelude.{◌≤◌};
+ghost use Rattle.refusals.specs.Numbers.{refused};
 ghost use Rattle.entry_correlations.specs.Correlations.{Correlated};
 ghost use Rattle.c_pair_records.specs.Columns.{first_ends, second_ends, most_copied};
 ghost use Rattle.c_values.specs.Options.{options_numbered};
 
 use c_pair_records::Ends;
 use c_values::options_numbered;
+use refusals::Refusal;
 
 // The correlations of the pairs whose ends are held.
 pub fn correlations_between(
@@ -21,10 +23,10 @@ pub fn correlations_between(
     options: usize,
     results: &mut [f64],
     work: &mut [f64],
-) -> usize
+) -> Result<(), Refusal>
     requires { e.count ≤ most_copied }
     ensures { Correlated n floor a.now b.now m.now (first_ends e) (second_ends e)
-        factors.now (options_numbered options).manner (options_numbered options).arrangement (options_numbered options).caller result results.old results.new work.old work.new }
+        factors.now (options_numbered options).manner (options_numbered options).arrangement (options_numbered options).caller (refused result) results.old results.new work.old work.new }
 {
     let count = e.count;
     let us = e.us;

@@ -60,10 +60,8 @@ pub fn gather(pairs: &[Pair]) -> Ends
 {
     let n = copied(pairs.len());
     let mut e = empty();
-    let mut i = 0;
-    while i < n {
+    for i in 0..n {
         e = push(e, pairs[i].u, pairs[i].v);
-        i += 1;
     }
     e
 }

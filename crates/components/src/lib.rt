@@ -33,15 +33,11 @@ pub fn name_components(n: usize, early: &[usize], late: &[usize], out: &mut [usi
     let mut parents = [0usize; VERTICES];
     let p = &mut parents[..n];
     start(p);
-    let mut e: usize = 0;
-    while e < early.len() {
+    for e in 0..early.len() {
         union(p, early[e], late[e]);
-        e += 1;
     }
-    let mut v: usize = 0;
-    while v < n {
+    for v in 0..n {
         out[v] = find(p, v);
-        v += 1;
     }
 }
 
@@ -53,10 +49,8 @@ fn join_ends(p: &mut [usize], early: &[usize], late: &[usize]) -> usize
 {
     start(p);
     let mut trees: usize = 0;
-    let mut e: usize = 0;
-    while e < early.len() {
+    for e in 0..early.len() {
         let joins = union_lower(p, early[e], late[e]);
-        e += 1;
         if joins {
             trees += 1;
         }

@@ -15,7 +15,7 @@ fn is_root(p: &[usize], v: usize) -> bool
 fn bit_of(set: bool) -> u64
     ensures { result ≡ cond set 1 0 }
 {
-    if set { 1 } else { 0 }
+    u64::from(set)
 }
 
 // The word of the vertices from `first` on, made from its highest bit down.
@@ -24,9 +24,7 @@ fn word_at(p: &[usize], first: usize) -> u64
     ensures { result ≡ bits (is_root p.now) first 64 }
 {
     let mut word: u64 = 0;
-    let mut b: usize = 64;
-    while b > 0 {
-        b -= 1;
+    for b in (0..64).rev() {
         word = bit_of(is_root(p, first + b)) + 2 * word;
     }
     word
@@ -36,10 +34,8 @@ pub fn mark_roots(p: &[usize]) -> [u64; 16]
     ensures { result ≡ root_marks p.now }
 {
     let mut marks = [0u64; 16];
-    let mut k: usize = 0;
-    while k < 16 {
+    for k in 0..16 {
         marks[k] = word_at(p, 64 * k);
-        k += 1;
     }
     marks
 }

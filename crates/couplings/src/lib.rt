@@ -7,10 +7,12 @@ ghost use Rattle.std.specs.Float.Ieee.{mul};
 ghost use Rattle.limits.specs.Limits.{most_betas, most_edges};
 ghost use Rattle.list_laws.specs.Part.{put};
 ghost use Rattle.list_laws.specs.Tabulate.{tabulate};
+ghost use Rattle.refusals.specs.Numbers.{refused};
 ghost use Rattle.couplings.specs.Couplings.{all_couplings, Coupled};
 
 use graph_build::check_graph;
 use limits::EDGES;
+use refusals::Refusal;
 
 // The couplings of one beta to the results, from `at` on.
 fn couple_at(results: &mut [f64], at: usize, beta: f64, mag: &[f64])
@@ -18,10 +20,8 @@ fn couple_at(results: &mut [f64], at: usize, beta: f64, mag: &[f64])
     ensures { results.new
         ≡ put results.old at (tabulate (λ e. mul binary64 beta (get_or mag.now e nan)) (length mag.now)) }
 {
-    let mut e = 0usize;
-    while e < mag.len() {
-        results[at + e] = beta * mag[e];
-        e += 1;
+    for (e, m) in mag.iter().enumerate() {
+        results[at + e] = beta * *m;
     }
 }
 
@@ -30,14 +30,12 @@ fn couple(results: &mut [f64], betas: &[f64], mag: &[f64])
     requires { (length results.old ≡ length betas.now * length mag.now) × (length results.old ≤ most_betas * most_edges) }
     ensures { results.new ≡ all_couplings betas.now mag.now }
 {
-    let mut b = 0usize;
-    while b < betas.len() {
-        couple_at(results, b * mag.len(), betas[b], mag);
-        b += 1;
+    for (b, beta) in betas.iter().enumerate() {
+        couple_at(results, b * mag.len(), *beta, mag);
     }
 }
 
-// Writes beta times magnitude to `results`, for each beta and kept edge. Returns the refusal's number, 0 for accepted.
+// Writes beta times magnitude to `results`, for each beta and kept edge.
 pub fn couplings(
     n: usize,
     a: &[usize],
@@ -45,25 +43,20 @@ pub fn couplings(
     m: &[f64],
     betas: &[f64],
     results: &mut [f64],
-) -> usize
-    ensures { Coupled n a.now b.now m.now betas.now result
+) -> Result<(), Refusal>
+    ensures { Coupled n a.now b.now m.now betas.now (refused result)
         results.old results.new }
 {
     let mut early = [0usize; EDGES];
     let mut late = [0usize; EDGES];
     let mut mag = [0.0f64; EDGES];
     let none = &a[..0];
-    let graph = check_graph(
+    let edges = check_graph(
         n, a, b, m, none, none, betas, &mut early, &mut late, &mut mag,
-    );
-    let refusal = graph.refusal;
-    if refusal != 0 {
-        return refusal;
-    }
-    let edges = graph.edges;
+    )?;
     if results.len() != betas.len() * edges {
-        return 12;
+        return Err(Refusal::Buffer);
     }
     couple(results, betas, &mag[..edges]);
-    0
+    Ok(())
 }

@@ -3,6 +3,8 @@
 use Rattle.std.specs.Prelude.{◌≡◌, refl, Bool, true, false, cond, List, Float, length}
 use Rattle.std.proofs.Common.{sym, ap, le_trans, lit≤}
 use Rattle.std.proofs.Math.Path.{subst}
+use Rattle.std.specs.declared.result.Result.TheVariants.{Ok, Err}
+use Rattle.std.specs.declared.option.Option.TheVariants.{Some, None}
 use Prim.Native.Nat.{ℕ, zero, suc, ◌-◌, ◌^◌, ◌≤◌, ◌<◌, max}
 use native.Mathlib.Omega.{arith}
 use Rattle.std.proofs.Math.Dec.{T}
@@ -24,9 +26,7 @@ use Rattle.accuracy.proofs.Close.{Close}
 use Rattle.accuracy.specs.Stated.{within_powers, roundings_of, error_bound}
 use Rattle.accuracy.proofs.Laws.Bound.{correlation-close, bounded, roundings-few}
 use Rattle.refusals.specs.Refusal.{refusal}
-use Rattle.error_bound.specs.Bound.{most_near, most_bits, near_one, bound_of, of_error_bound, error_bound_request, factor_count, error_bound_of}
-use Rattle.error_bound.specs.declared.answer.ErrorBound.{ErrorBound}
-use Rattle.error_bound.specs.declared.answer.ErrorBound.TheVariants.{Within, Unknown, Refused}
+use Rattle.error_bound.specs.Bound.{ErrorBound, most_near, most_bits, near_one, bound_of, of_error_bound, error_bound_request, factor_count, error_bound_of}
 use Rattle.error_bound.proofs.Laws.Margin.{bits_deep}
 use Rattle.error_bound.proofs.Laws.Near.{near-four, near-most, near_any}
 use Rattle.demands.proofs.Laws.Lists.{all_made}
@@ -40,20 +40,20 @@ pub record Accurate (J : Job Float) (us vs : List ℕ) (bound : Float) : Type 0 
 -- ---- what an answered bound says of the call
 
 abbrev held_bound : ErrorBound → Float
-held_bound (Within x) = x
-held_bound Unknown = nan
-held_bound (Refused k) = nan
+held_bound (Ok (Some x)) = x
+held_bound (Ok None) = nan
+held_bound (Err k) = nan
 
 abbrev is_within : ErrorBound → ℕ
-is_within (Within x) = 1
-is_within Unknown = 0
-is_within (Refused k) = 0
+is_within (Ok (Some x)) = 1
+is_within (Ok None) = 0
+is_within (Err k) = 0
 
-known : (k n w near : ℕ) (factors : List Float) (x : Float) → bound_of k n w near factors ≡ Within x
+known : (k n w near : ℕ) (factors : List Float) (x : Float) → bound_of k n w near factors ≡ Ok (Some x)
     → (near_one (most_bits w near) factors ≡ true) × (x ≡ error_bound n w near)
 known zero n w near factors x e = go (near_one (most_bits w near) factors) e
   where
-    go : (b : Bool) → cond b (Within (error_bound n w near)) Unknown ≡ Within x → (b ≡ true) × (x ≡ error_bound n w near)
+    go : (b : Bool) → ◌≡◌ {A = ErrorBound} (cond b (Ok (Some (error_bound n w near))) (Ok None)) (Ok (Some x)) → (b ≡ true) × (x ≡ error_bound n w near)
     go true e = (refl, sym (ap held_bound e))
     go false e = let apart = ap is_within e in absurd (omega arith)
 known (suc k) n w near factors x e = let apart = ap is_within e in absurd (omega arith)
@@ -63,7 +63,7 @@ abbrev pub near_of : (n floor : ℕ) → (a b : List ℕ) → List Float → ℕ
 near_of n floor a b m = most_near n (window_from floor a b m) (numbered (kept_early a b m) (kept_late a b m))
 
 -- the factors are near one, and the bound is the definition's
-pub bound_known : (n floor : ℕ) (a b : List ℕ) (m betas factors : List Float) (signed : Bool) (x : Float) → error_bound_of n floor a b m betas factors signed ≡ Within x
+pub bound_known : (n floor : ℕ) (a b : List ℕ) (m betas factors : List Float) (signed : Bool) (x : Float) → error_bound_of n floor a b m betas factors signed ≡ Ok (Some x)
     → (near_one (most_bits (window_from floor a b m) (near_of n floor a b m)) factors ≡ true) × (x ≡ error_bound n (window_from floor a b m) (near_of n floor a b m))
 bound_known n floor a b m betas factors signed x e =
     known (refusal of_error_bound (error_bound_request n floor a b m betas factors (factor_count signed (length betas) (length (kept a b m))))) n (window_from floor a b m)

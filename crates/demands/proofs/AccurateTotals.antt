@@ -1,6 +1,8 @@
 -- How far the totals of an accepted call are from those of the textbook's correlations, where `totals_error_bound` answers a bound for the same graph,
 -- floor, betas and factors.
 use Rattle.std.specs.Prelude.{◌≡◌, Bool, List, ℕ, ◌+◌, ◌*◌, ◌^◌, ◌≤◌, ◌<◌, T, Float, length, get_or}
+use Rattle.std.specs.declared.result.Result.TheVariants.{Ok}
+use Rattle.std.specs.declared.option.Option.TheVariants.{Some}
 use Rattle.std.proofs.Math.Bool.{true}
 use Rattle.std.proofs.Common.{arith}
 use Rattle.std.specs.Float.{nan}
@@ -34,7 +36,6 @@ use Rattle.estimate.specs.Estimates.{number, mean_of}
 use Rattle.entry_correlations.specs.Correlations.{manner_of}
 use Rattle.entry_correlations.specs.declared.Manner.{Manner}
 use Rattle.error_bound.specs.Bound.{most_bits, error_bound_of}
-use Rattle.error_bound.specs.declared.answer.ErrorBound.TheVariants.{Within}
 use Rattle.error_bound.proofs.Laws.Margin.{bits-few, near-one-all}
 use Rattle.demands.proofs.Laws.Given.{lent-inside}
 use Rattle.demands.proofs.OneJob.{Z-positive}
@@ -52,7 +53,7 @@ abbrev pub roundings : (n floor : ℕ) → (a b : List ℕ) → List Float → �
 roundings n floor a b m = roundings_of n (window_from floor a b m) (near_of n floor a b m)
 
 module _ (n floor : ℕ) (a b : List ℕ) (m : List Float) (us vs : List ℕ) (betas factors : List Float) (manner : Manner) (misfit : Bool) (work : ℕ)
-    {A : Room.Arrangement} (ok : AcceptedTotals A n floor a b m us vs betas factors misfit work) (bound : Float) (answered : error_bound_of n floor a b m betas factors true ≡ Within bound) where
+    {A : Room.Arrangement} (ok : AcceptedTotals A n floor a b m us vs betas factors misfit work) (bound : Float) (answered : error_bound_of n floor a b m betas factors true ≡ Ok (Some bound)) where
   abbrev edges : ℕ
   edges = length (early a b m)
 

@@ -1,14 +1,16 @@
 -- Both arrangements of a call, with room for both: the same answer, 14 too, and the same bits in every list of results. And the second's room is no larger.
 use Rattle.std.specs.Prelude.{◌≡◌, refl, Bool, true, false, cond, ◌&&◌, ◌||◌, List, ℕ, zero, suc, ◌+◌, ◌*◌, ◌^◌, ◌≤◌, eqb, Float, length}
-use Rattle.std.proofs.Common.{sym, ap, ◌∙◌, mul-le-mul_left, arith}
+use Rattle.std.proofs.Common.{sym, ◌∙◌, mul-le-mul_left, arith}
 use Rattle.std.proofs.Math.Bool.{or-true}
 use Rattle.limits.specs.declared.Caller.{Caller}
 use Rattle.list_laws.specs.Count.{count}
 use Rattle.list_laws.specs.Search.{some}
 use Rattle.transfer_matrix.specs.Room.{keep_all, less_room, later, waits, is_propagated, keeps_backward, room}
-use Rattle.refusals.specs.Answers.{answered}
-use Rattle.refusals.specs.declared.Answer.{Answer}
-use Rattle.refusals.specs.declared.Answer.TheVariants.{Refused}
+use Rattle.std.specs.declared.result.Result.{Result}
+use Rattle.refusals.specs.declared.Refusal.{Refusal}
+use Rattle.std.specs.declared.result.Result.TheVariants.{Err}
+use Rattle.refusals.specs.declared.Refusal.TheVariants.{WorkMemory}
+use Rattle.refusals.proofs.Laws.Answers.{answered-only}
 use Rattle.refusals.specs.Refusal.{of_correlations, of_enumeration, of_sampling, housed, sourced}
 use Rattle.refusals.specs.Request.{Request, Source, correlation_request, enumeration_request, sampling_request, most_counted, most_stored}
 use Rattle.refusals.specs.Request.{house_enumeration_request, house_sampling_request}
@@ -82,20 +84,20 @@ module _ (source : Source) (n floor : ℕ) (a b : List ℕ) (m : List Float) (us
 
 -- ---- totals, by the refusals of two calls that are given the same but for the arrangement
 
-module _ {k j count : ℕ} {squared fourthed : List Float} {end end' : ℕ} {r s : Answer} {squares squares' squares'' fourths fourths' fourths'' work work' work'' : List Float} where
+module _ {k j count : ℕ} {squared fourthed : List Float} {end end' : ℕ} {r s : Result ℕ Refusal} {squares squares' squares'' fourths fourths' fourths'' work work' work'' : List Float} where
   same_totals : ((k ≡ 13 → ⊥) → (j ≡ 13 → ⊥) → k ≡ j) → Totalled k count squared fourthed end r squares squares' fourths fourths' work work'
-      → (r ≡ Refused 13 → ⊥) → Totalled j count squared fourthed end' s squares squares'' fourths fourths'' work work'' → (s ≡ Refused 13 → ⊥)
+      → (r ≡ Err WorkMemory → ⊥) → Totalled j count squared fourthed end' s squares squares'' fourths fourths'' work work'' → (s ≡ Err WorkMemory → ⊥)
       → (r ≡ s) × (squares' ≡ squares'') × (fourths' ≡ fourths'')
   same_totals alike t h d i =
-      let e : k ≡ j = alike (λ p. h (t.answer ∙ ap (λ (x : ℕ). answered x count) p)) (λ p. i (d.answer ∙ ap (λ (x : ℕ). answered x count) p)) in
-      (t.answer ∙ rw e (sym d.answer), t.squares_are ∙ rw e (sym d.squares_are), t.fourths_are ∙ rw e (sym d.fourths_are))
+      let e : k ≡ j = alike (λ p. h (answered-only k count r (Err WorkMemory) t.answer (sym p, tt))) (λ p. i (answered-only j count s (Err WorkMemory) d.answer (sym p, tt))) in
+      (answered-only k count r s t.answer (rw e d.answer), t.squares_are ∙ rw e (sym d.squares_are), t.fourths_are ∙ rw e (sym d.fourths_are))
 
-module _ {k j count : ℕ} {correlations : List Float} {end end' : ℕ} {r s : Answer} {stored stored' stored'' work work' work'' : List Float} where
-  same-stored : ((k ≡ 13 → ⊥) → (j ≡ 13 → ⊥) → k ≡ j) → Stored k count correlations end r stored stored' work work' → (r ≡ Refused 13 → ⊥)
-      → Stored j count correlations end' s stored stored'' work work'' → (s ≡ Refused 13 → ⊥) → (r ≡ s) × (stored' ≡ stored'')
+module _ {k j count : ℕ} {correlations : List Float} {end end' : ℕ} {r s : Result ℕ Refusal} {stored stored' stored'' work work' work'' : List Float} where
+  same-stored : ((k ≡ 13 → ⊥) → (j ≡ 13 → ⊥) → k ≡ j) → Stored k count correlations end r stored stored' work work' → (r ≡ Err WorkMemory → ⊥)
+      → Stored j count correlations end' s stored stored'' work work'' → (s ≡ Err WorkMemory → ⊥) → (r ≡ s) × (stored' ≡ stored'')
   same-stored alike t h d i =
-      let e : k ≡ j = alike (λ p. h (t.answer ∙ ap (λ (x : ℕ). answered x count) p)) (λ p. i (d.answer ∙ ap (λ (x : ℕ). answered x count) p)) in
-      (t.answer ∙ rw e (sym d.answer), t.stored_are ∙ rw e (sym d.stored_are))
+      let e : k ≡ j = alike (λ p. h (answered-only k count r (Err WorkMemory) t.answer (sym p, tt))) (λ p. i (answered-only j count s (Err WorkMemory) d.answer (sym p, tt))) in
+      (answered-only k count r s t.answer (rw e d.answer), t.stored_are ∙ rw e (sym d.stored_are))
 
 module _ (n floor : ℕ) (a b : List ℕ) (m : List Float) (us vs : List ℕ) (betas factors : List Float) (manner : Manner) (one other : Arrangement) (caller : Caller) where
   abbrev given : Given
@@ -109,9 +111,9 @@ module _ (n floor : ℕ) (a b : List ℕ) (m : List Float) (us vs : List ℕ) (b
         enumeration_request caller keep_all n floor a b m us vs betas factors (free a b m) most_counted
         (misfits (length betas * length us) (length squares) (length fourths)) (length work) (unsound_all given)
 
-    pub totals_alike : {r s : Answer} {squares' squares'' fourths' fourths'' work' work'' : List Float}
-        → Enumerated n floor a b m us vs betas factors manner one caller r squares squares' fourths fourths' work work' → (r ≡ Refused 13 → ⊥)
-        → Enumerated n floor a b m us vs betas factors manner other caller s squares squares'' fourths fourths'' work work'' → (s ≡ Refused 13 → ⊥)
+    pub totals_alike : {r s : Result ℕ Refusal} {squares' squares'' fourths' fourths'' work' work'' : List Float}
+        → Enumerated n floor a b m us vs betas factors manner one caller r squares squares' fourths fourths' work work' → (r ≡ Err WorkMemory → ⊥)
+        → Enumerated n floor a b m us vs betas factors manner other caller s squares squares'' fourths fourths'' work work'' → (s ≡ Err WorkMemory → ⊥)
         → (r ≡ s) × (squares' ≡ squares'') × (fourths' ≡ fourths'')
     totals_alike t h d i = same_totals (arrangements_alike of_enumeration (arrangement_of one) (arrangement_of other) counting) t.call h d.call i
 
@@ -123,9 +125,9 @@ module _ (n floor : ℕ) (a b : List ℕ) (m : List Float) (us vs : List ℕ) (b
         enumeration_request caller keep_all n floor a b m us vs betas factors (free a b m) most_stored (misfit_stored given (length stored)) (length work)
         (unsound_all given)
 
-    pub stored_alike : {r s : Answer} {stored' stored'' work' work'' : List Float}
-        → EnumeratedEach n floor a b m us vs betas factors manner one caller r stored stored' work work' → (r ≡ Refused 13 → ⊥)
-        → EnumeratedEach n floor a b m us vs betas factors manner other caller s stored stored'' work work'' → (s ≡ Refused 13 → ⊥)
+    pub stored_alike : {r s : Result ℕ Refusal} {stored' stored'' work' work'' : List Float}
+        → EnumeratedEach n floor a b m us vs betas factors manner one caller r stored stored' work work' → (r ≡ Err WorkMemory → ⊥)
+        → EnumeratedEach n floor a b m us vs betas factors manner other caller s stored stored'' work work'' → (s ≡ Err WorkMemory → ⊥)
         → (r ≡ s) × (stored' ≡ stored'')
     stored_alike t h d i = same-stored (arrangements_alike of_enumeration (arrangement_of one) (arrangement_of other) storing) t.call h d.call i
 
@@ -137,9 +139,9 @@ module _ (n floor : ℕ) (a b : List ℕ) (m : List Float) (us vs : List ℕ) (b
         sampling_request caller keep_all n floor a b m us vs betas factors (free a b m) from to samples
         (misfits (length betas * length us) (length squares) (length fourths)) (length work) (unsound_drawn given seed from to samples)
 
-    pub samples_alike : {r s : Answer} {squares' squares'' fourths' fourths'' work' work'' : List Float}
-        → Sampled n floor a b m us vs betas factors manner one caller seed from to samples r squares squares' fourths fourths' work work' → (r ≡ Refused 13 → ⊥)
-        → Sampled n floor a b m us vs betas factors manner other caller seed from to samples s squares squares'' fourths fourths'' work work'' → (s ≡ Refused 13 → ⊥)
+    pub samples_alike : {r s : Result ℕ Refusal} {squares' squares'' fourths' fourths'' work' work'' : List Float}
+        → Sampled n floor a b m us vs betas factors manner one caller seed from to samples r squares squares' fourths fourths' work work' → (r ≡ Err WorkMemory → ⊥)
+        → Sampled n floor a b m us vs betas factors manner other caller seed from to samples s squares squares'' fourths fourths'' work work'' → (s ≡ Err WorkMemory → ⊥)
         → (r ≡ s) × (squares' ≡ squares'') × (fourths' ≡ fourths'')
     samples_alike t h d i = same_totals (arrangements_alike of_sampling (arrangement_of one) (arrangement_of other) drawing) t.call h d.call i
 
@@ -155,9 +157,9 @@ module _ (n floor : ℕ) (a b : List ℕ) (m : List Float) (us vs : List ℕ) (b
   -- ---- `house_exhaustive`
 
   module _ (squares fourths work : List Float) where
-    pub house_totals_alike : {r s : Answer} {squares' squares'' fourths' fourths'' work' work'' : List Float}
-        → HouseEnumerated n floor a b m us vs betas manner one caller r squares squares' fourths fourths' work work' → (r ≡ Refused 13 → ⊥)
-        → HouseEnumerated n floor a b m us vs betas manner other caller s squares squares'' fourths fourths'' work work'' → (s ≡ Refused 13 → ⊥)
+    pub house_totals_alike : {r s : Result ℕ Refusal} {squares' squares'' fourths' fourths'' work' work'' : List Float}
+        → HouseEnumerated n floor a b m us vs betas manner one caller r squares squares' fourths fourths' work work' → (r ≡ Err WorkMemory → ⊥)
+        → HouseEnumerated n floor a b m us vs betas manner other caller s squares squares'' fourths fourths'' work work'' → (s ≡ Err WorkMemory → ⊥)
         → (r ≡ s) × (squares' ≡ squares'') × (fourths' ≡ fourths'')
     house_totals_alike t h d i =
         same_totals
@@ -168,9 +170,9 @@ module _ (n floor : ℕ) (a b : List ℕ) (m : List Float) (us vs : List ℕ) (b
   -- ---- `house_exhaustive_c`
 
   module _ (stored work : List Float) where
-    pub house_stored_alike : {r s : Answer} {stored' stored'' work' work'' : List Float}
-        → HouseEnumeratedEach n floor a b m us vs betas manner one caller r stored stored' work work' → (r ≡ Refused 13 → ⊥)
-        → HouseEnumeratedEach n floor a b m us vs betas manner other caller s stored stored'' work work'' → (s ≡ Refused 13 → ⊥)
+    pub house_stored_alike : {r s : Result ℕ Refusal} {stored' stored'' work' work'' : List Float}
+        → HouseEnumeratedEach n floor a b m us vs betas manner one caller r stored stored' work work' → (r ≡ Err WorkMemory → ⊥)
+        → HouseEnumeratedEach n floor a b m us vs betas manner other caller s stored stored'' work work'' → (s ≡ Err WorkMemory → ⊥)
         → (r ≡ s) × (stored' ≡ stored'')
     house_stored_alike t h d i =
         same-stored
@@ -186,9 +188,9 @@ module _ (n floor : ℕ) (a b : List ℕ) (m : List Float) (us vs : List ℕ) (b
         house_sampling_request caller keep_all n floor a b m us vs betas (free a b m) from to samples
         (misfits (length betas * length us) (length squares) (length fourths)) (length work) (unsound_drawn house_one seed from to samples)
 
-    pub house_samples_alike : {r s : Answer} {squares' squares'' fourths' fourths'' work' work'' : List Float}
-        → HouseSampled n floor a b m us vs betas manner one caller seed from to samples r squares squares' fourths fourths' work work' → (r ≡ Refused 13 → ⊥)
-        → HouseSampled n floor a b m us vs betas manner other caller seed from to samples s squares squares'' fourths fourths'' work work'' → (s ≡ Refused 13 → ⊥)
+    pub house_samples_alike : {r s : Result ℕ Refusal} {squares' squares'' fourths' fourths'' work' work'' : List Float}
+        → HouseSampled n floor a b m us vs betas manner one caller seed from to samples r squares squares' fourths fourths' work work' → (r ≡ Err WorkMemory → ⊥)
+        → HouseSampled n floor a b m us vs betas manner other caller seed from to samples s squares squares'' fourths fourths'' work work'' → (s ≡ Err WorkMemory → ⊥)
         → (r ≡ s) × (squares' ≡ squares'') × (fourths' ≡ fourths'')
     house_samples_alike t h d i =
         same_totals (arrangements_alike (housed of_sampling) (arrangement_of one) (arrangement_of other) house_drawing) t.call h d.call i

@@ -4,7 +4,7 @@ use Rattle.std.proofs.Common.{mul-le-mul_right, arith}
 use Rattle.plan_layout.specs.declared.Arrangement.{Arrangement}
 use Rattle.limits.specs.declared.Caller.{Caller}
 use Rattle.transfer_matrix.specs.Job.{Job}
-use Rattle.refusals.specs.declared.Answer.TheVariants.{Number}
+use Rattle.std.specs.declared.result.Result.TheVariants.{Ok}
 use Rattle.entry_correlations.specs.Correlations.{job_given, Correlated}
 use Rattle.entry_correlations.specs.declared.Manner.{Manner}
 use Rattle.totals_call.specs.Given.{Given}
@@ -39,7 +39,7 @@ pub record ExhaustiveCall : Type 0 where
   pub work : List Float
   pub work' : List Float
   pub call : Enumerated given.n given.floor given.a given.b given.m given.us given.vs given.betas given.factors given.manner
-      given.arrangement given.caller (Number count) squares squares' fourths fourths' work work'
+      given.arrangement given.caller (Ok count) squares squares' fourths fourths' work work'
 
 pub record StoringCall : Type 0 where
   pub given : Given
@@ -49,7 +49,7 @@ pub record StoringCall : Type 0 where
   pub work : List Float
   pub work' : List Float
   pub call : EnumeratedEach given.n given.floor given.a given.b given.m given.us given.vs given.betas given.factors given.manner
-      given.arrangement given.caller (Number count) stored stored' work work'
+      given.arrangement given.caller (Ok count) stored stored' work work'
 
 pub record SampleCall : Type 0 where
   pub given : Given
@@ -65,7 +65,7 @@ pub record SampleCall : Type 0 where
   pub work : List Float
   pub work' : List Float
   pub call : Sampled given.n given.floor given.a given.b given.m given.us given.vs given.betas given.factors given.manner
-      given.arrangement given.caller seed from to samples (Number count) squares squares' fourths fourths' work work'
+      given.arrangement given.caller seed from to samples (Ok count) squares squares' fourths fourths' work work'
 
 -- The job of a call of `correlations`; and of a call for totals: of a configuration and beta, and of a sample and beta.
 abbrev pub job_of : CorrelationsCall → Job Float

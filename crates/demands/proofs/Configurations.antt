@@ -1,6 +1,6 @@
 -- The jobs of a call for totals, one for each configuration and beta: those of an accepted call are sound.
 use Rattle.std.specs.Prelude.{◌≡◌, refl, Bool, false, List, ℕ, zero, suc, ◌*◌, ◌/◌, ◌%◌, ◌^◌, ◌≤◌, ◌<◌, Float, length}
-use Rattle.std.proofs.Common.{ap, inl, mod-lt, div-lt_iff_lt-mul, arith}
+use Rattle.std.proofs.Common.{sym, inl, mod-lt, div-lt_iff_lt-mul, arith}
 use Rattle.transfer_matrix.specs.Room as Room
 use Rattle.limits.specs.declared.Caller.{Caller}
 use Rattle.list_laws.specs.Search.{some}
@@ -8,12 +8,11 @@ use Rattle.list_laws.proofs.Laws.Search.{none-at}
 use Rattle.forest.specs.FreeEdges.{free_count, bit_of}
 use Rattle.transfer_matrix.specs.Configuration.{enumerated_minus}
 use Rattle.transfer_matrix.specs.Job.{Job}
-use Rattle.refusals.specs.Answers.{answered}
-use Rattle.refusals.specs.declared.Answer.{Answer}
-use Rattle.refusals.specs.declared.Answer.TheVariants.{Number, Refused}
+use Rattle.std.specs.declared.result.Result.TheVariants.{Ok}
+use Rattle.refusals.specs.Answers.{Answered}
 use Rattle.refusals.specs.AcceptedTotals.{AcceptedTotals}
 use Rattle.refusals.proofs.Laws.AcceptedTotals.{accepted_enumeration}
-use Rattle.refusals.specs.Edges.{kept, window_from, kept_early, kept_late}
+use Rattle.refusals.specs.Edges.{window_from, kept_early, kept_late}
 use Rattle.refusals.specs.Key.{Key}
 use Rattle.refusals.proofs.Laws.First.{passed-at}
 use Rattle.refusals.specs.Refusal.{refusal, of_enumeration}
@@ -25,19 +24,9 @@ use Rattle.totals_call.specs.Jobs.{job_signed, job_enumerated, job_sampled, unso
 use Rattle.demands.proofs.Laws.Given.{checked-signed}
 use Rattle.demands.specs.OneJob.{Sound}
 
--- 1 for a refusal, else 0; and the number that an answer holds
-abbrev refusals : Answer → ℕ
-refusals (Number j) = 0
-refusals (Refused j) = 1
-
-abbrev held : Answer → ℕ
-held (Number j) = j
-held (Refused j) = j
-
 -- a number is the answer of an accepted call
-pub accepted-number : (k x c : ℕ) → Number c ≡ answered k x → (k ≡ 0) × (c ≡ x)
-accepted-number zero x c e = (refl, ap held e)
-accepted-number (suc k) x c e = let apart = ap refusals e in absurd (omega arith)
+pub accepted-number : (k x c : ℕ) → Answered k x (Ok c) → (k ≡ 0) × (c ≡ x)
+accepted-number k x c e = (sym e.0, e.1)
 
 -- the number of a total is a beta's and a pair's
 module _ (betas np k : ℕ) (l : k < betas * np) where

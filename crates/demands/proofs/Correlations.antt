@@ -1,5 +1,7 @@
 -- What the demands say of an accepted call of `correlations`, of the stored results and with no tolerance.
 use Rattle.std.specs.Prelude.{◌≡◌, refl, false, List, [], ℕ, ◌<◌, T, Float, length, get_or}
+use Rattle.std.specs.declared.result.Result.TheVariants.{Ok}
+use Rattle.std.specs.declared.option.Option.TheVariants.{Some}
 use Rattle.std.proofs.Common.{sym, ◌∙◌, inl, arith}
 use Rattle.std.specs.Float.{nan}
 use Rattle.std.specs.Float.Ieee.Positive.{positive}
@@ -25,7 +27,6 @@ use Rattle.pair_correlations.specs.Sound.{unsound}
 use Rattle.entry_correlations.specs.Correlations.{manner_of, job_given, Correlated}
 use Rattle.entry_correlations.specs.declared.Manner.{Manner}
 use Rattle.error_bound.specs.Bound.{most_bits, error_bound_of}
-use Rattle.error_bound.specs.declared.answer.ErrorBound.TheVariants.{Within}
 use Rattle.error_bound.proofs.Laws.Margin.{bits-few, near-one-all}
 use Rattle.demands.proofs.Laws.Lists.{settled_at}
 use Rattle.demands.proofs.Laws.Given.{checked-given}
@@ -83,7 +84,7 @@ module _ {n floor : ℕ} {a b : List ℕ} {m : List Float} {us vs : List ℕ} {f
   result-mirrored = mirrored result-sound
 
   -- Accurate: where `error_bound` answers a bound for the same graph, floor and factors, each stored result is within it of the textbook ratio.
-  pub result-accurate : (bound : Float) → error_bound_of n floor a b m [] factors false ≡ Within bound → (i : ℕ) → i < length us
+  pub result-accurate : (bound : Float) → error_bound_of n floor a b m [] factors false ≡ Ok (Some bound) → (i : ℕ) → i < length us
       → Apart (value (get_or results' i nan)) (textbook rational (at_values job) (get_or us i 0) (get_or vs i 0)) (value bound)
   result-accurate bound answer i l =
       let f = facts.lists in

@@ -1,5 +1,7 @@
 -- What the demands say of an accepted call of `exhaustive`, of the stored totals and with no tolerance.
 use Rattle.std.specs.Prelude.{◌≡◌, Bool, true, List, ℕ, ◌+◌, ◌*◌, ◌/◌, ◌%◌, ◌^◌, ◌≤◌, ◌<◌, Float, get_or}
+use Rattle.std.specs.declared.result.Result.TheVariants.{Ok}
+use Rattle.std.specs.declared.option.Option.TheVariants.{Some}
 use Rattle.std.proofs.Common.{sym, ◌∙◌, arith, pow_pos, pow_mono}
 use Rattle.std.specs.Float.{nan, binary64}
 use Rattle.std.proofs.Math.ListN.{length}
@@ -25,7 +27,6 @@ use Rattle.transfer_matrix.specs.Configuration.{enumerated_minus}
 use Rattle.transfer_matrix.specs.Job.{Job}
 use Rattle.transfer_matrix.specs.Rounded.{ieee}
 use Rattle.transfer_matrix.specs.Totals.{square, fourth, chunk_size, chunk_count, enumerated, enumerated_count}
-use Rattle.refusals.specs.declared.Answer.TheVariants.{Number}
 use Rattle.refusals.specs.AcceptedTotals.{AcceptedTotals, misfits}
 use Rattle.refusals.specs.Request.{most_counted}
 use Rattle.refusals.specs.Accepted.{Rising}
@@ -36,7 +37,6 @@ use Rattle.totals_configuration.specs.Powers.{correlation_at}
 use Rattle.entry_correlations.specs.declared.Manner.{Manner}
 use Rattle.totals_call.specs.Calls.{Enumerated, refused_enumeration}
 use Rattle.error_bound.specs.Bound.{error_bound_of}
-use Rattle.error_bound.specs.declared.answer.ErrorBound.TheVariants.{Within}
 use Rattle.demands.proofs.Laws.Lists.{settled_at, settled-length}
 use Rattle.demands.proofs.Configurations as C
 use Rattle.demands.proofs.Configurations.{accepted-number, pair_inside, beta-inside, enumeration_facts, few-free, configuration-sound}
@@ -49,7 +49,7 @@ use Rattle.demands.specs.Mirror.{Mirrored}
 
 module _ {n floor : ℕ} {a b : List ℕ} {m : List Float} {us vs : List ℕ} {betas factors : List Float} {manner : Manner} {arrangement : Arrangement} {caller : Caller}
     {squares squares' fourths fourths' work work' : List Float} {count : ℕ}
-    (call : Enumerated n floor a b m us vs betas factors manner arrangement caller (Number count) squares squares' fourths fourths' work work') where
+    (call : Enumerated n floor a b m us vs betas factors manner arrangement caller (Ok count) squares squares' fourths fourths' work work') where
   abbrev free : ℕ
   free = C.free a b m
 
@@ -120,7 +120,7 @@ module _ {n floor : ℕ} {a b : List ℕ} {m : List Float} {us vs : List ℕ} {b
   }
 
   pub enumeration_complete : (k : ℕ) → k < length betas * length us
-      → complete_of count (get_or squares' k nan) (get_or fourths' k nan) ≡ Complete (mean_spread_of (number count) (get_or squares' k nan) (get_or fourths' k nan))
+      → complete_of count (get_or squares' k nan) (get_or fourths' k nan) ≡ Ok (Complete (mean_spread_of (number count) (get_or squares' k nan) (get_or fourths' k nan)))
   enumeration_complete k l = ordered_complete enumeration_power (totals-ordered k l)
 
   pub enumeration_columns : let size = length betas * length us in Columns.refusal_of count squares' fourths' size size size ≡ 0
@@ -141,7 +141,7 @@ module _ {n floor : ℕ} {a b : List ℕ} {m : List Float} {us vs : List ℕ} {b
   enumeration_mirrored x beta h l = mirrored (enumeration_sound x beta h l)
 
   -- Accurate: where `totals_error_bound` answers a bound for the same graph, floor, betas and factors,
-  module _ (bound : Float) (answered : error_bound_of n floor a b m betas factors true ≡ Within bound) where
+  module _ (bound : Float) (answered : error_bound_of n floor a b m betas factors true ≡ Ok (Some bound)) where
     -- each correlation summed is within it of the textbook ratio,
     pub enumeration_accurate : (x beta : ℕ) → x < 2 ^ free → beta < length betas → Accurate (configuration x beta) us vs bound
     enumeration_accurate x beta h l =

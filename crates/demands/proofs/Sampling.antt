@@ -1,5 +1,7 @@
 -- What the demands say of an accepted call of `sample`, of the stored totals and with no tolerance.
 use Rattle.std.specs.Prelude.{◌≡◌, refl, Bool, true, false, List, ℕ, ◌+◌, ◌-◌, ◌*◌, ◌/◌, ◌%◌, ◌^◌, ◌≤◌, ◌<◌, Float, get_or}
+use Rattle.std.specs.declared.result.Result.TheVariants.{Ok}
+use Rattle.std.specs.declared.option.Option.TheVariants.{Some}
 use Rattle.std.proofs.Math.Path.{subst}
 use Rattle.std.proofs.Common.{inl, le_trans, arith, lit≤}
 use Rattle.std.specs.Float.{nan, binary64}
@@ -22,7 +24,6 @@ use Rattle.transfer_matrix.specs.Configuration.{sampled_minus}
 use Rattle.transfer_matrix.specs.Job.{Job}
 use Rattle.transfer_matrix.specs.Rounded.{ieee}
 use Rattle.transfer_matrix.specs.Totals.{square, fourth, sampled, sampled_count}
-use Rattle.refusals.specs.declared.Answer.TheVariants.{Number}
 use Rattle.refusals.specs.Accepted.{Rising}
 use Rattle.refusals.proofs.Laws.Rising.{rising}
 use Rattle.refusals.specs.AcceptedTotals.{AcceptedTotals, misfits}
@@ -40,7 +41,6 @@ use Rattle.entry_correlations.specs.declared.Manner.{Manner}
 use Rattle.totals_call.specs.Jobs.{unsound_sampling}
 use Rattle.totals_call.specs.Calls.{Sampled, refused_sampling}
 use Rattle.error_bound.specs.Bound.{error_bound_of}
-use Rattle.error_bound.specs.declared.answer.ErrorBound.TheVariants.{Within}
 use Rattle.demands.proofs.Laws.Lists.{settled_at}
 use Rattle.demands.proofs.Configurations as C
 use Rattle.demands.proofs.Configurations.{accepted-number, pair_inside, beta-inside, signed-sound}
@@ -53,7 +53,7 @@ use Rattle.demands.specs.Mirror.{Mirrored}
 
 module _ {n floor : ℕ} {a b : List ℕ} {m : List Float} {us vs : List ℕ} {betas factors : List Float} {manner : Manner} {arrangement : Arrangement} {caller : Caller} {seed from to samples : ℕ}
     {squares squares' fourths fourths' work work' : List Float} {count : ℕ}
-    (call : Sampled n floor a b m us vs betas factors manner arrangement caller seed from to samples (Number count) squares squares' fourths fourths' work work') where
+    (call : Sampled n floor a b m us vs betas factors manner arrangement caller seed from to samples (Ok count) squares squares' fourths fourths' work work') where
   -- The job of a chunk's sample, at a beta.
   abbrev drawn : (chunk sample : ℕ) → ℕ → Job Float
   drawn = C.drawn_configuration n floor a b m factors manner seed
@@ -138,7 +138,7 @@ module _ {n floor : ℕ} {a b : List ℕ} {m : List Float} {us vs : List ℕ} {b
   sampling_mirrored chunk j beta u v s l = mirrored (sampling_sound chunk j beta u v s l)
 
   -- Accurate: where `totals_error_bound` answers a bound for the same graph, floor, betas and factors,
-  module _ (bound : Float) (answered : error_bound_of n floor a b m betas factors true ≡ Within bound) where
+  module _ (bound : Float) (answered : error_bound_of n floor a b m betas factors true ≡ Ok (Some bound)) where
     -- each correlation summed is within it of the textbook ratio,
     pub sampling_accurate : (chunk j beta : ℕ) → from ≤ chunk → chunk < to → j < samples → beta < length betas → Accurate (drawn chunk j beta) us vs bound
     sampling_accurate chunk j beta u v s l =

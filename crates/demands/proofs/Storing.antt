@@ -1,5 +1,7 @@
 -- What the demands say of an accepted call of `exhaustive_c`, of the stored correlations and with no tolerance.
 use Rattle.std.specs.Prelude.{◌≡◌, Bool, true, not, List, ℕ, ◌+◌, ◌*◌, ◌/◌, ◌%◌, ◌^◌, ◌≤◌, ◌<◌, eqb, Float, length, get_or}
+use Rattle.std.specs.declared.result.Result.TheVariants.{Ok}
+use Rattle.std.specs.declared.option.Option.TheVariants.{Some}
 use Rattle.std.proofs.Common.{ap, ◌∙◌, mod-lt, div-lt_iff_lt-mul, add-zero, mod-eq_of_lt, mul-le-mul_right, arith, pow_pos}
 use Rattle.std.proofs.Math.Nat.{mul-add-div_right, mul-add-mod_self_right, div-eq_of_lt}
 use Rattle.std.specs.Float.{nan}
@@ -14,7 +16,6 @@ use Rattle.transfer_matrix.specs.Job.{Job}
 use Rattle.transfer_matrix.specs.Rounded.{ieee}
 use Rattle.transfer_matrix.specs.Sweep as S
 use Rattle.transfer_matrix.specs.Totals.{enumerated_count}
-use Rattle.refusals.specs.declared.Answer.TheVariants.{Number}
 use Rattle.refusals.specs.AcceptedTotals.{AcceptedTotals}
 use Rattle.refusals.specs.Accepted.{Rising}
 use Rattle.refusals.proofs.Laws.Rising.{rising}
@@ -25,7 +26,6 @@ use Rattle.entry_correlations.specs.declared.Manner.{Manner}
 use Rattle.totals_call.specs.Jobs.{stored_count}
 use Rattle.totals_call.specs.Calls.{EnumeratedEach, refused_storing}
 use Rattle.error_bound.specs.Bound.{error_bound_of}
-use Rattle.error_bound.specs.declared.answer.ErrorBound.TheVariants.{Within}
 use Rattle.demands.proofs.Laws.Lists.{settled_at}
 use Rattle.demands.proofs.Configurations as C
 use Rattle.demands.proofs.Configurations.{accepted-number, pair_inside, beta-inside, enumeration_facts, configuration-sound}
@@ -37,7 +37,7 @@ use Rattle.demands.specs.Mirror.{Mirrored}
 
 module _ {n floor : ℕ} {a b : List ℕ} {m : List Float} {us vs : List ℕ} {betas factors : List Float} {manner : Manner} {arrangement : Arrangement} {caller : Caller}
     {stored stored' work work' : List Float} {count : ℕ}
-    (call : EnumeratedEach n floor a b m us vs betas factors manner arrangement caller (Number count) stored stored' work work') where
+    (call : EnumeratedEach n floor a b m us vs betas factors manner arrangement caller (Ok count) stored stored' work work') where
   abbrev free : ℕ
   free = C.free a b m
 
@@ -112,7 +112,7 @@ module _ {n floor : ℕ} {a b : List ℕ} {m : List Float} {us vs : List ℕ} {b
 
   -- Accurate: where `totals_error_bound` answers a bound for the same graph, floor, betas and factors, each stored double is within it of the
   -- textbook ratio.
-  pub stored-accurate : (bound : Float) → error_bound_of n floor a b m betas factors true ≡ Within bound
+  pub stored-accurate : (bound : Float) → error_bound_of n floor a b m betas factors true ≡ Ok (Some bound)
       → (x beta p : ℕ) → x < 2 ^ free → beta < length betas → p < length us
       → Apart (value (get_or stored' ((beta * length us + p) * 2 ^ free + x) nan)) (exactly (configuration x beta) us vs p) (value bound)
   stored-accurate bound answered x beta p h l k =

@@ -1,19 +1,18 @@
 -- What the demands say of a strip of any kind, width, length and boundary, with any magnitudes: its edge list is a graph, and they speak of graphs.
 use Rattle.std.specs.Prelude.{◌≡◌, refl, true, false, List, [], ℕ, ◌*◌, ◌^◌, ◌≤◌, ◌<◌, Float, length, get_or}
+use Rattle.std.specs.declared.result.Result.TheVariants.{Ok}
+use Rattle.std.specs.declared.option.Option.TheVariants.{Some}
 use Rattle.std.specs.Float.{nan, binary64}
 use Rattle.plan_layout.specs.declared.Arrangement.{Arrangement}
 use Rattle.limits.specs.declared.Caller.{Caller}
 use Rattle.rounding.specs.Powers.{Ordered}
 use Rattle.transfer_matrix.specs.Job.{Job}
-use Rattle.refusals.specs.declared.Answer.TheVariants.{Number}
 use Rattle.strip.specs.declared.strip.Strip.{Strip}
 use Rattle.strip_bonds.specs.Edges.{edges, early_ends, late_ends}
 use Rattle.entry_correlations.specs.Correlations.{job_given, Correlated}
 use Rattle.entry_correlations.specs.declared.Manner.{Manner}
 use Rattle.totals_call.specs.Calls.{Enumerated, EnumeratedEach, Sampled}
-use Rattle.error_bound.specs.Bound.{error_bound_of}
-use Rattle.error_bound.specs.declared.answer.ErrorBound.{ErrorBound}
-use Rattle.error_bound.specs.declared.answer.ErrorBound.TheVariants.{Within}
+use Rattle.error_bound.specs.Bound.{ErrorBound, error_bound_of}
 use Rattle.demands.proofs.Configurations.{free, configuration, drawn_configuration}
 use Rattle.demands.specs.OneJob.{Exact, Bounded}
 use Rattle.demands.specs.Mirror.{Mirrored}
@@ -28,7 +27,7 @@ pub record Demanded (J : Job Float) (us vs : List ℕ) (told : ErrorBound) : Typ
   pub exact : Exact J us vs
   pub bounded : Bounded J us vs
   pub mirrored : Mirrored J us vs
-  pub accurate : (bound : Float) → told ≡ Within bound → Accurate J us vs bound
+  pub accurate : (bound : Float) → told ≡ Ok (Some bound) → Accurate J us vs bound
 
 -- A strip, and what else its jobs have. The magnitudes may be 1.0 throughout, drawn by dilution, or the caller's own.
 module _ (s : Strip) (floor : ℕ) (m : List Float) (us vs : List ℕ) (factors : List Float) (manner : Manner) (arrangement : Arrangement) (caller : Caller) where
@@ -58,7 +57,7 @@ module _ (s : Strip) (floor : ℕ) (m : List Float) (us vs : List ℕ) (factors 
 
     -- of `exhaustive`, every configuration and beta,
     pub strip_enumeration : {count : ℕ} {squares squares' fourths fourths' work work' : List Float}
-        → Enumerated n floor a b m us vs betas factors manner arrangement caller (Number count) squares squares' fourths fourths' work work'
+        → Enumerated n floor a b m us vs betas factors manner arrangement caller (Ok count) squares squares' fourths fourths' work work'
         → (x beta : ℕ) → x < 2 ^ free a b m → beta < length betas → Demanded (configuration n floor a b m factors manner x beta) us vs told
     strip_enumeration call x beta h l =
         record {
@@ -70,13 +69,13 @@ module _ (s : Strip) (floor : ℕ) (m : List Float) (us vs : List ℕ) (factors 
 
     -- whose totals are in order too,
     pub strip_totals : {count : ℕ} {squares squares' fourths fourths' work work' : List Float}
-        → Enumerated n floor a b m us vs betas factors manner arrangement caller (Number count) squares squares' fourths fourths' work work'
+        → Enumerated n floor a b m us vs betas factors manner arrangement caller (Ok count) squares squares' fourths fourths' work work'
         → (k : ℕ) → k < length betas * length us → Ordered binary64 (get_or fourths' k nan) (get_or squares' k nan) count
     strip_totals call = enumeration_bounded call
 
     -- of `exhaustive_c`, the same,
     pub strip_stored : {count : ℕ} {stored stored' work work' : List Float}
-        → EnumeratedEach n floor a b m us vs betas factors manner arrangement caller (Number count) stored stored' work work'
+        → EnumeratedEach n floor a b m us vs betas factors manner arrangement caller (Ok count) stored stored' work work'
         → (x beta : ℕ) → x < 2 ^ free a b m → beta < length betas → Demanded (configuration n floor a b m factors manner x beta) us vs told
     strip_stored call x beta h l =
         record {
@@ -88,7 +87,7 @@ module _ (s : Strip) (floor : ℕ) (m : List Float) (us vs : List ℕ) (factors 
 
     -- and of `sample`, every sample and beta, and its totals.
     pub strip_sampling : {seed from to samples count : ℕ} {squares squares' fourths fourths' work work' : List Float}
-        → Sampled n floor a b m us vs betas factors manner arrangement caller seed from to samples (Number count) squares squares' fourths fourths' work work'
+        → Sampled n floor a b m us vs betas factors manner arrangement caller seed from to samples (Ok count) squares squares' fourths fourths' work work'
         → (chunk j beta : ℕ) → from ≤ chunk → chunk < to → j < samples → beta < length betas
         → Demanded (drawn_configuration n floor a b m factors manner seed chunk j beta) us vs told
     strip_sampling call chunk j beta u v i l =
@@ -100,6 +99,6 @@ module _ (s : Strip) (floor : ℕ) (m : List Float) (us vs : List ℕ) (factors 
         }
 
     pub strip_sampled_totals : {seed from to samples count : ℕ} {squares squares' fourths fourths' work work' : List Float}
-        → Sampled n floor a b m us vs betas factors manner arrangement caller seed from to samples (Number count) squares squares' fourths fourths' work work'
+        → Sampled n floor a b m us vs betas factors manner arrangement caller seed from to samples (Ok count) squares squares' fourths fourths' work work'
         → (k : ℕ) → k < length betas * length us → Ordered binary64 (get_or fourths' k nan) (get_or squares' k nan) count
     strip_sampled_totals call = sampling_bounded call

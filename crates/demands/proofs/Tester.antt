@@ -1,15 +1,18 @@
 -- The tester's calls: one that 22 does not refuse answers and leaves what the desk's call on the same lists does, so an accepted one too; the desk's is
 -- never refused by 22; and an accepted one is within the tester's limits.
-use Rattle.std.specs.Prelude.{◌≡◌, refl, Bool, true, List, ◌∷◌, ◌++◌, ℕ, zero, suc, ◌*◌, ◌≤◌, Float, length}
-use Rattle.std.proofs.Common.{sym, ap, ◌∙◌, arith, ltb-false}
+use Rattle.std.specs.Prelude.{◌≡◌, refl, Bool, true, List, ◌∷◌, ◌++◌, ℕ, ◌*◌, ◌≤◌, Float, length}
+use Rattle.std.proofs.Common.{sym, ap, ◌∙◌, ltb-false}
 use Rattle.plan_layout.specs.Arrangements.{arrangement_of}
 use Rattle.plan_layout.specs.declared.Arrangement.{Arrangement}
 use Rattle.limits.specs.declared.Caller.{Caller}
 use Rattle.limits.specs.declared.Caller.TheVariants.{Desk, Tester}
 use Rattle.limits.specs.Limits.{tester_window, tester_free}
-use Rattle.refusals.specs.Answers.{answered}
-use Rattle.refusals.specs.declared.Answer.{Answer}
-use Rattle.refusals.specs.declared.Answer.TheVariants.{Number, Refused}
+use Rattle.std.specs.declared.result.Result.{Result}
+use Rattle.refusals.specs.declared.Refusal.{Refusal}
+use Rattle.std.specs.declared.result.Result.TheVariants.{Ok, Err}
+use Rattle.refusals.specs.declared.Refusal.TheVariants.{TesterLimit}
+use Rattle.refusals.specs.Numbers.{refused}
+use Rattle.refusals.proofs.Laws.Answers.{answered-only}
 use Rattle.refusals.specs.Edges.{window_from}
 use Rattle.refusals.specs.Key.{Key, among}
 use Rattle.refusals.proofs.Laws.First.{passed-at}
@@ -34,20 +37,6 @@ pub desk_checks : (source : Source) (r : Request)
     × (refusal (sourced source of_sampling) (at_desk r) ≡ refusal (sourced source (of_room ++ (of_sampling_lists ++ of_sweeps))) (at_desk r))
 desk_checks lent r = (refl, refl, refl)
 desk_checks house r = (refl, refl, refl)
-
--- ---- answers by a refusal's number
-
-abbrev held : Answer → ℕ
-held (Number k) = k
-held (Refused k) = k
-
-number-told : (k x j : ℕ) → answered k x ≡ Refused (suc j) → k ≡ suc j
-number-told zero x j e = let z : ◌≡◌ {A = ℕ} 0 1 = ap kind e in absurd (omega arith)
-  where
-    kind : Answer → ℕ
-    kind (Number k) = 0
-    kind (Refused k) = 1
-number-told (suc k) x j e = ap held e
 
 -- ---- `correlations`, and `house_correlations`: by the source of the factors, of this list of factors or couplings
 
@@ -85,24 +74,24 @@ module _ (source : Source) (n floor : ℕ) (a b : List ℕ) (m : List Float) (us
 
 -- ---- totals, by the refusals of two calls that are given the same but for the caller
 
-module _ {k j count : ℕ} {squared fourthed : List Float} {end : ℕ} {r s : Answer} {squares squares' squares'' fourths fourths' fourths'' work work' work'' : List Float} where
-  same_totals : ((k ≡ 22 → ⊥) → k ≡ j) → Totalled k count squared fourthed end r squares squares' fourths fourths' work work' → (r ≡ Refused 22 → ⊥)
+module _ {k j count : ℕ} {squared fourthed : List Float} {end : ℕ} {r s : Result ℕ Refusal} {squares squares' squares'' fourths fourths' fourths'' work work' work'' : List Float} where
+  same_totals : ((k ≡ 22 → ⊥) → k ≡ j) → Totalled k count squared fourthed end r squares squares' fourths fourths' work work' → (r ≡ Err TesterLimit → ⊥)
       → Totalled j count squared fourthed end s squares squares'' fourths fourths'' work work''
       → (r ≡ s) × (squares' ≡ squares'') × (fourths' ≡ fourths'') × (work' ≡ work'')
   same_totals desk t h d =
-      let e : k ≡ j = desk (λ p. h (t.answer ∙ ap (λ (i : ℕ). answered i count) p)) in (
-        t.answer ∙ rw e (sym d.answer),
+      let e : k ≡ j = desk (λ p. h (answered-only k count r (Err TesterLimit) t.answer (sym p, tt))) in (
+        answered-only k count r s t.answer (rw e d.answer),
         t.squares_are ∙ rw e (sym d.squares_are),
         t.fourths_are ∙ rw e (sym d.fourths_are),
         t.memory ∙ rw e (sym d.memory),
       )
 
-module _ {k j count : ℕ} {correlations : List Float} {end : ℕ} {r s : Answer} {stored stored' stored'' work work' work'' : List Float} where
-  same-stored : ((k ≡ 22 → ⊥) → k ≡ j) → Stored k count correlations end r stored stored' work work' → (r ≡ Refused 22 → ⊥)
+module _ {k j count : ℕ} {correlations : List Float} {end : ℕ} {r s : Result ℕ Refusal} {stored stored' stored'' work work' work'' : List Float} where
+  same-stored : ((k ≡ 22 → ⊥) → k ≡ j) → Stored k count correlations end r stored stored' work work' → (r ≡ Err TesterLimit → ⊥)
       → Stored j count correlations end s stored stored'' work work'' → (r ≡ s) × (stored' ≡ stored'') × (work' ≡ work'')
   same-stored desk t h d =
-      let e : k ≡ j = desk (λ p. h (t.answer ∙ ap (λ (i : ℕ). answered i count) p)) in
-      (t.answer ∙ rw e (sym d.answer), t.stored_are ∙ rw e (sym d.stored_are), t.memory ∙ rw e (sym d.memory))
+      let e : k ≡ j = desk (λ p. h (answered-only k count r (Err TesterLimit) t.answer (sym p, tt))) in
+      (answered-only k count r s t.answer (rw e d.answer), t.stored_are ∙ rw e (sym d.stored_are), t.memory ∙ rw e (sym d.memory))
 
 module _ (n floor : ℕ) (a b : List ℕ) (m : List Float) (us vs : List ℕ) (betas factors : List Float) (manner : Manner) (arrangement : Arrangement) where
   abbrev given : Given
@@ -116,18 +105,18 @@ module _ (n floor : ℕ) (a b : List ℕ) (m : List Float) (us vs : List ℕ) (b
         enumeration_request caller (arrangement_of arrangement) n floor a b m us vs betas factors (free a b m) most_counted
         (misfits (length betas * length us) (length squares) (length fourths)) (length work) (unsound_all given)
 
-    pub totals_at_desk : {r s : Answer} {squares' squares'' fourths' fourths'' work' work'' : List Float}
-        → Enumerated n floor a b m us vs betas factors manner arrangement Tester r squares squares' fourths fourths' work work' → (r ≡ Refused 22 → ⊥)
+    pub totals_at_desk : {r s : Result ℕ Refusal} {squares' squares'' fourths' fourths'' work' work'' : List Float}
+        → Enumerated n floor a b m us vs betas factors manner arrangement Tester r squares squares' fourths fourths' work work' → (r ≡ Err TesterLimit → ⊥)
         → Enumerated n floor a b m us vs betas factors manner arrangement Desk s squares squares'' fourths fourths'' work work''
         → (r ≡ s) × (squares' ≡ squares'') × (fourths' ≡ fourths'') × (work' ≡ work'')
     totals_at_desk t h d = same_totals (as_at_desk of_enumeration (counting Tester)) t.call h d.call
 
-    pub totals_desk_not_22 : {r : Answer} {squares' fourths' work' : List Float}
-        → Enumerated n floor a b m us vs betas factors manner arrangement Desk r squares squares' fourths fourths' work work' → r ≡ Refused 22 → ⊥
-    totals_desk_not_22 d p = desk_not_22 of_enumeration (counting Desk) (number-told _ _ 21 (sym d.call.answer ∙ p))
+    pub totals_desk_not_22 : {r : Result ℕ Refusal} {squares' fourths' work' : List Float}
+        → Enumerated n floor a b m us vs betas factors manner arrangement Desk r squares squares' fourths fourths' work work' → r ≡ Err TesterLimit → ⊥
+    totals_desk_not_22 d p = desk_not_22 of_enumeration (counting Desk) (sym d.call.answer.0 ∙ ap (λ (x : Result ℕ Refusal). refused x) p)
 
     pub totals_tester_limits : {count : ℕ} {squares' fourths' work' : List Float}
-        → Enumerated n floor a b m us vs betas factors manner arrangement Tester (Number count) squares squares' fourths fourths' work work'
+        → Enumerated n floor a b m us vs betas factors manner arrangement Tester (Ok count) squares squares' fourths fourths' work work'
         → (window_from floor a b m ≤ tester_window) × (free a b m ≤ tester_free)
     totals_tester_limits t =
         let z = (accepted-number _ _ _ t.call.answer).0 in (
@@ -143,17 +132,17 @@ module _ (n floor : ℕ) (a b : List ℕ) (m : List Float) (us vs : List ℕ) (b
         enumeration_request caller (arrangement_of arrangement) n floor a b m us vs betas factors (free a b m) most_stored (misfit_stored given (length stored)) (length work)
         (unsound_all given)
 
-    pub stored_at_desk : {r s : Answer} {stored' stored'' work' work'' : List Float}
-        → EnumeratedEach n floor a b m us vs betas factors manner arrangement Tester r stored stored' work work' → (r ≡ Refused 22 → ⊥)
+    pub stored_at_desk : {r s : Result ℕ Refusal} {stored' stored'' work' work'' : List Float}
+        → EnumeratedEach n floor a b m us vs betas factors manner arrangement Tester r stored stored' work work' → (r ≡ Err TesterLimit → ⊥)
         → EnumeratedEach n floor a b m us vs betas factors manner arrangement Desk s stored stored'' work work'' → (r ≡ s) × (stored' ≡ stored'') × (work' ≡ work'')
     stored_at_desk t h d = same-stored (as_at_desk of_enumeration (storing Tester)) t.call h d.call
 
-    pub stored_desk_not_22 : {r : Answer} {stored' work' : List Float}
-        → EnumeratedEach n floor a b m us vs betas factors manner arrangement Desk r stored stored' work work' → r ≡ Refused 22 → ⊥
-    stored_desk_not_22 d p = desk_not_22 of_enumeration (storing Desk) (number-told _ _ 21 (sym d.call.answer ∙ p))
+    pub stored_desk_not_22 : {r : Result ℕ Refusal} {stored' work' : List Float}
+        → EnumeratedEach n floor a b m us vs betas factors manner arrangement Desk r stored stored' work work' → r ≡ Err TesterLimit → ⊥
+    stored_desk_not_22 d p = desk_not_22 of_enumeration (storing Desk) (sym d.call.answer.0 ∙ ap (λ (x : Result ℕ Refusal). refused x) p)
 
     pub stored_tester_limits : {count : ℕ} {stored' work' : List Float}
-        → EnumeratedEach n floor a b m us vs betas factors manner arrangement Tester (Number count) stored stored' work work'
+        → EnumeratedEach n floor a b m us vs betas factors manner arrangement Tester (Ok count) stored stored' work work'
         → (window_from floor a b m ≤ tester_window) × (free a b m ≤ tester_free)
     stored_tester_limits t =
         let z = (accepted-number _ _ _ t.call.answer).0 in (
@@ -169,18 +158,18 @@ module _ (n floor : ℕ) (a b : List ℕ) (m : List Float) (us vs : List ℕ) (b
         sampling_request caller (arrangement_of arrangement) n floor a b m us vs betas factors (free a b m) from to samples
         (misfits (length betas * length us) (length squares) (length fourths)) (length work) (unsound_drawn given seed from to samples)
 
-    pub samples_at_desk : {r s : Answer} {squares' squares'' fourths' fourths'' work' work'' : List Float}
-        → Sampled n floor a b m us vs betas factors manner arrangement Tester seed from to samples r squares squares' fourths fourths' work work' → (r ≡ Refused 22 → ⊥)
+    pub samples_at_desk : {r s : Result ℕ Refusal} {squares' squares'' fourths' fourths'' work' work'' : List Float}
+        → Sampled n floor a b m us vs betas factors manner arrangement Tester seed from to samples r squares squares' fourths fourths' work work' → (r ≡ Err TesterLimit → ⊥)
         → Sampled n floor a b m us vs betas factors manner arrangement Desk seed from to samples s squares squares'' fourths fourths'' work work''
         → (r ≡ s) × (squares' ≡ squares'') × (fourths' ≡ fourths'') × (work' ≡ work'')
     samples_at_desk t h d = same_totals (as_at_desk of_sampling (drawing Tester)) t.call h d.call
 
-    pub samples_desk_not_22 : {r : Answer} {squares' fourths' work' : List Float}
-        → Sampled n floor a b m us vs betas factors manner arrangement Desk seed from to samples r squares squares' fourths fourths' work work' → r ≡ Refused 22 → ⊥
-    samples_desk_not_22 d p = desk_not_22 of_sampling (drawing Desk) (number-told _ _ 21 (sym d.call.answer ∙ p))
+    pub samples_desk_not_22 : {r : Result ℕ Refusal} {squares' fourths' work' : List Float}
+        → Sampled n floor a b m us vs betas factors manner arrangement Desk seed from to samples r squares squares' fourths fourths' work work' → r ≡ Err TesterLimit → ⊥
+    samples_desk_not_22 d p = desk_not_22 of_sampling (drawing Desk) (sym d.call.answer.0 ∙ ap (λ (x : Result ℕ Refusal). refused x) p)
 
     pub samples_tester_window : {count : ℕ} {squares' fourths' work' : List Float}
-        → Sampled n floor a b m us vs betas factors manner arrangement Tester seed from to samples (Number count) squares squares' fourths fourths' work work'
+        → Sampled n floor a b m us vs betas factors manner arrangement Tester seed from to samples (Ok count) squares squares' fourths fourths' work work'
         → window_from floor a b m ≤ tester_window
     samples_tester_window t =
         ltb-false tester_window (window_from floor a b m)
@@ -209,18 +198,18 @@ module _ (n floor : ℕ) (a b : List ℕ) (m : List Float) (us vs : List ℕ) (b
     abbrev house_counting : Caller → Request
     house_counting = house_enumerating most_counted (misfits (length betas * length us) (length squares) (length fourths)) (length work)
 
-    pub house_totals_at_desk : {r s : Answer} {squares' squares'' fourths' fourths'' work' work'' : List Float}
-        → HouseEnumerated n floor a b m us vs betas manner arrangement Tester r squares squares' fourths fourths' work work' → (r ≡ Refused 22 → ⊥)
+    pub house_totals_at_desk : {r s : Result ℕ Refusal} {squares' squares'' fourths' fourths'' work' work'' : List Float}
+        → HouseEnumerated n floor a b m us vs betas manner arrangement Tester r squares squares' fourths fourths' work work' → (r ≡ Err TesterLimit → ⊥)
         → HouseEnumerated n floor a b m us vs betas manner arrangement Desk s squares squares'' fourths fourths'' work work''
         → (r ≡ s) × (squares' ≡ squares'') × (fourths' ≡ fourths'') × (work' ≡ work'')
     house_totals_at_desk t h d = same_totals (as_at_desk (housed of_enumeration) (house_counting Tester)) t.call h d.call
 
-    pub house_totals_desk_not_22 : {r : Answer} {squares' fourths' work' : List Float}
-        → HouseEnumerated n floor a b m us vs betas manner arrangement Desk r squares squares' fourths fourths' work work' → r ≡ Refused 22 → ⊥
-    house_totals_desk_not_22 d p = desk_not_22 (housed of_enumeration) (house_counting Desk) (number-told _ _ 21 (sym d.call.answer ∙ p))
+    pub house_totals_desk_not_22 : {r : Result ℕ Refusal} {squares' fourths' work' : List Float}
+        → HouseEnumerated n floor a b m us vs betas manner arrangement Desk r squares squares' fourths fourths' work work' → r ≡ Err TesterLimit → ⊥
+    house_totals_desk_not_22 d p = desk_not_22 (housed of_enumeration) (house_counting Desk) (sym d.call.answer.0 ∙ ap (λ (x : Result ℕ Refusal). refused x) p)
 
     pub house_totals_tester_limits : {count : ℕ} {squares' fourths' work' : List Float}
-        → HouseEnumerated n floor a b m us vs betas manner arrangement Tester (Number count) squares squares' fourths fourths' work work'
+        → HouseEnumerated n floor a b m us vs betas manner arrangement Tester (Ok count) squares squares' fourths fourths' work work'
         → (window_from floor a b m ≤ tester_window) × (free a b m ≤ tester_free)
     house_totals_tester_limits t = within_limits most_counted (misfits (length betas * length us) (length squares) (length fourths)) (length work) (accepted-number _ _ _ t.call.answer).0
 
@@ -230,17 +219,17 @@ module _ (n floor : ℕ) (a b : List ℕ) (m : List Float) (us vs : List ℕ) (b
     abbrev house_storing : Caller → Request
     house_storing = house_enumerating most_stored (misfit_stored house_desk (length stored)) (length work)
 
-    pub house_stored_at_desk : {r s : Answer} {stored' stored'' work' work'' : List Float}
-        → HouseEnumeratedEach n floor a b m us vs betas manner arrangement Tester r stored stored' work work' → (r ≡ Refused 22 → ⊥)
+    pub house_stored_at_desk : {r s : Result ℕ Refusal} {stored' stored'' work' work'' : List Float}
+        → HouseEnumeratedEach n floor a b m us vs betas manner arrangement Tester r stored stored' work work' → (r ≡ Err TesterLimit → ⊥)
         → HouseEnumeratedEach n floor a b m us vs betas manner arrangement Desk s stored stored'' work work'' → (r ≡ s) × (stored' ≡ stored'') × (work' ≡ work'')
     house_stored_at_desk t h d = same-stored (as_at_desk (housed of_enumeration) (house_storing Tester)) t.call h d.call
 
-    pub house_stored_desk_not_22 : {r : Answer} {stored' work' : List Float}
-        → HouseEnumeratedEach n floor a b m us vs betas manner arrangement Desk r stored stored' work work' → r ≡ Refused 22 → ⊥
-    house_stored_desk_not_22 d p = desk_not_22 (housed of_enumeration) (house_storing Desk) (number-told _ _ 21 (sym d.call.answer ∙ p))
+    pub house_stored_desk_not_22 : {r : Result ℕ Refusal} {stored' work' : List Float}
+        → HouseEnumeratedEach n floor a b m us vs betas manner arrangement Desk r stored stored' work work' → r ≡ Err TesterLimit → ⊥
+    house_stored_desk_not_22 d p = desk_not_22 (housed of_enumeration) (house_storing Desk) (sym d.call.answer.0 ∙ ap (λ (x : Result ℕ Refusal). refused x) p)
 
     pub house_stored_tester_limits : {count : ℕ} {stored' work' : List Float}
-        → HouseEnumeratedEach n floor a b m us vs betas manner arrangement Tester (Number count) stored stored' work work'
+        → HouseEnumeratedEach n floor a b m us vs betas manner arrangement Tester (Ok count) stored stored' work work'
         → (window_from floor a b m ≤ tester_window) × (free a b m ≤ tester_free)
     house_stored_tester_limits t = within_limits most_stored (misfit_stored house_desk (length stored)) (length work) (accepted-number _ _ _ t.call.answer).0
 
@@ -252,18 +241,18 @@ module _ (n floor : ℕ) (a b : List ℕ) (m : List Float) (us vs : List ℕ) (b
         house_sampling_request caller (arrangement_of arrangement) n floor a b m us vs betas (free a b m) from to samples
         (misfits (length betas * length us) (length squares) (length fourths)) (length work) (unsound_drawn house_desk seed from to samples)
 
-    pub house_samples_at_desk : {r s : Answer} {squares' squares'' fourths' fourths'' work' work'' : List Float}
-        → HouseSampled n floor a b m us vs betas manner arrangement Tester seed from to samples r squares squares' fourths fourths' work work' → (r ≡ Refused 22 → ⊥)
+    pub house_samples_at_desk : {r s : Result ℕ Refusal} {squares' squares'' fourths' fourths'' work' work'' : List Float}
+        → HouseSampled n floor a b m us vs betas manner arrangement Tester seed from to samples r squares squares' fourths fourths' work work' → (r ≡ Err TesterLimit → ⊥)
         → HouseSampled n floor a b m us vs betas manner arrangement Desk seed from to samples s squares squares'' fourths fourths'' work work''
         → (r ≡ s) × (squares' ≡ squares'') × (fourths' ≡ fourths'') × (work' ≡ work'')
     house_samples_at_desk t h d = same_totals (as_at_desk (housed of_sampling) (house_drawing Tester)) t.call h d.call
 
-    pub house_samples_desk_not_22 : {r : Answer} {squares' fourths' work' : List Float}
-        → HouseSampled n floor a b m us vs betas manner arrangement Desk seed from to samples r squares squares' fourths fourths' work work' → r ≡ Refused 22 → ⊥
-    house_samples_desk_not_22 d p = desk_not_22 (housed of_sampling) (house_drawing Desk) (number-told _ _ 21 (sym d.call.answer ∙ p))
+    pub house_samples_desk_not_22 : {r : Result ℕ Refusal} {squares' fourths' work' : List Float}
+        → HouseSampled n floor a b m us vs betas manner arrangement Desk seed from to samples r squares squares' fourths fourths' work work' → r ≡ Err TesterLimit → ⊥
+    house_samples_desk_not_22 d p = desk_not_22 (housed of_sampling) (house_drawing Desk) (sym d.call.answer.0 ∙ ap (λ (x : Result ℕ Refusal). refused x) p)
 
     pub house_samples_tester_window : {count : ℕ} {squares' fourths' work' : List Float}
-        → HouseSampled n floor a b m us vs betas manner arrangement Tester seed from to samples (Number count) squares squares' fourths fourths' work work'
+        → HouseSampled n floor a b m us vs betas manner arrangement Tester seed from to samples (Ok count) squares squares' fourths fourths' work work'
         → window_from floor a b m ≤ tester_window
     house_samples_tester_window t =
         ltb-false tester_window (window_from floor a b m)

@@ -1,6 +1,8 @@
 -- What the demands say of accepted house calls, of the stored results and totals and with no tolerance: what they say of the calls that lend the table's
 -- factors, word for word. Each is stated in full, so that a reader of house calls needs no other file but for the words.
 use Rattle.std.specs.Prelude.{◌≡◌, refl, true, false, List, [], ℕ, ◌+◌, ◌-◌, ◌*◌, ◌/◌, ◌%◌, ◌^◌, ◌≤◌, ◌<◌, Float, length, get_or}
+use Rattle.std.specs.declared.result.Result.TheVariants.{Ok}
+use Rattle.std.specs.declared.option.Option.TheVariants.{Some}
 use Rattle.std.proofs.Common.{arith}
 use Rattle.std.specs.Float.{nan, binary64}
 use Rattle.limits.specs.declared.Caller.{Caller}
@@ -21,7 +23,6 @@ use Rattle.estimate.specs.declared.answer.Estimate.TheVariants.{Complete}
 use Rattle.estimate.specs.Estimates.{number, mean_of}
 use Rattle.estimate_complete.specs.Complete.{mean_spread_of, complete_of}
 use Rattle.estimates_complete.specs.Columns as Columns
-use Rattle.refusals.specs.declared.Answer.TheVariants.{Number}
 use Rattle.refusals.specs.Accepted.{Rising}
 use Rattle.house_factors.specs.Factors.{single_factors}
 use Rattle.plan_layout.specs.declared.Arrangement.{Arrangement}
@@ -31,7 +32,6 @@ use Rattle.entry_correlations.specs.declared.Manner.{Manner}
 use Rattle.totals_call.specs.Jobs.{stored_count}
 use Rattle.totals_call.specs.Calls.{Enumerated, EnumeratedEach, Sampled, HouseEnumerated, HouseEnumeratedEach, HouseSampled}
 use Rattle.error_bound.specs.Bound.{error_bound_of}
-use Rattle.error_bound.specs.declared.answer.ErrorBound.TheVariants.{Within}
 use Rattle.demands.specs.OneJob.{InUnit, Exact, Bounded}
 use Rattle.demands.specs.Mirror.{Mirrored}
 use Rattle.demands.proofs.Accurate.{Accurate}
@@ -74,7 +74,7 @@ module _ {n floor : ℕ} {a b : List ℕ} {m : List Float} {us vs : List ℕ} {c
   house-result-mirrored = Correlations.result-mirrored lent-results refl
 
   -- and accurate, where `error_bound` answers a bound for the table's factors.
-  pub house-result-accurate : (bound : Float) → error_bound_of n floor a b m [] (single_factors couplings) false ≡ Within bound → (i : ℕ) → i < length us
+  pub house-result-accurate : (bound : Float) → error_bound_of n floor a b m [] (single_factors couplings) false ≡ Ok (Some bound) → (i : ℕ) → i < length us
       → Apart (value (get_or results' i nan)) (textbook rational (at_values job) (get_or us i 0) (get_or vs i 0)) (value bound)
   house-result-accurate = Correlations.result-accurate lent-results refl
 
@@ -82,8 +82,8 @@ module _ {n floor : ℕ} {a b : List ℕ} {m : List Float} {us vs : List ℕ} {c
 
 module _ {n floor : ℕ} {a b : List ℕ} {m : List Float} {us vs : List ℕ} {betas : List Float} {manner : Manner} {arrangement : Arrangement} {caller : Caller}
     {squares squares' fourths fourths' work work' : List Float} {count : ℕ}
-    (call : HouseEnumerated n floor a b m us vs betas manner arrangement caller (Number count) squares squares' fourths fourths' work work') where
-  lent_totals : Enumerated n floor a b m us vs betas (table_factors a b m betas) manner arrangement caller (Number count) squares squares' fourths fourths' work work'
+    (call : HouseEnumerated n floor a b m us vs betas manner arrangement caller (Ok count) squares squares' fourths fourths' work work') where
+  lent_totals : Enumerated n floor a b m us vs betas (table_factors a b m betas) manner arrangement caller (Ok count) squares squares' fourths fourths' work work'
   lent_totals = house_enumeration_lent call number_not
 
   -- The betas rise strictly.
@@ -110,7 +110,7 @@ module _ {n floor : ℕ} {a b : List ℕ} {m : List Float} {us vs : List ℕ} {b
   house_enumeration_bounded = Exhaustive.enumeration_bounded lent_totals
 
   pub house_enumeration_complete : (k : ℕ) → k < length betas * length us
-      → complete_of count (get_or squares' k nan) (get_or fourths' k nan) ≡ Complete (mean_spread_of (number count) (get_or squares' k nan) (get_or fourths' k nan))
+      → complete_of count (get_or squares' k nan) (get_or fourths' k nan) ≡ Ok (Complete (mean_spread_of (number count) (get_or squares' k nan) (get_or fourths' k nan)))
   house_enumeration_complete = Exhaustive.enumeration_complete lent_totals
 
   pub house_enumeration_columns : let size = length betas * length us in Columns.refusal_of count squares' fourths' size size size ≡ 0
@@ -124,7 +124,7 @@ module _ {n floor : ℕ} {a b : List ℕ} {m : List Float} {us vs : List ℕ} {b
   house_enumeration_mirrored = Exhaustive.enumeration_mirrored lent_totals
 
   -- and accurate, where `totals_error_bound` answers a bound for the table's factors.
-  module _ (bound : Float) (answered : error_bound_of n floor a b m betas (table_factors a b m betas) true ≡ Within bound) where
+  module _ (bound : Float) (answered : error_bound_of n floor a b m betas (table_factors a b m betas) true ≡ Ok (Some bound)) where
     pub house_enumeration_accurate : (x beta : ℕ) → x < 2 ^ free a b m → beta < length betas → Accurate (configuration_of n floor a b m betas manner x beta) us vs bound
     house_enumeration_accurate = Exhaustive.enumeration_accurate lent_totals bound answered
 
@@ -148,8 +148,8 @@ module _ {n floor : ℕ} {a b : List ℕ} {m : List Float} {us vs : List ℕ} {b
 
 module _ {n floor : ℕ} {a b : List ℕ} {m : List Float} {us vs : List ℕ} {betas : List Float} {manner : Manner} {arrangement : Arrangement} {caller : Caller}
     {stored stored' work work' : List Float} {count : ℕ}
-    (call : HouseEnumeratedEach n floor a b m us vs betas manner arrangement caller (Number count) stored stored' work work') where
-  lent-stored : EnumeratedEach n floor a b m us vs betas (table_factors a b m betas) manner arrangement caller (Number count) stored stored' work work'
+    (call : HouseEnumeratedEach n floor a b m us vs betas manner arrangement caller (Ok count) stored stored' work work') where
+  lent-stored : EnumeratedEach n floor a b m us vs betas (table_factors a b m betas) manner arrangement caller (Ok count) stored stored' work work'
   lent-stored = house-storing-lent call number_not
 
   -- The betas rise strictly.
@@ -179,7 +179,7 @@ module _ {n floor : ℕ} {a b : List ℕ} {m : List Float} {us vs : List ℕ} {b
   house-stored-mirrored = Storing.stored-mirrored lent-stored
 
   -- and accurate, where `totals_error_bound` answers a bound for the table's factors.
-  pub house-stored-accurate : (bound : Float) → error_bound_of n floor a b m betas (table_factors a b m betas) true ≡ Within bound
+  pub house-stored-accurate : (bound : Float) → error_bound_of n floor a b m betas (table_factors a b m betas) true ≡ Ok (Some bound)
       → (x beta p : ℕ) → x < 2 ^ free a b m → beta < length betas → p < length us
       → Apart (value (get_or stored' ((beta * length us + p) * 2 ^ free a b m + x) nan)) (exactly (configuration_of n floor a b m betas manner x beta) us vs p) (value bound)
   house-stored-accurate = Storing.stored-accurate lent-stored
@@ -188,8 +188,8 @@ module _ {n floor : ℕ} {a b : List ℕ} {m : List Float} {us vs : List ℕ} {b
 
 module _ {n floor : ℕ} {a b : List ℕ} {m : List Float} {us vs : List ℕ} {betas : List Float} {manner : Manner} {arrangement : Arrangement} {caller : Caller} {seed from to samples : ℕ}
     {squares squares' fourths fourths' work work' : List Float} {count : ℕ}
-    (call : HouseSampled n floor a b m us vs betas manner arrangement caller seed from to samples (Number count) squares squares' fourths fourths' work work') where
-  lent-samples : Sampled n floor a b m us vs betas (table_factors a b m betas) manner arrangement caller seed from to samples (Number count) squares squares' fourths fourths' work work'
+    (call : HouseSampled n floor a b m us vs betas manner arrangement caller seed from to samples (Ok count) squares squares' fourths fourths' work work') where
+  lent-samples : Sampled n floor a b m us vs betas (table_factors a b m betas) manner arrangement caller seed from to samples (Ok count) squares squares' fourths fourths' work work'
   lent-samples = house_sampling_lent call number_not
 
   -- The betas rise strictly.
@@ -223,7 +223,7 @@ module _ {n floor : ℕ} {a b : List ℕ} {m : List Float} {us vs : List ℕ} {b
   house_sampling_mirrored = Sampling.sampling_mirrored lent-samples
 
   -- and accurate, where `totals_error_bound` answers a bound for the table's factors.
-  module _ (bound : Float) (answered : error_bound_of n floor a b m betas (table_factors a b m betas) true ≡ Within bound) where
+  module _ (bound : Float) (answered : error_bound_of n floor a b m betas (table_factors a b m betas) true ≡ Ok (Some bound)) where
     pub house_sampling_accurate : (chunk j beta : ℕ) → from ≤ chunk → chunk < to → j < samples → beta < length betas → Accurate (drawn_of n floor a b m betas manner seed chunk j beta) us vs bound
     house_sampling_accurate = Sampling.sampling_accurate lent-samples bound answered
 

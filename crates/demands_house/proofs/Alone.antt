@@ -6,7 +6,7 @@ use Rattle.std.specs.Float.{nan}
 use Rattle.limits.specs.declared.Caller.{Caller}
 use Rattle.forest.specs.FreeEdges.{bit_of}
 use Rattle.transfer_matrix.specs.Configuration.{enumerated_minus, sampled_minus}
-use Rattle.refusals.specs.declared.Answer.TheVariants.{Number}
+use Rattle.std.specs.declared.result.Result.TheVariants.{Ok}
 use Rattle.house_factors.specs.Factors.{single_factors}
 use Rattle.plan_layout.specs.declared.Arrangement.{Arrangement}
 use Rattle.entry_correlations.specs.Correlations.{job_given, HouseCorrelated}
@@ -54,7 +54,7 @@ module _ {n floor : ℕ} {a b : List ℕ} {m : List Float} {us vs : List ℕ} {c
 
 module _ {n floor : ℕ} {a b : List ℕ} {m : List Float} {us vs : List ℕ} {betas : List Float} {manner : Manner} {arrangement : Arrangement} {caller : Caller}
     {squares squares' fourths fourths' work work' : List Float} {count : ℕ}
-    (call : HouseEnumerated n floor a b m us vs betas manner arrangement caller (Number count) squares squares' fourths fourths' work work') where
+    (call : HouseEnumerated n floor a b m us vs betas manner arrangement caller (Ok count) squares squares' fourths fourths' work work') where
   abbrev counted : Given
   counted = house_given n floor a b m us vs betas manner arrangement caller
 
@@ -87,7 +87,7 @@ module _ {n floor : ℕ} {a b : List ℕ} {m : List Float} {us vs : List ℕ} {b
 
 module _ {n floor : ℕ} {a b : List ℕ} {m : List Float} {us vs : List ℕ} {betas : List Float} {manner : Manner} {arrangement : Arrangement} {caller : Caller}
     {stored stored' work work' : List Float} {count : ℕ}
-    (call : HouseEnumeratedEach n floor a b m us vs betas manner arrangement caller (Number count) stored stored' work work') where
+    (call : HouseEnumeratedEach n floor a b m us vs betas manner arrangement caller (Ok count) stored stored' work work') where
   abbrev kept : Given
   kept = house_given n floor a b m us vs betas manner arrangement caller
 
@@ -114,7 +114,7 @@ module _ {n floor : ℕ} {a b : List ℕ} {m : List Float} {us vs : List ℕ} {b
 
 module _ {n floor : ℕ} {a b : List ℕ} {m : List Float} {us vs : List ℕ} {betas : List Float} {manner : Manner} {arrangement : Arrangement} {caller : Caller} {seed from to samples : ℕ}
     {squares squares' fourths fourths' work work' : List Float} {count : ℕ}
-    (call : HouseSampled n floor a b m us vs betas manner arrangement caller seed from to samples (Number count) squares squares' fourths fourths' work work') where
+    (call : HouseSampled n floor a b m us vs betas manner arrangement caller seed from to samples (Ok count) squares squares' fourths fourths' work work') where
   abbrev drawn : Given
   drawn = house_given n floor a b m us vs betas manner arrangement caller
 

@@ -4,14 +4,13 @@ use Rattle.std.proofs.Common.{arith}
 use Rattle.limits.specs.declared.Caller.{Caller}
 use Rattle.strip.specs.declared.strip.Strip.{Strip}
 use Rattle.strip_bonds.specs.Edges.{edges, early_ends, late_ends}
-use Rattle.refusals.specs.declared.Answer.TheVariants.{Number}
+use Rattle.std.specs.declared.result.Result.TheVariants.{Ok}
 use Rattle.house_factors.specs.Factors.{single_factors}
 use Rattle.plan_layout.specs.declared.Arrangement.{Arrangement}
 use Rattle.entry_correlations.specs.Correlations.{job_given, HouseCorrelated}
 use Rattle.entry_correlations.specs.declared.Manner.{Manner}
 use Rattle.totals_call.specs.Calls.{HouseEnumerated, HouseEnumeratedEach, HouseSampled}
-use Rattle.error_bound.specs.Bound.{error_bound_of}
-use Rattle.error_bound.specs.declared.answer.ErrorBound.{ErrorBound}
+use Rattle.error_bound.specs.Bound.{ErrorBound, error_bound_of}
 use Rattle.demands.proofs.Configurations.{free}
 use Rattle.demands.proofs.Strips.{Demanded, strip_result, strip_enumeration, strip_stored, strip_sampling}
 use Rattle.demands_house.specs.Factors.{table_factors, configuration_of, drawn_of}
@@ -41,21 +40,21 @@ module _ (s : Strip) (floor : ℕ) (m : List Float) (us vs : List ℕ) (manner :
 
     -- of `house_exhaustive`, every configuration and beta,
     pub house_strip_enumeration : {count : ℕ} {squares squares' fourths fourths' work work' : List Float}
-        → HouseEnumerated n floor a b m us vs betas manner arrangement caller (Number count) squares squares' fourths fourths' work work'
+        → HouseEnumerated n floor a b m us vs betas manner arrangement caller (Ok count) squares squares' fourths fourths' work work'
         → (x beta : ℕ) → x < 2 ^ free a b m → beta < length betas → Demanded (configuration_of n floor a b m betas manner x beta) us vs told
     house_strip_enumeration call =
         strip_enumeration s floor m us vs (table_factors a b m betas) manner arrangement caller betas (house_enumeration_lent call number_not)
 
     -- of `house_exhaustive_c`, the same,
     pub house_strip_stored : {count : ℕ} {stored stored' work work' : List Float}
-        → HouseEnumeratedEach n floor a b m us vs betas manner arrangement caller (Number count) stored stored' work work'
+        → HouseEnumeratedEach n floor a b m us vs betas manner arrangement caller (Ok count) stored stored' work work'
         → (x beta : ℕ) → x < 2 ^ free a b m → beta < length betas → Demanded (configuration_of n floor a b m betas manner x beta) us vs told
     house_strip_stored call =
         strip_stored s floor m us vs (table_factors a b m betas) manner arrangement caller betas (house-storing-lent call number_not)
 
     -- and of `house_sample`, every sample and beta. That the totals are in order is `house-enumeration-bounded` and `house-sampling-bounded`, of any graph.
     pub house_strip_sampling : {seed from to samples count : ℕ} {squares squares' fourths fourths' work work' : List Float}
-        → HouseSampled n floor a b m us vs betas manner arrangement caller seed from to samples (Number count) squares squares' fourths fourths' work work'
+        → HouseSampled n floor a b m us vs betas manner arrangement caller seed from to samples (Ok count) squares squares' fourths fourths' work work'
         → (chunk j beta : ℕ) → from ≤ chunk → chunk < to → j < samples → beta < length betas
         → Demanded (drawn_of n floor a b m betas manner seed chunk j beta) us vs told
     house_strip_sampling call =

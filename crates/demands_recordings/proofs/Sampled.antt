@@ -1,5 +1,5 @@
 -- The rows of a chunk are what `sample`, or its house twin, leaves over that chunk alone; and each chunk's sums keep what 26 asks of them.
-use Rattle.std.specs.Prelude.{◌≡◌, refl, Bool, true, false, not, ◌&&◌, List, ℕ, ◌+◌, ◌-◌, ◌*◌, ◌≤◌, ◌<◌, T, eqb, Float, length, get_or}
+use Rattle.std.specs.Prelude.{◌≡◌, refl, Bool, true, false, ◌&&◌, List, ℕ, ◌+◌, ◌-◌, ◌*◌, ◌≤◌, ◌<◌, T, Float, length}
 use Rattle.std.proofs.Common.{sym, ap, ◌∙◌, subst, one-mul, arith, eq-eqb}
 use Rattle.std.specs.Float.{nan, binary64}
 use Rattle.std.specs.Float.Ieee.{of_bits, of_int, le, fits}
@@ -11,11 +11,9 @@ use Rattle.list_laws.specs.Tabulate.{tabulate}
 use Rattle.list_laws.proofs.Laws.Tabulate.{tabulate-length}
 use Rattle.rounding.specs.Powers.{Ordered}
 use Rattle.rounding.specs.Laws.Sign.{not_minus}
-use Rattle.transfer_matrix.specs.Arithmetic.{sum}
 use Rattle.transfer_matrix.specs.Rounded.{ieee}
 use Rattle.transfer_matrix.specs.Totals.{square, fourth, sampled_count}
-use Rattle.refusals.specs.Answers.{answered}
-use Rattle.refusals.specs.declared.Answer.TheVariants.{Number}
+use Rattle.std.specs.declared.result.Result.TheVariants.{Ok}
 use Rattle.refusals.specs.AcceptedTotals.{misfits}
 use Rattle.plan_layout.specs.declared.Arrangement.{Arrangement}
 use Rattle.job_run.specs.Zeros.{zeros}
@@ -39,9 +37,9 @@ fitting wanted squares fourths p q = rw (eq-eqb squares wanted p, eq-eqb fourths
 
 -- what a call for totals leaves that none of its checks refuses
 left_by : {refused count : ℕ} {squared fourthed : List Float} {end : ℕ} {squares fourths work : List Float} → refused ≡ 0
-    → Totalled refused count squared fourthed end (Number count) squares squared fourths fourthed work (over (zeros end) work)
+    → Totalled refused count squared fourthed end (Ok count) squares squared fourths fourthed work (over (zeros end) work)
 unfolding settled cleared
-left_by e = rw e (record { answer = refl; squares_are = refl; fourths_are = refl; memory = refl })
+left_by e = rw e (record { answer = (refl, refl); squares_are = refl; fourths_are = refl; memory = refl })
 
 -- Sums of one chunk that 26 lets pass: doubles, 0 ≤ fourth powers ≤ squares ≤ samples, and neither is -0.0.
 pub record PlainSums (samples : ℕ) (squares fourths : Float) : Type 0 where
@@ -88,7 +86,7 @@ module _ {n floor : ℕ} {a b : List ℕ} {m : List Float} {us vs : List ℕ} {b
 
   -- `sample` over chunks of the run, with lists and memory that fit, is accepted and leaves their totals:
   pub run_sampled : (i e : ℕ) → from ≤ i → i ≤ e → e ≤ to → (squares fourths memory : List Float) → length squares ≡ sums given → length fourths ≡ sums given → end given ≤ length memory
-      → Sampled n floor a b m us vs betas factors manner arrangement Desk seed i e samples (Number (sampled_count i e samples)) squares (totals_of_drawn given seed i e samples (square ieee))
+      → Sampled n floor a b m us vs betas factors manner arrangement Desk seed i e samples (Ok (sampled_count i e samples)) squares (totals_of_drawn given seed i e samples (square ieee))
       fourths (totals_of_drawn given seed i e samples (fourth ieee)) memory (over (zeros (end given)) memory)
   run_sampled i e u v w squares fourths memory p q r =
       record { call = rw (fitting (sums given) (length squares) (length fourths) p q) (left_by (part-accepted call i e u v w (length memory) r)) }
@@ -114,7 +112,7 @@ module _ {n floor : ℕ} {a b : List ℕ} {m : List Float} {us vs : List ℕ} {b
   housed = house_given n floor a b m us vs betas manner arrangement Desk
 
   pub house_run_sampled : (i e : ℕ) → from ≤ i → i ≤ e → e ≤ to → (squares fourths memory : List Float) → length squares ≡ sums housed → length fourths ≡ sums housed → end housed ≤ length memory
-      → HouseSampled n floor a b m us vs betas manner arrangement Desk seed i e samples (Number (sampled_count i e samples)) squares (totals_of_drawn housed seed i e samples (square ieee))
+      → HouseSampled n floor a b m us vs betas manner arrangement Desk seed i e samples (Ok (sampled_count i e samples)) squares (totals_of_drawn housed seed i e samples (square ieee))
       fourths (totals_of_drawn housed seed i e samples (fourth ieee)) memory (over (zeros (end housed)) memory)
   house_run_sampled i e u v w squares fourths memory p q r =
       record { call = rw (fitting (sums housed) (length squares) (length fourths) p q) (left_by (part-accepted call i e u v w (length memory) r)) }

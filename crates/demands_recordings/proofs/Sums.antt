@@ -1,7 +1,7 @@
 -- The sums of a run's chunks, added from +0.0 in chunk order, are what `sample` leaves over all of them, bit for bit.
-use Rattle.std.specs.Prelude.{◌≡◌, refl, ℕ, zero, suc, ◌+◌, ◌-◌, ◌*◌, ◌<◌, Float, length, get_or}
+use Rattle.std.specs.Prelude.{◌≡◌, ℕ, ◌+◌, ◌-◌, ◌<◌, Float, get_or}
 use Rattle.std.proofs.Math.Path.{sym, ap, fun_ext}
-use Rattle.std.proofs.Common.{◌∙◌, arith}
+use Rattle.std.proofs.Common.{◌∙◌}
 use Rattle.std.specs.Float.{nan}
 use Rattle.list_laws.proofs.Laws.Tabulate.{tabulate-at}
 use Rattle.transfer_matrix.specs.Arithmetic.{sum}

@@ -1,6 +1,6 @@
 -- Both arrangements write the same bytes, where there is room for both; and bytes depend on nothing that the lists held, nor on memory past the room.
 use Rattle.std.specs.Prelude.{◌≡◌, refl, List, ℕ, ◌*◌, Float, length}
-use Rattle.std.proofs.Common.{sym, ap, ◌∙◌}
+use Rattle.std.proofs.Common.{sym, ◌∙◌}
 use Rattle.limits.specs.declared.Caller.TheVariants.{Desk}
 use Rattle.transfer_matrix.specs.Room.{keep_all}
 use Rattle.refusals.specs.Couplings.{all_couplings}

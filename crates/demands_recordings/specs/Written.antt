@@ -1,18 +1,16 @@
 -- What an accepted call of `sample_record`, or of its house twin, wrote: the record of its run. By the source of the factors, so it is said once for both.
-use Rattle.std.specs.Prelude.{◌≡◌, refl, Bool, true, false, cond, not, ◌&&◌, List, ℕ, ◌+◌, ◌-◌, ◌*◌, ◌≤◌, ◌<◌, ltb, Float, length}
+use Rattle.std.specs.Prelude.{◌≡◌, refl, Bool, true, false, cond, ◌&&◌, List, ℕ, ◌+◌, ◌-◌, ◌*◌, ◌≤◌, ◌<◌, ltb, Float, length}
 use Rattle.std.proofs.Common.{sym, ◌∙◌, subst, mul-le-mul_right, arith, le-ltb}
 use Rattle.std.proofs.Math.Path.{ap}
-use Rattle.limits.specs.Limits.{most_samples, most_named, most_betas, most_pairs}
+use Rattle.limits.specs.Limits.{most_samples, most_betas, most_pairs}
 use Rattle.limits.specs.declared.Caller.TheVariants.{Desk}
 use Rattle.list_laws.specs.Front.{over}
 use Rattle.list_laws.specs.Search.{some}
 use Rattle.list_laws.proofs.Laws.Search.{none-at, none_of}
-use Rattle.transfer_matrix.specs.Room.{room}
 use Rattle.refusals.specs.Edges.{kept}
-use Rattle.refusals.specs.Request.{Request, Source, sampled, sweep_request, bad_list, source_number, too_many_chunks}
-use Rattle.refusals.specs.Refusal.{refusal, of_recording, of_sampling, sourced}
+use Rattle.refusals.specs.Request.{Source, sampled, sweep_request, bad_list, too_many_chunks}
+use Rattle.refusals.specs.Refusal.{refusal, of_sampling, sourced}
 use Rattle.refusals.specs.AcceptedJob.{AcceptedJob, buffers_refusal}
-use Rattle.refusals.specs.AcceptedTotals.{sampling_lists}
 use Rattle.refusals.specs.Accepted.{AcceptedBetas}
 use Rattle.refusals.proofs.Laws.First.{unless}
 use Rattle.refusals.proofs.Laws.Later.{or_else, both-passed}

@@ -1,5 +1,5 @@
 -- What the totals of an accepted run record are: exact, counted, and bounded.
-use Rattle.std.specs.Prelude.{◌≡◌, refl, Bool, true, false, cond, List, ℕ, ◌+◌, ◌*◌, ◌-◌, ◌<◌, Float, length, get_or}
+use Rattle.std.specs.Prelude.{◌≡◌, refl, Bool, true, false, cond, List, ℕ, ◌+◌, ◌*◌, ◌<◌, Float, length, get_or}
 use Rattle.std.proofs.Common.{ap, ◌∙◌, arith}
 use Rattle.std.specs.Float.{nan, binary64}
 use Rattle.list_laws.proofs.Laws.Tabulate.{tabulate-at, tabulate_ext}
@@ -12,8 +12,11 @@ use Rattle.transfer_matrix.specs.Rounded.{ieee}
 use Rattle.bounds.proofs.Laws.Pairs.{sum_is}
 use Rattle.half_vectors.proofs.Laws.Terms.{sum_same}
 use Rattle.refusals.specs.AcceptedTotals.{misfits}
-use Rattle.refusals.specs.declared.Answer.{Answer}
-use Rattle.refusals.specs.declared.Answer.TheVariants.{Number}
+use Rattle.std.specs.declared.result.Result.{Result}
+use Rattle.std.specs.declared.result.Result.TheVariants.{Ok, Err}
+use Rattle.refusals.specs.declared.Refusal.{Refusal}
+use Rattle.refusals.specs.Answers.{Answered}
+use Rattle.refusals.proofs.Laws.Answers.{number-not_zero}
 use Rattle.run_record.specs.declared.Head.{Head}
 use Rattle.run_record.specs.Records.{chunks_of, per_chunk}
 use Rattle.run_record.specs.Reading.{head_of, squares_in, fourths_in, bad_record}
@@ -35,9 +38,14 @@ none_of_two true y h = absurd (omega arith)
 none_of_two false true h = absurd (omega arith)
 none_of_two false false h = (refl, refl)
 
+-- what an accepted call answers
+counted : {x : ℕ} (k : ℕ) (r : Result ℕ Refusal) → k ≡ 0 → Answered k x r → r ≡ Ok x
+counted k (Ok y) z e = ap Ok e.1
+counted k (Err f) z e = absurd (number-not_zero f (e.0 ∙ z))
+
 -- ---- An accepted call for totals
 
-module _ (bytes : List ℕ) (b : Bytes bytes) (r : Answer) (squares squares' fourths fourths' : List Float) (call : Totalled bytes r squares squares' fourths fourths')
+module _ (bytes : List ℕ) (b : Bytes bytes) (r : Result ℕ Refusal) (squares squares' fourths fourths' : List Float) (call : Totalled bytes r squares squares' fourths fourths')
     (accepted : refused_totals bytes (length squares) (length fourths) ≡ 0) where
   abbrev h : Head
   h = head_of bytes
@@ -60,8 +68,8 @@ module _ (bytes : List ℕ) (b : Bytes bytes) (r : Answer) (squares squares' fou
       ap (λ (x : List Float). get_or x k nan) e ∙ totals_at (chunks_of h) (per_chunk h) (fourths_in bytes) k l
 
   -- answers chunks times samples,
-  pub totals_counted : r ≡ Number (chunks_of h * h.samples)
-  totals_counted = call.answer ∙ rw accepted
+  pub totals_counted : r ≡ Ok (chunks_of h * h.samples)
+  totals_counted = counted _ r accepted call.answer
 
   -- and in every total 0 ≤ fourth powers ≤ squares ≤ count.
   pub totals_bounded : (k : ℕ) → k < per_chunk h → Ordered binary64 (get_or fourths' k nan) (get_or squares' k nan) (chunks_of h * h.samples)

@@ -1,6 +1,6 @@
 -- What accepted calls of `sample_record`, or of its house twin, wrote: records that 26 lets pass, whose totals are those of `sample`; and two of one job, whose ranges follow
 -- one another, join to what one long call writes.
-use Rattle.std.specs.Prelude.{◌≡◌, List, ℕ, ◌-◌, ◌*◌, ◌≤◌, ◌<◌, eqb, Float}
+use Rattle.std.specs.Prelude.{◌≡◌, List, ℕ, ◌-◌, ◌*◌, ◌≤◌, ◌<◌, Float}
 use Rattle.std.proofs.Common.{sym, ap, ◌∙◌, arith, eq-eqb}
 use Rattle.limits.specs.Limits.{most_samples}
 use Rattle.limits.specs.declared.Caller.TheVariants.{Desk}

@@ -1,5 +1,5 @@
 -- The record of a job's run over some chunks, whose sums are such as 26 lets pass: what is read from it, its totals, and two whose ranges follow one another.
-use Rattle.std.specs.Prelude.{◌≡◌, refl, false, ℕ, ◌+◌, ◌-◌, ◌*◌, ◌≤◌, ◌<◌, Float, length, get_or}
+use Rattle.std.specs.Prelude.{◌≡◌, false, ℕ, ◌+◌, ◌-◌, ◌*◌, ◌≤◌, ◌<◌, Float, length, get_or}
 use Rattle.std.proofs.Common.{sym, subst, ◌∙◌, arith, drop_at}
 use Rattle.std.proofs.Math.Path.{ap}
 use mathlib.Core.List.{List, ◌++◌, append_assoc}
@@ -10,7 +10,6 @@ use Rattle.std.proofs.Math.ListN.{drop}
 use Rattle.limits.specs.Limits.{most_samples}
 use Rattle.list_laws.proofs.Laws.Tabulate.{tabulate_ext}
 use Rattle.little_endian.specs.Rows.{rows}
-use Rattle.transfer_matrix.specs.Arithmetic.{sum}
 use Rattle.transfer_matrix.specs.Rounded.{ieee}
 use Rattle.transfer_matrix.specs.Totals.{square, fourth, chunked, sampled, sampled_count}
 use Rattle.half_vectors.proofs.Laws.Terms.{sum_same}
@@ -26,7 +25,7 @@ use Rattle.run_record_totals.specs.Totals.{totals_of, total_squares, total_fourt
 use Rattle.run_record_join.specs.Joining.{in_turn}
 use Rattle.demands_records.proofs.Laws.Rows.{rows_same, rows_both}
 use Rattle.record_call.specs.Calls.{head_for, sums_for, record_for}
-use Rattle.demands_recordings.proofs.Sums.{drawn, chunk_is}
+use Rattle.demands_recordings.proofs.Sums.{chunk_is}
 use Rattle.demands_recordings.proofs.Laws.Squares.{Even, even_square, even_fourth}
 
 module _ (g : Given) (seed samples : ℕ) where

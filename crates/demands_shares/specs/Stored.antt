@@ -10,7 +10,6 @@ use Rattle.limits.specs.declared.Caller.{Caller}
 use Rattle.transfer_matrix.specs.Rounded.{ieee}
 use Rattle.transfer_matrix.specs.Sweep as S
 use Rattle.transfer_matrix.specs.Totals.{enumerated_count}
-use Rattle.refusals.specs.declared.Answer.TheVariants.{Number}
 use Rattle.refusals.specs.Request.{most_stored}
 use Rattle.entry_correlations.specs.declared.Manner.{Manner}
 use Rattle.totals_call.specs.Jobs.{stored_count}
@@ -18,7 +17,7 @@ use Rattle.totals_call.specs.Calls.{EnumeratedEach, refused_storing}
 use Rattle.demands.proofs.Configurations as C
 use Rattle.demands.proofs.Configurations.{accepted-number, few-free}
 use Rattle.demands.proofs.Storing.{stored-at, stored-bounded}
-use Rattle.shares.specs.declared.answer.Answer.TheVariants.{Pooled}
+use Rattle.std.specs.declared.result.Result.TheVariants.{Ok}
 use Rattle.shares.specs.Shares.{most_lists, pooled, shares_of}
 use Rattle.shares.specs.Lists.{shares_by}
 use Rattle.shares.proofs.Theorems.{equal_lists_answered, by_rule}
@@ -26,7 +25,7 @@ use Rattle.demands_shares.specs.Laws.{good_entry, settled-length}
 
 module _ {n floor : ℕ} {a b : List ℕ} {m : List Float} {us vs : List ℕ} {betas factors : List Float} {manner : Manner} {arrangement : Arrangement} {caller : Caller}
     {stored stored' work work' : List Float} {count : ℕ}
-    (call : EnumeratedEach n floor a b m us vs betas factors manner arrangement caller (Number count) stored stored' work work') where
+    (call : EnumeratedEach n floor a b m us vs betas factors manner arrangement caller (Ok count) stored stored' work work') where
   abbrev free : ℕ
   free = C.free a b m
 
@@ -46,14 +45,14 @@ module _ {n floor : ℕ} {a b : List ℕ} {m : List Float} {us vs : List ℕ} {b
   many = settled-length _ _ _ stored stored' accepted.0 call.call.stored_are
 
   -- Up to 256 lists, one a beta and pair, are never refused.
-  pub stored_not_25 : 0 < lists → lists ≤ most_lists → shares_of stored' (replicate lists (2 ^ free)) ≡ Pooled (pooled stored')
+  pub stored_not_25 : 0 < lists → lists ≤ most_lists → shares_of stored' (replicate lists (2 ^ free)) ≡ Ok (pooled stored')
   stored_not_25 l h =
       equal_lists_answered stored' lists (2 ^ free) l h (pow_pos free) few many (λ k i. good_entry (get_or stored' k nan) (stored-bounded call k i))
 
   -- The shares of a beta and pair are parts of all configurations: of those whose correlation, by the definition, is of each kind.
   pub stored_shares : (beta p : ℕ) → beta < length betas → p < length us
       → shares_of (part stored' ((beta * length us + p) * 2 ^ free) (2 ^ free)) (2 ^ free ∷ [])
-      ≡ Pooled (shares_by (λ x. S.answer ieee (C.configuration n floor a b m factors manner x beta) (get_or us p 0) (get_or vs p 0)) (2 ^ free))
+      ≡ Ok (shares_by (λ x. S.answer ieee (C.configuration n floor a b m factors manner x beta) (get_or us p 0) (get_or vs p 0)) (2 ^ free))
   stored_shares beta p l k =
       let q = beta * length us + p in
       let below : q + 1 ≤ lists = omega (arith, mul-le-mul_right (length us) l) in

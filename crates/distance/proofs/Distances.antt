@@ -6,7 +6,7 @@ use native.Mathlib.Decide.{ℕ_discrete}
 use native.Mathlib.Omega.{arith}
 use lib.ListN.{length, get_or, set, length-set, replicate, length-replicate, get_or-replicate}
 use lib.Seq.{get_or-set_same, get_or-set_other}
-use Rattle.distance.specs.declared.Reach.TheVariants.{Length, NotJoined}
+use Rattle.std.specs.Prelude.{Some, None}
 use Rattle.distance.specs.Walks.{Inside, Adjacent, along, back, Walk, Distance}
 use Rattle.distance.specs.Lengths.{far, weigh, unknown, Entry, away, seen, Sound, Ready, Lowered, Settled}
 use Rattle.distance.proofs.Relaxation.{unknown_fewer}
@@ -92,8 +92,8 @@ module _ (n u : ℕ) (n≤ : n ≤ far) (u< : u < n) {early late d : List ℕ} (
           let e = (Z.edge j (omega arith) h).1 in
           (next_known (get_or late j 0) (get_or early j 0) (I j h).1 (I j h).0 e q.0, omega arith)
 
-  pub far_not_joined : (v : ℕ) → get_or d v 0 ≡ far → Distance early late u v NotJoined
+  pub far_not_joined : (v : ℕ) → get_or d v 0 ≡ far → Distance early late u v None
   far_not_joined v e k p = omega (arith, reach k v p)
 
-  pub known-length : (v : ℕ) → v < n → (get_or d v 0 ≡ far → ⊥) → Distance early late u v (Length (get_or d v 0))
+  pub known-length : (v : ℕ) → v < n → (get_or d v 0 ≡ far → ⊥) → Distance early late u v (Some (get_or d v 0))
   known-length v v< m = (entry_walk (end-sound.each v (inside v v<)) m, λ j l p. omega (arith, reach j v p))

@@ -1,8 +1,6 @@
 -- Walks in a graph, and the distance of two vertices: the least length of a walk.
 -- The edge at j joins the j-th entries of two lists, `early` and `late`.
-use Rattle.std.specs.Prelude.{◌≡◌, List, ℕ, zero, suc, ◌<◌, length, get_or}
-use Rattle.distance.specs.declared.Reach.{Reach}
-use Rattle.distance.specs.declared.Reach.TheVariants.{Length, NotJoined}
+use Rattle.std.specs.Prelude.{◌≡◌, Option, Some, None, List, ℕ, zero, suc, ◌<◌, length, get_or}
 
 -- the edges' ends are vertices below n
 abbrev pub Inside : List ℕ → List ℕ → ℕ → Type 0
@@ -19,6 +17,6 @@ Walk early late zero u v = u ≡ v
 Walk early late (suc k) u v = (w : ℕ) × Walk early late k u w × Adjacent early late w v
 
 -- the right answer: the length of a walk where none is shorter, or that there is no walk
-abbrev pub Distance : List ℕ → List ℕ → ℕ → ℕ → Reach → Type 0
-Distance early late u v (Length k) = Walk early late k u v × ((j : ℕ) → j < k → Walk early late j u v → ⊥)
-Distance early late u v NotJoined = (k : ℕ) → Walk early late k u v → ⊥
+abbrev pub Distance : List ℕ → List ℕ → ℕ → ℕ → Option ℕ → Type 0
+Distance early late u v (Some k) = Walk early late k u v × ((j : ℕ) → j < k → Walk early late j u v → ⊥)
+Distance early late u v None = (k : ℕ) → Walk early late k u v → ⊥

@@ -8,12 +8,6 @@ ghost use Rattle.distance.specs.Lengths.{Ready, Relaxed, EdgesRelaxed, Settled, 
 
 use limits::VERTICES;
 
-#[derive(Drop)]
-pub enum Reach {
-    Length(usize),
-    NotJoined,
-}
-
 // Relaxes the step from a to b: one more than a's length becomes b's where that is less. Returns whether it did.
 fn relax(d: &mut [usize], a: usize, b: usize) -> bool
     requires { (a < length d.old) × (b < length d.old) × (get_or d.old a 0 ≤ 1024) }
@@ -46,11 +40,9 @@ fn sweep_up(early: &[usize], late: &[usize], d: &mut [usize]) -> bool
     ensures { EdgesRelaxed early.now late.now 0 (length early.now) d.old result d.new }
 {
     let mut more = false;
-    let mut i: usize = 0;
-    while i < early.len() {
+    for i in 0..early.len() {
         let x = relax_edge(early, late, d, i);
         more = more | x;
-        i += 1;
     }
     more
 }
@@ -61,9 +53,7 @@ fn sweep_down(early: &[usize], late: &[usize], d: &mut [usize]) -> bool
     ensures { EdgesRelaxed early.now late.now 0 (length early.now) d.old result d.new }
 {
     let mut more = false;
-    let mut i = early.len();
-    while 0 < i {
-        i -= 1;
+    for i in (0..early.len()).rev() {
         let x = relax_edge(early, late, d, i);
         more = more | x;
     }
@@ -86,8 +76,8 @@ fn settle(early: &[usize], late: &[usize], d: &mut [usize])
     }
 }
 
-// 1024 stands for a length that is not known: a shortest walk meets no vertex twice, so it has fewer edges.
-pub fn shortest_walk(early: &[usize], late: &[usize], u: usize, v: usize) -> Reach
+// The length of a shortest walk, if one joins u and v. 1024 stands for a length that is not known: a shortest walk meets no vertex twice, so it has fewer edges.
+pub fn shortest_walk(early: &[usize], late: &[usize], u: usize, v: usize) -> Option<usize>
     requires { (length late.now ≡ length early.now) × Inside early.now late.now 1024 × (u < 1024) × (v < 1024) }
     ensures { Distance early.now late.now u v result }
 {
@@ -96,7 +86,7 @@ pub fn shortest_walk(early: &[usize], late: &[usize], u: usize, v: usize) -> Rea
     settle(early, late, &mut d);
     let r = d[v];
     if r == VERTICES {
-        return Reach::NotJoined;
+        return None;
     }
-    Reach::Length(r)
+    Some(r)
 }

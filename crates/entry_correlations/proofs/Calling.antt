@@ -12,7 +12,6 @@ use Rattle.transfer_matrix.specs.Configuration.{job_of}
 use Rattle.transfer_matrix.specs.Room as Room
 use Rattle.plan_layout.specs.declared.Arrangement.{Arrangement}
 use Rattle.plan_layout.specs.Arrangements.{arrangement_of}
-use Rattle.transfer_matrix.specs.Sweep as S
 use Rattle.refusals.specs.Edges.{kept, window_from, kept_early, kept_late}
 use Rattle.refusals.specs.Request.{Source, lent, house, call_request, correlation_request}
 use Rattle.refusals.specs.Refusal.{checks, refusal, of_job, of_lists, of_correlations, housed, sourced}

@@ -1,4 +1,5 @@
 // The pair correlations of one configuration, for callers.
+ghost use Rattle.refusals.specs.Numbers.{refused};
 ghost use Rattle.entry_correlations.specs.Correlations.{Correlated};
 
 use crate::Manner;
@@ -8,9 +9,10 @@ use job_checks::check_job;
 use job_run::answer_job;
 use limits::{Caller, EDGES};
 use plan_layout::{Arrangement, takes_less};
+use refusals::Refusal;
 
 // Writes the correlation of each pair to `results`. The edges come in three lists of ends and magnitudes, the pairs in two lists of ends;
-// one factor is lent for each kept edge. Returns the refusal's number, 0 for accepted.
+// one factor is lent for each kept edge.
 pub fn correlations(
     n: usize,
     floor: usize,
@@ -25,24 +27,20 @@ pub fn correlations(
     caller: Caller,
     results: &mut [f64],
     work: &mut [f64],
-) -> usize
+) -> Result<(), Refusal>
     ensures { Correlated n floor a.now b.now m.now us.now vs.now
-        factors.now manner arrangement caller result results.old results.new work.old work.new }
+        factors.now manner arrangement caller (refused result) results.old results.new work.old work.new }
 {
     let mut early = [0usize; EDGES];
     let mut late = [0usize; EDGES];
     let mut mag = [0.0f64; EDGES];
     let job = check_job(
         caller, n, floor, a, b, m, us, vs, &mut early, &mut late, &mut mag,
-    );
-    let refused = job.refusal;
-    if refused != 0 {
-        return refused;
-    }
+    )?;
     let w = job.window;
     let edges = job.edges;
     let less = takes_less(arrangement);
-    let unfit = check_lists(
+    check_lists(
         less,
         n,
         w,
@@ -52,10 +50,7 @@ pub fn correlations(
         factors,
         results.len(),
         work.len(),
-    );
-    if unfit != 0 {
-        return unfit;
-    }
+    )?;
     let elementwise = is_elementwise(manner);
     if answer_job(
         n,
@@ -70,7 +65,7 @@ pub fn correlations(
         results,
         work,
     ) {
-        return 0;
+        return Ok(());
     }
-    14
+    Err(Refusal::PartitionSum)
 }

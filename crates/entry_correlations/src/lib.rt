@@ -8,7 +8,7 @@ pub use entry::correlations;
 pub use rescaling::is_elementwise;
 
 // How often a sweep is rescaled: every fourth step, or every step.
-#[derive(Drop)]
+#[derive(Clone, Copy, Debug, PartialEq, Eq)]
 pub enum Manner {
     Block,
     PerElement,

@@ -9,8 +9,5 @@ use crate::Manner;
 pub fn is_elementwise(manner: Manner) -> bool
     ensures { cond result per_element block ≡ manner_of manner }
 {
-    match manner {
-        Manner::Block => false,
-        Manner::PerElement => true,
-    }
+    manner == Manner::PerElement
 }

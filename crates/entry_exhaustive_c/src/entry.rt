@@ -10,7 +10,7 @@ use forest::number_free_edges;
 use job_checks::check_with_betas;
 use limits::{Caller, EDGES, STORED};
 use plan_layout::{Arrangement, takes_less};
-use refusals::Answer;
+use refusals::Refusal;
 use step_tables::pow2;
 
 // How many correlations there are, where the free edges are few enough.
@@ -41,7 +41,7 @@ pub fn exhaustive_c(
     caller: Caller,
     stored: &mut [f64],
     work: &mut [f64],
-) -> Answer
+) -> Result<usize, Refusal>
     ensures { EnumeratedEach n floor a.now b.now m.now us.now vs.now
         betas.now factors.now manner arrangement caller result stored.old stored.new work.old work.new }
 {
@@ -51,16 +51,12 @@ pub fn exhaustive_c(
     let mut mag = [0.0f64; EDGES];
     let job = check_with_betas(
         caller, n, floor, a, b, m, us, vs, betas, &mut early, &mut late, &mut mag,
-    );
-    let refused = job.refusal;
-    if refused != 0 {
-        return Answer::Refused(refused);
-    }
+    )?;
     let w = job.window;
     let edges = job.edges;
     let mut bits = [0usize; EDGES];
     let free = number_free_edges(n, &early[..edges], &late[..edges], &mut bits[..edges]);
-    let unfit = check_enumeration(
+    check_enumeration(
         caller,
         less,
         n,
@@ -76,10 +72,7 @@ pub fn exhaustive_c(
         stored.len(),
         stored.len(),
         work.len(),
-    );
-    if unfit != 0 {
-        return Answer::Refused(unfit);
-    }
+    )?;
     let elementwise = is_elementwise(manner);
     if store_job(
         n,
@@ -97,7 +90,7 @@ pub fn exhaustive_c(
         stored,
         work,
     ) {
-        return Answer::Number(pow2(free));
+        return Ok(pow2(free));
     }
-    Answer::Refused(14)
+    Err(Refusal::PartitionSum)
 }

@@ -7,6 +7,7 @@ ghost use Rattle.transfer_matrix.specs.Job.{block, per_element};
 ghost use Rattle.transfer_matrix.specs.Configuration.{job_of};
 ghost use Rattle.transfer_matrix.specs.Room.{arranged};
 ghost use Rattle.job_run.specs.Passed.{JobPassed, JobFinished};
+ghost use Rattle.refusals.specs.Numbers.{refused};
 ghost use Rattle.entry_correlations.specs.Correlations.{HouseCorrelated};
 
 use entry_correlations::{Manner, is_elementwise};
@@ -16,6 +17,7 @@ use job_checks::check_job;
 use job_run::answer_job;
 use limits::{Caller, EDGES};
 use plan_layout::{Arrangement, takes_less};
+use refusals::Refusal;
 
 // Lays the factors of the couplings, then answers the job. Returns whether every Z was finite and above zero.
 fn answer_laid(
@@ -54,7 +56,7 @@ fn answer_laid(
 }
 
 // Writes the correlation of each pair to `results`. The edges come in three lists of ends and magnitudes, the pairs in two lists of ends;
-// one coupling is lent for each kept edge, and its factor is the house table's. Returns the refusal's number, 0 for accepted.
+// one coupling is lent for each kept edge, and its factor is the house table's.
 pub fn house_correlations(
     n: usize,
     floor: usize,
@@ -69,24 +71,20 @@ pub fn house_correlations(
     caller: Caller,
     results: &mut [f64],
     work: &mut [f64],
-) -> usize
+) -> Result<(), Refusal>
     ensures { HouseCorrelated n floor a.now b.now m.now us.now vs.now
-        couplings.now manner arrangement caller result results.old results.new work.old work.new }
+        couplings.now manner arrangement caller (refused result) results.old results.new work.old work.new }
 {
     let mut early = [0usize; EDGES];
     let mut late = [0usize; EDGES];
     let mut mag = [0.0f64; EDGES];
     let job = check_job(
         caller, n, floor, a, b, m, us, vs, &mut early, &mut late, &mut mag,
-    );
-    let refused = job.refusal;
-    if refused != 0 {
-        return refused;
-    }
+    )?;
     let w = job.window;
     let edges = job.edges;
     let less = takes_less(arrangement);
-    let unfit = check_house_lists(
+    check_house_lists(
         less,
         n,
         w,
@@ -96,10 +94,7 @@ pub fn house_correlations(
         couplings,
         results.len(),
         work.len(),
-    );
-    if unfit != 0 {
-        return unfit;
-    }
+    )?;
     let mut factors = [0.0f64; EDGES];
     let elementwise = is_elementwise(manner);
     if answer_laid(
@@ -116,7 +111,7 @@ pub fn house_correlations(
         results,
         work,
     ) {
-        return 0;
+        return Ok(());
     }
-    14
+    Err(Refusal::PartitionSum)
 }

@@ -7,7 +7,7 @@ use house_checks::check_house_enumeration;
 use job_checks::check_with_betas;
 use limits::{COUNTED, Caller, EDGES};
 use plan_layout::{Arrangement, takes_less};
-use refusals::Answer;
+use refusals::Refusal;
 use step_tables::pow2;
 use totals_chunks::all_chunks;
 use totals_house::total_house_job;
@@ -29,7 +29,7 @@ pub fn house_exhaustive(
     squares: &mut [f64],
     fourths: &mut [f64],
     work: &mut [f64],
-) -> Answer
+) -> Result<usize, Refusal>
     ensures { HouseEnumerated n floor a.now b.now m.now us.now vs.now
         betas.now manner arrangement caller result squares.old squares.new
         fourths.old fourths.new work.old work.new }
@@ -40,16 +40,12 @@ pub fn house_exhaustive(
     let mut mag = [0.0f64; EDGES];
     let job = check_with_betas(
         caller, n, floor, a, b, m, us, vs, betas, &mut early, &mut late, &mut mag,
-    );
-    let refused = job.refusal;
-    if refused != 0 {
-        return Answer::Refused(refused);
-    }
+    )?;
     let w = job.window;
     let edges = job.edges;
     let mut bits = [0usize; EDGES];
     let free = number_free_edges(n, &early[..edges], &late[..edges], &mut bits[..edges]);
-    let unfit = check_house_enumeration(
+    check_house_enumeration(
         caller,
         less,
         n,
@@ -64,10 +60,7 @@ pub fn house_exhaustive(
         squares.len(),
         fourths.len(),
         work.len(),
-    );
-    if unfit != 0 {
-        return Answer::Refused(unfit);
-    }
+    )?;
     let elementwise = is_elementwise(manner);
     let chunks = all_chunks(free);
     if total_house_job(
@@ -87,7 +80,7 @@ pub fn house_exhaustive(
         fourths,
         work,
     ) {
-        return Answer::Number(pow2(free));
+        return Ok(pow2(free));
     }
-    Answer::Refused(14)
+    Err(Refusal::PartitionSum)
 }

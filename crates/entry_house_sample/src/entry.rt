@@ -6,7 +6,7 @@ use house_checks::check_house_sampling;
 use job_checks::check_with_betas;
 use limits::{Caller, EDGES};
 use plan_layout::{Arrangement, takes_less};
-use refusals::Answer;
+use refusals::Refusal;
 use totals_chunks::Chunks;
 use totals_house::total_house_job;
 use totals_sums::sampled_count;
@@ -33,7 +33,7 @@ pub fn house_sample(
     squares: &mut [f64],
     fourths: &mut [f64],
     work: &mut [f64],
-) -> Answer
+) -> Result<usize, Refusal>
     ensures { HouseSampled n floor a.now b.now m.now us.now vs.now
         betas.now manner arrangement caller seed from to samples result squares.old squares.new
         fourths.old fourths.new work.old work.new }
@@ -44,14 +44,10 @@ pub fn house_sample(
     let mut mag = [0.0f64; EDGES];
     let job = check_with_betas(
         caller, n, floor, a, b, m, us, vs, betas, &mut early, &mut late, &mut mag,
-    );
-    let refused = job.refusal;
-    if refused != 0 {
-        return Answer::Refused(refused);
-    }
+    )?;
     let w = job.window;
     let edges = job.edges;
-    let unfit = check_house_sampling(
+    check_house_sampling(
         less,
         n,
         w,
@@ -66,10 +62,7 @@ pub fn house_sample(
         squares.len(),
         fourths.len(),
         work.len(),
-    );
-    if unfit != 0 {
-        return Answer::Refused(unfit);
-    }
+    )?;
     let elementwise = is_elementwise(manner);
     let chunks = Chunks {
         drawn: true,
@@ -97,7 +90,7 @@ pub fn house_sample(
         fourths,
         work,
     ) {
-        return Answer::Number(sampled_count(from, to, samples));
+        return Ok(sampled_count(from, to, samples));
     }
-    Answer::Refused(14)
+    Err(Refusal::PartitionSum)
 }

@@ -1,4 +1,5 @@
 // A run of samples written as a record with house factors, for callers.
+ghost use Rattle.refusals.specs.Numbers.{refused};
 ghost use Rattle.record_call.specs.Calls.{HouseRecorded};
 
 use entry_correlations::{Manner, is_elementwise};
@@ -6,11 +7,12 @@ use job_checks::check_with_betas;
 use limits::{Caller, EDGES};
 use plan_layout::{Arrangement, takes_less};
 use record_checks::check_house_recording;
+use refusals::Refusal;
 use run_record::Head;
 use totals_house_record::record_house_job;
 
 // Writes the record of the chunks from `from` up to, and without, `to`: a head, and for each chunk, beta and pair a row with the sums of squares and of
-// fourth powers over that chunk alone. The factors are the house table's at beta times magnitude. Returns the refusal's number, 0 for accepted.
+// fourth powers over that chunk alone. The factors are the house table's at beta times magnitude.
 pub fn house_sample_record(
     n: usize,
     floor: usize,
@@ -28,9 +30,9 @@ pub fn house_sample_record(
     samples: usize,
     bytes: &mut [u8],
     work: &mut [f64],
-) -> usize
+) -> Result<(), Refusal>
     ensures { HouseRecorded n floor a.now b.now m.now us.now vs.now betas.now
-        manner arrangement seed from to samples result bytes.old bytes.new work.old work.new }
+        manner arrangement seed from to samples (refused result) bytes.old bytes.new work.old work.new }
 {
     let less = takes_less(arrangement);
     let mut early = [0usize; EDGES];
@@ -49,11 +51,7 @@ pub fn house_sample_record(
         &mut early,
         &mut late,
         &mut mag,
-    );
-    let refused = job.refusal;
-    if refused != 0 {
-        return refused;
-    }
+    )?;
     let w = job.window;
     let edges = job.edges;
     let head = Head {
@@ -64,7 +62,7 @@ pub fn house_sample_record(
         betas: betas.len(),
         pairs: us.len(),
     };
-    let unfit = check_house_recording(
+    check_house_recording(
         less,
         n,
         w,
@@ -75,10 +73,7 @@ pub fn house_sample_record(
         head,
         bytes.len(),
         work.len(),
-    );
-    if unfit != 0 {
-        return unfit;
-    }
+    )?;
     let elementwise = is_elementwise(manner);
     if record_house_job(
         n,
@@ -95,7 +90,7 @@ pub fn house_sample_record(
         bytes,
         work,
     ) {
-        return 0;
+        return Ok(());
     }
-    14
+    Err(Refusal::PartitionSum)
 }

@@ -1,5 +1,9 @@
 -- What a call for an error bound answers, from the graph, its window and the lent factors.
 use Rattle.std.specs.Prelude.{Bool, false, cond, not, ◌&&◌, List, [], ◌∷◌, ◌++◌, ℕ, zero, suc, ◌+◌, ◌*◌, ◌-◌, ◌/◌, ◌^◌, min, pos, Float, length, get_or}
+use Rattle.std.specs.declared.result.Result.{Result}
+use Rattle.std.specs.declared.result.Result.TheVariants.{Ok, Err}
+use Rattle.std.specs.declared.option.Option.{Option}
+use Rattle.std.specs.declared.option.Option.TheVariants.{Some, None}
 use Rattle.std.specs.Float.{nan, binary64}
 use Rattle.std.specs.Float.Ieee.{div, of_int, of_bits, le}
 use Rattle.limits.specs.declared.Caller.TheVariants.{Desk}
@@ -13,8 +17,11 @@ use Rattle.refusals.specs.Request.{Request, sweep_request, single, signed_factor
 use Rattle.refusals.specs.Key.{Key}
 use Rattle.refusals.specs.Refusal.{refusal, of_graph}
 use Rattle.accuracy.specs.Stated as Accuracy
-use Rattle.error_bound.specs.declared.answer.ErrorBound.{ErrorBound}
-use Rattle.error_bound.specs.declared.answer.ErrorBound.TheVariants.{Within, Unknown, Refused}
+
+-- An accepted call tells the bound, within which every correlation is of the exact value, or that none is proved, the factors being too far from one;
+-- any other tells the refusal's number.
+abbrev pub ErrorBound : Type 0
+ErrorBound = Result (Option Float) ℕ
 
 -- The most back edges shorter than the window that one of n vertices has.
 unfoldable pub most_near : {K : Type 0} → (n w : ℕ) → List (Edge K) → ℕ
@@ -43,8 +50,8 @@ near_one bits factors = not (some (λ e. not (inside_powers bits (get_or factors
 
 -- The answer, by the refusal's number: the bound where the factors are near enough to one, else none is known.
 abbrev pub bound_of : (refused n w near : ℕ) → List Float → ErrorBound
-bound_of zero n w near factors = cond (near_one (most_bits w near) factors) (Within (error_bound n w near)) Unknown
-bound_of (suc k) n w near factors = Refused (suc k)
+bound_of zero n w near factors = cond (near_one (most_bits w near) factors) (Ok (Some (error_bound n w near))) (Ok None)
+bound_of (suc k) n w near factors = Err (suc k)
 
 -- The checks that concern it: no pair is given, and nothing is swept.
 abbrev pub of_error_bound : List Key

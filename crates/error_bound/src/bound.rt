@@ -40,12 +40,10 @@ pub fn near_one(factors: &[f64], bits: usize) -> bool
     requires { bits < 53 }
     ensures { result ≡ near_one bits factors.now }
 {
-    let mut i = 0usize;
-    while i < factors.len() {
-        if !inside_powers(factors[i], bits) {
+    for x in factors {
+        if !inside_powers(*x, bits) {
             return false;
         }
-        i += 1;
     }
     true
 }

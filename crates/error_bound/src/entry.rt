@@ -3,16 +3,17 @@ ghost use Rattle.std.specs.Prelude.{◌≡◌, true, false, cond, [], ◌≤◌}
 ghost use Rattle.limits.specs.Limits.{most_betas, most_edges};
 ghost use Rattle.transfer_matrix.specs.Job.{too_many_near};
 ghost use Rattle.transfer_matrix.specs.Configuration.{numbered};
+ghost use Rattle.refusals.specs.Numbers.{by_number};
 ghost use Rattle.refusals.specs.Request.{bad_factor_list};
 ghost use Rattle.plan_steps.specs.Edges.{Edges};
 ghost use Rattle.error_bound.specs.Bound.{bound_of, most_near, factor_count, error_bound_of};
 
-use crate::answer::ErrorBound;
 use crate::bound::{bound_of, most_bits, near_one};
 use crate::near::most_near;
 use buffer_checks::bad_factors;
 use job_checks::check_with_betas;
 use limits::{Caller, EDGES};
+use refusals::Refusal;
 
 // Check 10, and the bound of a graph that 1 to 7 pass.
 fn bound_kept(
@@ -22,19 +23,19 @@ fn bound_kept(
     late: &[usize],
     factors: &[f64],
     count: usize,
-) -> ErrorBound
+) -> Result<Option<f64>, Refusal>
     requires { Edges early.now late.now n w × (too_many_near n w (numbered early.now late.now) ≡ false) }
-    ensures { result ≡ bound_of (cond (bad_factor_list factors.now count) 10 0) n w
+    ensures { by_number result ≡ bound_of (cond (bad_factor_list factors.now count) 10 0) n w
         (most_near n w (numbered early.now late.now)) factors.now }
 {
     if bad_factors(factors, count) {
-        return ErrorBound::Refused(10);
+        return Err(Refusal::Factors);
     }
     let near = most_near(n, w, early, late);
     if near_one(factors, most_bits(w, near)) {
-        return ErrorBound::Within(bound_of(n, w, near));
+        return Ok(Some(bound_of(n, w, near)));
     }
-    ErrorBound::Unknown
+    Ok(None)
 }
 
 // How many factors there should be: one for each kept edge or, signed, two for each beta and kept edge.
@@ -57,8 +58,8 @@ fn bound_job(
     betas: &[f64],
     factors: &[f64],
     signed: bool,
-) -> ErrorBound
-    ensures { result ≡ error_bound_of n floor a.now b.now m.now betas.now factors.now signed }
+) -> Result<Option<f64>, Refusal>
+    ensures { by_number result ≡ error_bound_of n floor a.now b.now m.now betas.now factors.now signed }
 {
     let mut early = [0usize; EDGES];
     let mut late = [0usize; EDGES];
@@ -76,18 +77,15 @@ fn bound_job(
         &mut early,
         &mut late,
         &mut mag,
-    );
-    let refused = job.refusal;
-    if refused != 0 {
-        return ErrorBound::Refused(refused);
-    }
+    )?;
     let w = job.window;
     let edges = job.edges;
     let count = factor_count(betas.len(), edges, signed);
     bound_kept(n, w, &early[..edges], &late[..edges], factors, count)
 }
 
-// How far each result of `correlations` can be from the exact correlation, for the same graph, floor and factors.
+// How far each result of `correlations` can be from the exact correlation, for the same graph, floor and factors; none where no bound is proved, the
+// factors being too far from one.
 pub fn error_bound(
     n: usize,
     floor: usize,
@@ -95,8 +93,8 @@ pub fn error_bound(
     b: &[usize],
     m: &[f64],
     factors: &[f64],
-) -> ErrorBound
-    ensures { result ≡ error_bound_of n floor a.now b.now m.now [] factors.now false }
+) -> Result<Option<f64>, Refusal>
+    ensures { by_number result ≡ error_bound_of n floor a.now b.now m.now [] factors.now false }
 {
     bound_job(n, floor, a, b, m, &m[..0], factors, false)
 }
@@ -110,8 +108,8 @@ pub fn totals_error_bound(
     m: &[f64],
     betas: &[f64],
     factors: &[f64],
-) -> ErrorBound
-    ensures { result ≡ error_bound_of n floor a.now b.now m.now betas.now factors.now true }
+) -> Result<Option<f64>, Refusal>
+    ensures { by_number result ≡ error_bound_of n floor a.now b.now m.now betas.now factors.now true }
 {
     bound_job(n, floor, a, b, m, betas, factors, true)
 }

@@ -16,10 +16,8 @@ fn most_planned(plan: &[usize], n: usize) -> usize
     ensures { result ≡ most (near_count plan.now) n }
 {
     let mut near = 0usize;
-    let mut t = 0usize;
-    while t < n {
+    for t in 0..n {
         let count = near_count(plan, t);
-        t += 1;
         if near < count {
             near = count;
         }

@@ -1,13 +1,17 @@
 -- What an estimate is, from the count of configurations and the sums of squares and of fourth powers: 01's number or values in each case.
 -- Each operation is rounded once, in the order written.
 use Rattle.std.specs.Prelude.{ℕ, ◌^◌, Bool, not, ◌&&◌, ◌||◌, cond, pos, ltb, eqb, Float}
+use Rattle.std.specs.declared.result.Result.{Result}
+use Rattle.std.specs.declared.result.Result.TheVariants.{Ok, Err}
 use Rattle.std.specs.Float.{binary64}
 use Rattle.std.specs.Float.Ieee.{lt, le, of_int, of_bits}
 use Rattle.transfer_matrix.specs.Rounded.{ieee}
+use Rattle.refusals.specs.declared.Refusal.{Refusal}
+use Rattle.refusals.specs.declared.Refusal.TheVariants.{Sums}
 use Rattle.sqrt.specs.Sqrt.{sqrt}
 use Rattle.estimate.specs.declared.answer.MeanError.{MeanError}
 use Rattle.estimate.specs.declared.answer.Estimate.{Estimate}
-use Rattle.estimate.specs.declared.answer.Estimate.TheVariants.{Estimated, TooFew, Complete, Refused}
+use Rattle.estimate.specs.declared.answer.Estimate.TheVariants.{Estimated, TooFew, Complete}
 open ieee use {◌⊖◌, ◌⊗◌, ◌⊘◌}
 
 infixl 60 ◌⊖◌
@@ -53,28 +57,28 @@ is_in_order n squares fourths = le +0·0 fourths && le fourths squares && le squ
 abbrev pub refuses : ℕ → Float → Float → Bool
 refuses count squares fourths = bad_count count || not (is_in_order (number count) squares fourths)
 
-unfoldable pub estimate_of : ℕ → Float → Float → Estimate
+unfoldable pub estimate_of : ℕ → Float → Float → Result Estimate Refusal
 estimate_of count squares fourths =
     let n = number count in
-    cond (refuses count squares fourths) (Refused 18)
-    (cond (eqb count 1) (TooFew (mean_of n squares))
-    (Estimated (mean_error_of n squares fourths)))
+    cond (refuses count squares fourths) (Err Sums)
+    (cond (eqb count 1) (Ok (TooFew (mean_of n squares)))
+    (Ok (Estimated (mean_error_of n squares fourths))))
 
 -- what an estimate leaves where a mean is to stand, where an error is, and where a spread is: what is there already where it has none
-abbrev pub mean_in : Estimate → Float → Float
-mean_in (Estimated e) old = e.mean
-mean_in (TooFew mean) old = mean
-mean_in (Complete e) old = e.mean
-mean_in (Refused k) old = old
+abbrev pub mean_in : Result Estimate Refusal → Float → Float
+mean_in (Ok (Estimated e)) old = e.mean
+mean_in (Ok (TooFew mean)) old = mean
+mean_in (Ok (Complete e)) old = e.mean
+mean_in (Err e) old = old
 
-abbrev pub error_in : Estimate → Float → Float
-error_in (Estimated e) old = e.error
-error_in (TooFew mean) old = old
-error_in (Complete e) old = e.error
-error_in (Refused k) old = old
+abbrev pub error_in : Result Estimate Refusal → Float → Float
+error_in (Ok (Estimated e)) old = e.error
+error_in (Ok (TooFew mean)) old = old
+error_in (Ok (Complete e)) old = e.error
+error_in (Err e) old = old
 
-abbrev pub spread_in : Estimate → Float → Float
-spread_in (Estimated e) old = old
-spread_in (TooFew mean) old = old
-spread_in (Complete e) old = e.spread
-spread_in (Refused k) old = old
+abbrev pub spread_in : Result Estimate Refusal → Float → Float
+spread_in (Ok (Estimated e)) old = old
+spread_in (Ok (TooFew mean)) old = old
+spread_in (Ok (Complete e)) old = e.spread
+spread_in (Err e) old = old

@@ -20,5 +20,4 @@ pub enum Estimate {
     Estimated(MeanError),
     TooFew(f64),
     Complete(MeanSpread),
-    Refused(usize),
 }

@@ -12,19 +12,20 @@ pub use answer::{Estimate, MeanError, MeanSpread};
 pub use error::at_least_zero;
 use error::mean_error;
 pub use order::{bad_count, in_order};
+use refusals::Refusal;
 
-pub fn estimate(count: usize, squares: f64, fourths: f64) -> Estimate
+pub fn estimate(count: usize, squares: f64, fourths: f64) -> Result<Estimate, Refusal>
     ensures { result ≡ estimate_of count squares fourths }
 {
     if bad_count(count) {
-        return Estimate::Refused(18);
+        return Err(Refusal::Sums);
     }
     let n = count as f64;
     if !in_order(n, squares, fourths) {
-        return Estimate::Refused(18);
+        return Err(Refusal::Sums);
     }
     if count == 1 {
-        return Estimate::TooFew(squares / n);
+        return Ok(Estimate::TooFew(squares / n));
     }
-    Estimate::Estimated(mean_error(n, squares, fourths))
+    Ok(Estimate::Estimated(mean_error(n, squares, fourths)))
 }

@@ -8,10 +8,7 @@ const MOST: usize = 0x0020_0000_0000_0000;
 pub fn bad_count(count: usize) -> bool
     ensures { result ≡ bad_count count }
 {
-    if count == 0 {
-        return true;
-    }
-    MOST < count
+    count == 0 || MOST < count
 }
 
 pub fn in_order(n: f64, squares: f64, fourths: f64) -> bool

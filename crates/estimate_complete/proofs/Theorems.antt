@@ -6,6 +6,7 @@ use Rattle.std.specs.Float.{binary64}
 use Rattle.std.specs.Float.Ieee.{fits, mul, le}
 use Rattle.rounding.specs.Powers.{Ordered}
 use Rattle.rounding.proofs.Laws.Under.{under_le}
+use Rattle.std.specs.declared.result.Result.TheVariants.{Ok}
 use Rattle.estimate.specs.declared.answer.MeanSpread.{MeanSpread}
 use Rattle.estimate.specs.declared.answer.Estimate.TheVariants.{Complete}
 use Rattle.estimate.specs.Estimates.{+0·0, +1·0, number, mean_of, estimate_of, mean_in}
@@ -19,7 +20,7 @@ use Rattle.estimate_complete.proofs.Laws.Accepted as Accepted
 use Rattle.estimate_complete.proofs.Laws.Accepted.{values, in_order, squares-least, squares-finite, fourths-finite, mean-least, mean-under, spread_below, ordered-order}
 use Rattle.estimate_complete.proofs.Laws.Alone.{itself_over_one, no_spread}
 
-module _ (count : ℕ) (squares fourths : Float) (e : MeanSpread) (accepted : complete_of count squares fourths ≡ Complete e) where
+module _ (count : ℕ) (squares fourths : Float) (e : MeanSpread) (accepted : complete_of count squares fourths ≡ Ok (Complete e)) where
   -- the count is a power of two up to 2 ^ 34
   pub counted : Power count
   counted = Accepted.counted count squares fourths e accepted
@@ -53,12 +54,12 @@ module _ (count : ℕ) (squares fourths : Float) (e : MeanSpread) (accepted : co
 
 -- Totals of a power of two of configurations that are in order are accepted.
 pub ordered_complete : {count : ℕ} {squares fourths : Float} → Power count → Ordered binary64 fourths squares count
-    → complete_of count squares fourths ≡ Complete (mean_spread_of (number count) squares fourths)
+    → complete_of count squares fourths ≡ Ok (Complete (mean_spread_of (number count) squares fourths))
 ordered_complete {count} {squares} {fourths} p o =
     sym (complete count squares fourths (power_complete p) (mean_spread_of (number count) squares fourths) refl (ordered-order count squares fourths o))
 
 -- One configuration, whose square is s and whose fourth power is s times s, rounded: the mean is s itself, and there is no spread.
-pub one-configuration : (s : Float) → T (fits binary64 s) → (e : MeanSpread) → complete_of 1 s (mul binary64 s s) ≡ Complete e
+pub one-configuration : (s : Float) → T (fits binary64 s) → (e : MeanSpread) → complete_of 1 s (mul binary64 s s) ≡ Ok (Complete e)
     → e ≡ record { mean = s; error = +0·0; spread = +0·0 }
 one-configuration s h e accepted =
     let f = mul binary64 s s in

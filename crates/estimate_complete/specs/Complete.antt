@@ -1,14 +1,18 @@
 -- What an estimate is where the totals are a complete enumeration: 02's number or values in each case.
 -- Each operation is rounded once, in the order written.
 use Rattle.std.specs.Prelude.{◌≡◌, ℕ, suc, ◌^◌, ◌≤◌, Bool, not, ◌||◌, cond, eqb, Float}
+use Rattle.std.specs.declared.result.Result.{Result}
+use Rattle.std.specs.declared.result.Result.TheVariants.{Ok, Err}
 use Rattle.std.specs.Float.{binary64}
 use Rattle.limits.specs.Limits.{most_counted}
 use Rattle.list_laws.specs.Search.{some}
 use Rattle.transfer_matrix.specs.Rounded.{ieee}
+use Rattle.refusals.specs.declared.Refusal.{Refusal}
+use Rattle.refusals.specs.declared.Refusal.TheVariants.{Sums}
 use Rattle.sqrt.specs.Sqrt.{sqrt}
 use Rattle.estimate.specs.declared.answer.MeanSpread.{MeanSpread}
 use Rattle.estimate.specs.declared.answer.Estimate.{Estimate}
-use Rattle.estimate.specs.declared.answer.Estimate.TheVariants.{Complete, Refused}
+use Rattle.estimate.specs.declared.answer.Estimate.TheVariants.{Complete}
 use Rattle.estimate.specs.Estimates.{+0·0, number, mean_of, at_least_zero, is_in_order}
 open ieee use {◌⊖◌, ◌⊗◌, ◌⊘◌}
 
@@ -41,6 +45,6 @@ mean_spread_of n squares fourths = record { mean = mean_of n squares; error = +0
 abbrev pub refuses_complete : ℕ → Float → Float → Bool
 refuses_complete count squares fourths = not (is_complete count) || not (is_in_order (number count) squares fourths)
 
-unfoldable pub complete_of : ℕ → Float → Float → Estimate
+unfoldable pub complete_of : ℕ → Float → Float → Result Estimate Refusal
 complete_of count squares fourths =
-    cond (refuses_complete count squares fourths) (Refused 18) (Complete (mean_spread_of (number count) squares fourths))
+    cond (refuses_complete count squares fourths) (Err Sums) (Ok (Complete (mean_spread_of (number count) squares fourths)))

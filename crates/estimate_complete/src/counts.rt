@@ -9,13 +9,11 @@ pub fn is_complete(count: usize) -> bool
     ensures { result ≡ is_complete count }
 {
     let mut power = 1usize;
-    let mut free = 0usize;
-    while free <= COUNTED {
+    for _free in 0..=COUNTED {
         if count == power {
             return true;
         }
         power *= 2;
-        free += 1;
     }
     false
 }

@@ -1,8 +1,10 @@
 -- What `estimates` answers and leaves: a sheet's columns of means and of errors, from the sums of every beta and pair.
 use Rattle.std.specs.Prelude.{◌≡◌, Bool, not, ◌||◌, cond, List, ℕ, eqb, Float, length, get_or}
+use Rattle.std.specs.declared.result.Result.{Result}
 use Rattle.std.specs.Float.{nan}
 use Rattle.list_laws.specs.Search.{some}
 use Rattle.list_laws.specs.Tabulate.{tabulate}
+use Rattle.refusals.specs.declared.Refusal.{Refusal}
 use Rattle.refusals.specs.Answers.{left}
 use Rattle.estimate.specs.declared.answer.Estimate.{Estimate}
 use Rattle.estimate.specs.Estimates.{number, bad_count, is_in_order, estimate_of, mean_in, error_in}
@@ -24,7 +26,7 @@ refusal_of count squares fourths means errors =
     (cond (bad_sums count squares fourths) 18 0))
 
 -- the estimate of place i
-abbrev pub estimate_at : ℕ → List Float → List Float → ℕ → Estimate
+abbrev pub estimate_at : ℕ → List Float → List Float → ℕ → Result Estimate Refusal
 estimate_at count squares fourths i = estimate_of count (at squares i) (at fourths i)
 
 -- the columns of an accepted call: each place's mean and error; where its estimate has no error, what was there

@@ -2,9 +2,11 @@
 #![tactic(auto)]
 
 ghost use Rattle.std.specs.Prelude.{◌≡◌, length};
+ghost use Rattle.refusals.specs.Numbers.{refused};
 ghost use Rattle.estimates.specs.Columns.{mean_column, error_column, Columns};
 
 use estimate::estimate;
+use refusals::Refusal;
 
 mod order;
 mod table;
@@ -26,30 +28,24 @@ fn fill_columns(
     ensures means_after { means.new ≡ mean_column count squares.now fourths.now means.old }
     ensures errors_after { errors.new ≡ error_column count squares.now fourths.now errors.old }
 {
-    let mut i = 0usize;
-    while i < squares.len() {
+    for i in 0..squares.len() {
         let answer = estimate(count, squares[i], fourths[i]);
         put_estimate(means, errors, i, answer);
-        i += 1;
     }
 }
 
-// Writes each place's mean to `means` and its standard error to `errors`; one configuration has no error, and `errors` stays. Returns the
-// refusal's number, 0 for accepted.
+// Writes each place's mean to `means` and its standard error to `errors`; one configuration has no error, and `errors` stays.
 pub fn estimates(
     count: usize,
     squares: &[f64],
     fourths: &[f64],
     means: &mut [f64],
     errors: &mut [f64],
-) -> usize
-    ensures { Columns count squares.now fourths.now result means.old means.new
+) -> Result<(), Refusal>
+    ensures { Columns count squares.now fourths.now (refused result) means.old means.new
         errors.old errors.new }
 {
-    let refused = refuse(count, squares, fourths, means.len(), errors.len());
-    if refused != 0 {
-        return refused;
-    }
+    refuse(count, squares, fourths, means.len(), errors.len())?;
     fill_columns(count, squares, fourths, means, errors);
-    0
+    Ok(())
 }

@@ -1,8 +1,10 @@
 // What refuses the sums of a sheet, and its columns.
 ghost use Rattle.std.specs.Prelude.{◌≡◌, length};
+ghost use Rattle.refusals.specs.Numbers.{refused};
 ghost use Rattle.estimates.specs.Columns.{bad_sums, refusal_of};
 
 use estimate::{bad_count, in_order};
+use refusals::Refusal;
 
 // Every place is looked at before anything is written.
 pub fn bad_sums(count: usize, squares: &[f64], fourths: &[f64]) -> bool
@@ -13,30 +15,34 @@ pub fn bad_sums(count: usize, squares: &[f64], fourths: &[f64]) -> bool
         return true;
     }
     let n = count as f64;
-    let mut i = 0usize;
-    while i < squares.len() {
+    for i in 0..squares.len() {
         if !in_order(n, squares[i], fourths[i]) {
             return true;
         }
-        i += 1;
     }
     false
 }
 
-pub fn refuse(count: usize, squares: &[f64], fourths: &[f64], means: usize, errors: usize) -> usize
-    ensures { result ≡ refusal_of count squares.now fourths.now means errors }
+pub fn refuse(
+    count: usize,
+    squares: &[f64],
+    fourths: &[f64],
+    means: usize,
+    errors: usize,
+) -> Result<(), Refusal>
+    ensures { refused result ≡ refusal_of count squares.now fourths.now means errors }
 {
     if squares.len() != fourths.len() {
-        return 2;
+        return Err(Refusal::ListLengths);
     }
     if means != squares.len() {
-        return 12;
+        return Err(Refusal::Buffer);
     }
     if errors != squares.len() {
-        return 12;
+        return Err(Refusal::Buffer);
     }
     if bad_sums(count, squares, fourths) {
-        return 18;
+        return Err(Refusal::Sums);
     }
-    0
+    Ok(())
 }

@@ -2,9 +2,11 @@
 #![tactic(auto)]
 
 ghost use Rattle.std.specs.Prelude.{◌≡◌, length};
+ghost use Rattle.refusals.specs.Numbers.{refused};
 ghost use Rattle.estimates_complete.specs.Columns.{mean_column, error_column, spread_column, CompleteColumns};
 
 use estimate_complete::mean_spread;
+use refusals::Refusal;
 
 mod order;
 mod table;
@@ -27,15 +29,13 @@ fn fill_columns(
     ensures errors_after { errors.new ≡ error_column squares.now }
     ensures spreads_after { spreads.new ≡ spread_column n squares.now fourths.now }
 {
-    let mut i = 0usize;
-    while i < squares.len() {
+    for i in 0..squares.len() {
         let row = mean_spread(n, squares[i], fourths[i]);
         put_row(means, errors, spreads, i, row);
-        i += 1;
     }
 }
 
-// Writes each place's mean, error and spread to the three columns. Returns the refusal's number, 0 for accepted.
+// Writes each place's mean, error and spread to the three columns.
 pub fn estimates_complete(
     count: usize,
     squares: &[f64],
@@ -43,21 +43,18 @@ pub fn estimates_complete(
     means: &mut [f64],
     errors: &mut [f64],
     spreads: &mut [f64],
-) -> usize
-    ensures { CompleteColumns count squares.now fourths.now result means.old means.new
+) -> Result<(), Refusal>
+    ensures { CompleteColumns count squares.now fourths.now (refused result) means.old means.new
         errors.old errors.new spreads.old spreads.new }
 {
-    let refused = refuse(
+    refuse(
         count,
         squares,
         fourths,
         means.len(),
         errors.len(),
         spreads.len(),
-    );
-    if refused != 0 {
-        return refused;
-    }
+    )?;
     fill_columns(count as f64, squares, fourths, means, errors, spreads);
-    0
+    Ok(())
 }

@@ -1,9 +1,11 @@
 // What refuses the sums of a complete enumeration, and the columns for them.
 ghost use Rattle.std.specs.Prelude.{◌≡◌};
+ghost use Rattle.refusals.specs.Numbers.{refused};
 ghost use Rattle.estimates_complete.specs.Columns.{refusal_of};
 
 use estimate_complete::is_complete;
 use estimates::bad_sums;
+use refusals::Refusal;
 
 // Every place is looked at before anything is written.
 pub fn refuse(
@@ -13,26 +15,26 @@ pub fn refuse(
     means: usize,
     errors: usize,
     spreads: usize,
-) -> usize
-    ensures { result ≡ refusal_of count squares.now fourths.now means errors spreads }
+) -> Result<(), Refusal>
+    ensures { refused result ≡ refusal_of count squares.now fourths.now means errors spreads }
 {
     if squares.len() != fourths.len() {
-        return 2;
+        return Err(Refusal::ListLengths);
     }
     if means != squares.len() {
-        return 12;
+        return Err(Refusal::Buffer);
     }
     if errors != squares.len() {
-        return 12;
+        return Err(Refusal::Buffer);
     }
     if spreads != squares.len() {
-        return 12;
+        return Err(Refusal::Buffer);
     }
     if !is_complete(count) {
-        return 18;
+        return Err(Refusal::Sums);
     }
     if bad_sums(count, squares, fourths) {
-        return 18;
+        return Err(Refusal::Sums);
     }
-    0
+    Ok(())
 }

@@ -1,5 +1,7 @@
 -- The settled examples of document 01 that are to be proved, in its order: one list of statements, and one statement over it.
 use Rattle.std.specs.Prelude.{◌≡◌, refl, true, false, List, [], ◌∷◌, map, ℕ, zero, suc, ◌<◌, pos, negsuc, Float, get_or}
+use Rattle.std.specs.declared.result.Result.TheVariants.{Ok}
+use Rattle.std.specs.declared.option.Option.TheVariants.{Some}
 use Rattle.std.proofs.Common.{sym, arith}
 use Rattle.std.specs.Float.{fin, binary64}
 use Rattle.std.specs.Float.Ieee.{round, of_bits, of_int, add, sub, mul, div, neg, lt, le}
@@ -10,7 +12,6 @@ use Rattle.list_laws.specs.Count.{count}
 use Rattle.forest.specs.Labels.{is_tree, labels}
 use Rattle.forest.specs.FreeEdges.{free_before, bit_of, bits_of}
 use Rattle.distance.specs.Walks.{Distance, Walk, Adjacent, along, back}
-use Rattle.distance.specs.declared.Reach.TheVariants.{Length}
 use Rattle.transfer_matrix.specs.Job.{Edge, Job, Manner, block, per_element, window_of}
 use Rattle.transfer_matrix.specs.Sweep.{answer}
 use Rattle.transfer_matrix.specs.Room.{room, keep_all, less_room}
@@ -104,10 +105,10 @@ examples =
     -- pair 0-3: nearest 225/353, then +0.0; its distance is 2
     ∷ (answer ieee (configuration 0) 0 3 ≡ nearest 225 353)
     ∷ (answer ieee (configuration 1) 0 3 ≡ +0·0)
-    ∷ Distance early late 0 3 (Length 2)
+    ∷ Distance early late 0 3 (Some 2)
     -- count 2, sums 1 and 1: mean 0.5, error 0.5; count 1, sums 1 and 1: too few, mean 1
-    ∷ (estimate_of 2 one one ≡ Estimated (record { mean = half; error = half }))
-    ∷ (estimate_of 1 one one ≡ TooFew one)
+    ∷ (estimate_of 2 one one ≡ Ok (Estimated (record { mean = half; error = half })))
+    ∷ (estimate_of 1 one one ≡ Ok (TooFew one))
     ∷ []
 
 -- ---- no walk from 0 to 3 is shorter than 2
@@ -128,7 +129,7 @@ no_start (suc (suc zero)) b q = omega arith
 no_start (suc (suc (suc zero))) b q = omega arith
 no_start (suc (suc (suc (suc j)))) b q = omega arith
 
-two-apart : Distance (early_ends square_edges) (late_ends square_edges) 0 3 (Length 2)
+two-apart : Distance (early_ends square_edges) (late_ends square_edges) 0 3 (Some 2)
 unfolding Walk
 two-apart = ((2, (0, refl, along 1 (omega arith)), along 3 (omega arith)), shorter)
   where

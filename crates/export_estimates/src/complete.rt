@@ -1,9 +1,9 @@
 // The estimate of a complete enumeration, and the columns of its sheet.
 ghost use Rattle.std.specs.Prelude.{◌≡◌};
+ghost use Rattle.refusals.specs.Numbers.{refused};
 ghost use Rattle.estimate.specs.Estimates.{mean_in, error_in, spread_in};
 ghost use Rattle.estimate_complete.specs.Complete.{complete_of};
 ghost use Rattle.estimates_complete.specs.Columns.{CompleteColumns};
-ghost use Rattle.c_answers.specs.Estimated.{number_of};
 
 use c_answers::tell_complete;
 
@@ -17,7 +17,7 @@ pub extern "C" fn copperhook_estimate_complete(
     error: &mut f64,
     spread: &mut f64,
 ) -> usize
-    ensures value { result ≡ number_of (complete_of count squares fourths) }
+    ensures value { result ≡ refused (complete_of count squares fourths) }
     ensures mean_after { mean.new ≡ mean_in (complete_of count squares fourths) mean.old }
     ensures error_after { error.new ≡ error_in (complete_of count squares fourths) error.old }
     ensures spread_after { spread.new ≡ spread_in (complete_of count squares fourths) spread.old }
@@ -39,5 +39,8 @@ pub extern "C" fn copperhook_estimates_complete(
     ensures { CompleteColumns count squares.now fourths.now result means.old means.new
         errors.old errors.new spreads.old spreads.new }
 {
-    estimates_complete::estimates_complete(count, squares, fourths, means, errors, spreads)
+    let answer = estimates_complete::estimates_complete(
+        count, squares, fourths, means, errors, spreads,
+    );
+    refusals::refused(answer)
 }

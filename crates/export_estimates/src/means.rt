@@ -1,8 +1,9 @@
 // The estimate that a count and two sums give, and the columns of a sheet.
 ghost use Rattle.std.specs.Prelude.{◌≡◌};
+ghost use Rattle.refusals.specs.Numbers.{refused};
 ghost use Rattle.estimate.specs.Estimates.{estimate_of, mean_in, error_in};
 ghost use Rattle.estimates.specs.Columns.{Columns};
-ghost use Rattle.c_answers.specs.Estimated.{number_of, enough_of};
+ghost use Rattle.c_answers.specs.Estimated.{enough_of};
 
 use c_answers::tell_estimate;
 
@@ -17,7 +18,7 @@ pub extern "C" fn copperhook_estimate(
     mean: &mut f64,
     error: &mut f64,
 ) -> usize
-    ensures value { result ≡ number_of (estimate_of count squares fourths) }
+    ensures value { result ≡ refused (estimate_of count squares fourths) }
     ensures enough_after { enough.new ≡ enough_of (estimate_of count squares fourths) enough.old }
     ensures mean_after { mean.new ≡ mean_in (estimate_of count squares fourths) mean.old }
     ensures error_after { error.new ≡ error_in (estimate_of count squares fourths) error.old }
@@ -38,5 +39,6 @@ pub extern "C" fn copperhook_estimates(
     ensures { Columns count squares.now fourths.now result means.old means.new
         errors.old errors.new }
 {
-    estimates::estimates(count, squares, fourths, means, errors)
+    let answer = estimates::estimates(count, squares, fourths, means, errors);
+    refusals::refused(answer)
 }

@@ -2,6 +2,8 @@
 ghost use Rattle.std.specs.Prelude.{◌≡◌};
 ghost use Rattle.couplings.specs.Couplings.{Coupled};
 
+use refusals::refused;
+
 // As `couplings::couplings`.
 #[unsafe(no_mangle)]
 pub extern "C" fn copperhook_couplings(
@@ -15,5 +17,5 @@ pub extern "C" fn copperhook_couplings(
     ensures { Coupled n a.now b.now m.now betas.now result
         results.old results.new }
 {
-    couplings::couplings(n, a, b, m, betas, results)
+    refused(couplings::couplings(n, a, b, m, betas, results))
 }

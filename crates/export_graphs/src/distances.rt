@@ -5,7 +5,7 @@ ghost use Rattle.refusals.specs.Request.{distance_request};
 ghost use Rattle.refusals.specs.Refusal.{refusal, of_distance};
 ghost use Rattle.export_graphs.specs.Distances.{Told};
 
-use c_answers::tell_distance;
+use c_answers::tell_found;
 
 // As `graph::distance`: `joined` tells whether a walk leads from u to v, and `edges` the least number of its edges. Where the call is
 // refused both keep what they held, and where no walk leads there `edges` does.
@@ -25,5 +25,5 @@ pub extern "C" fn copperhook_distance(
         u v result joined.old joined.new edges.old edges.new }
 {
     let answer = graph::distance(n, a, b, m, u, v);
-    tell_distance(answer, joined, edges)
+    tell_found(answer, joined, edges)
 }

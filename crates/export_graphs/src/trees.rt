@@ -7,6 +7,8 @@ ghost use Rattle.refusals.specs.Refusal.{refusal, of_graph_with_buffers};
 ghost use Rattle.refusals.specs.Answers.{left};
 ghost use Rattle.graph.specs.Graphs.{component_names};
 
+use refusals::refused;
+
 // As `graph::spanning_forest`, with its free edges numbered.
 #[unsafe(no_mangle)]
 pub extern "C" fn copperhook_spanning_forest(
@@ -18,7 +20,7 @@ pub extern "C" fn copperhook_spanning_forest(
 ) -> usize
     ensures { (result ≡ refusal of_graph_with_buffers (graph_request n a.now b.now m.now (not (eqb (length bits.old) (length (kept a.now b.now m.now)))))) × (bits.new ≡ left result (bits_of (kept_early a.now b.now m.now) (kept_late a.now b.now m.now)) bits.old) × (result ≡ 0 → ForestBits n (kept_early a.now b.now m.now) (kept_late a.now b.now m.now) bits.new) }
 {
-    graph::spanning_forest(n, a, b, m, bits)
+    refused(graph::spanning_forest(n, a, b, m, bits))
 }
 
 // As `graph::components`.
@@ -32,5 +34,5 @@ pub extern "C" fn copperhook_components(
 ) -> usize
     ensures { (result ≡ refusal of_graph_with_buffers (graph_request n a.now b.now m.now (not (eqb (length names.old) n)))) × (names.new ≡ left result (component_names n (kept_early a.now b.now m.now) (kept_late a.now b.now m.now)) names.old) }
 {
-    graph::components(n, a, b, m, names)
+    refused(graph::components(n, a, b, m, names))
 }

@@ -3,7 +3,7 @@ ghost use Rattle.std.specs.Prelude.{◌≡◌, true, false, []};
 ghost use Rattle.error_bound.specs.Bound.{error_bound_of};
 ghost use Rattle.error_bound.specs.Cases.{number_of, known_in, bound_in};
 
-use c_answers::tell_bound;
+use c_answers::tell_found;
 
 // As `error_bound::error_bound`: `known` tells whether a bound is known, and `bound` is then it. Where none is `bound` keeps what it held,
 // and where the call is refused both do.
@@ -25,7 +25,7 @@ pub extern "C" fn copperhook_error_bound(
         ≡ bound_in (error_bound_of n floor a.now b.now m.now [] factors.now false) bound.old }
 {
     let answer = error_bound::error_bound(n, floor, a, b, m, factors);
-    tell_bound(answer, known, bound)
+    tell_found(answer, known, bound)
 }
 
 // As `error_bound::totals_error_bound`, told in the same way.
@@ -49,5 +49,5 @@ pub extern "C" fn copperhook_totals_error_bound(
         ≡ bound_in (error_bound_of n floor a.now b.now m.now betas.now factors.now true) bound.old }
 {
     let answer = error_bound::totals_error_bound(n, floor, a, b, m, betas, factors);
-    tell_bound(answer, known, bound)
+    tell_found(answer, known, bound)
 }

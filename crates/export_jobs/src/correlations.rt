@@ -4,6 +4,7 @@ ghost use Rattle.entry_correlations.specs.Correlations.{Correlated};
 ghost use Rattle.c_values.specs.Options.{options_numbered};
 
 use c_values::options_numbered;
+use refusals::refused;
 
 // As `entry_correlations::correlations`.
 #[unsafe(no_mangle)]
@@ -27,7 +28,7 @@ pub extern "C" fn copperhook_correlations(
     let manner = asked.manner;
     let arrangement = asked.arrangement;
     let caller = asked.caller;
-    entry_correlations::correlations(
+    let answer = entry_correlations::correlations(
         n,
         floor,
         a,
@@ -41,5 +42,6 @@ pub extern "C" fn copperhook_correlations(
         caller,
         results,
         work,
-    )
+    );
+    refused(answer)
 }

@@ -6,6 +6,7 @@ ghost use Rattle.c_values.specs.Options.{options_numbered};
 
 use c_correlations::correlations_between;
 use c_pair_records::{Pair, gather};
+use refusals::refused;
 
 // As `copperhook_correlations`, with one list of pairs where that has two lists of ends.
 #[unsafe(no_mangle)]
@@ -24,7 +25,7 @@ pub extern "C" fn copperhook_correlations_of(
     ensures { Correlated n floor a.now b.now m.now (firsts pairs.now) (seconds pairs.now)
         factors.now (options_numbered options).manner (options_numbered options).arrangement (options_numbered options).caller result results.old results.new work.old work.new }
 {
-    correlations_between(
+    let answer = correlations_between(
         gather(pairs),
         n,
         floor,
@@ -35,5 +36,6 @@ pub extern "C" fn copperhook_correlations_of(
         options,
         results,
         work,
-    )
+    );
+    refused(answer)
 }

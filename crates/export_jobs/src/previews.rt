@@ -1,24 +1,30 @@
 // What dropping an edge would do, through references.
 ghost use Rattle.plan_layout.specs.Arrangements.{arrangement_of};
-ghost use Rattle.preview.specs.Previewed.{preview_of};
+ghost use Rattle.preview.specs.Previewed.{Cost, Costs, preview_of};
 ghost use Rattle.c_values.specs.Options.{arrangement_in};
 ghost use Rattle.export_jobs.specs.Previews.{Tells};
 
 use c_values::arrangement_in;
-use preview::Preview;
+use preview::Figures;
+use refusals::Refusal;
 
 // Where the call is refused, `window`, `free` and `room` keep what they held.
-fn tell_preview(answer: Preview, window: &mut usize, free: &mut usize, room: &mut usize) -> usize
-    ensures { Tells answer result window.old window.new free.old free.new room.old room.new }
+fn tell_preview(
+    answer: Result<Figures, Refusal>,
+    window: &mut usize,
+    free: &mut usize,
+    room: &mut usize,
+) -> usize
+    ensures { (c : Cost) → Costs c answer → Tells c result window.old window.new free.old free.new room.old room.new }
 {
     match answer {
-        Preview::Costs(figures) => {
+        Ok(figures) => {
             *window = figures.window;
             *free = figures.free;
             *room = figures.room;
             0
         }
-        Preview::Refused(number) => number,
+        Err(refusal) => refusal.number(),
     }
 }
 

@@ -3,6 +3,7 @@ ghost use Rattle.record_call.specs.Calls.{HouseRecorded};
 ghost use Rattle.c_values.specs.Options.{options_numbered};
 
 use c_values::options_numbered;
+use refusals::refused;
 
 // As `entry_house_sample_record::house_sample_record`. Of the options the manner and the arrangement are read: the call is never the tester's.
 #[unsafe(no_mangle)]
@@ -29,7 +30,7 @@ pub extern "C" fn copperhook_house_sample_record(
     let asked = options_numbered(options);
     let manner = asked.manner;
     let arrangement = asked.arrangement;
-    entry_house_sample_record::house_sample_record(
+    let answer = entry_house_sample_record::house_sample_record(
         n,
         floor,
         a,
@@ -46,5 +47,6 @@ pub extern "C" fn copperhook_house_sample_record(
         samples,
         bytes,
         work,
-    )
+    );
+    refused(answer)
 }

@@ -3,6 +3,7 @@ ghost use Rattle.record_call.specs.Calls.{Recorded};
 ghost use Rattle.c_values.specs.Options.{options_numbered};
 
 use c_values::options_numbered;
+use refusals::refused;
 
 // As `entry_sample_record::sample_record`. Of the options the manner and the arrangement are read: the call is never the tester's.
 #[unsafe(no_mangle)]
@@ -30,7 +31,7 @@ pub extern "C" fn copperhook_sample_record(
     let asked = options_numbered(options);
     let manner = asked.manner;
     let arrangement = asked.arrangement;
-    entry_sample_record::sample_record(
+    let answer = entry_sample_record::sample_record(
         n,
         floor,
         a,
@@ -48,5 +49,6 @@ pub extern "C" fn copperhook_sample_record(
         samples,
         bytes,
         work,
-    )
+    );
+    refused(answer)
 }

@@ -1,8 +1,10 @@
 // Run records by the C calling convention: two joined to one, and the totals of one.
 #![tactic(auto)]
 
-ghost use Rattle.std.specs.Prelude.{◌≡◌};
-ghost use Rattle.refusals.specs.Answers.{answered};
+ghost use Rattle.std.specs.Prelude.{◌≡◌, ℕ};
+ghost use Rattle.std.specs.declared.result.Result.{Result};
+ghost use Rattle.refusals.specs.declared.Refusal.{Refusal};
+ghost use Rattle.refusals.specs.Answers.{Answered};
 ghost use Rattle.run_record_join.specs.Joining.{Joined};
 ghost use Rattle.run_record_totals.specs.Totals.{Totalled};
 
@@ -15,7 +17,8 @@ use run_record_totals::record_totals;
 pub extern "C" fn copperhook_record_join(one: &[u8], two: &[u8], joined: &mut [u8]) -> usize
     ensures { Joined one.now two.now result joined.old joined.new }
 {
-    record_join(one, two, joined)
+    let answer = record_join(one, two, joined);
+    refusals::refused(answer)
 }
 
 // As `run_record_totals::record_totals`, how many samples there are in `count`; where the call is refused, that keeps what it held.
@@ -26,8 +29,8 @@ pub extern "C" fn copperhook_record_totals(
     fourths: &mut [f64],
     count: &mut usize,
 ) -> usize
-    ensures totalled { Totalled bytes.now (answered result count.new) squares.old squares.new fourths.old
-        fourths.new }
+    ensures totalled { (answer : Result ℕ Refusal) × Answered result count.new answer
+        × Totalled bytes.now answer squares.old squares.new fourths.old fourths.new }
     ensures count_unchanged { (result ≡ 0 → ⊥) → count.new ≡ count.old }
 {
     let answer = record_totals(bytes, squares, fourths);

@@ -2,9 +2,10 @@
 #![tactic(auto)]
 
 ghost use Rattle.std.specs.Prelude.{◌≡◌};
-ghost use Rattle.shares.specs.Shares.{shares_of, number_of, words_of, words_in};
+ghost use Rattle.refusals.specs.Numbers.{refused};
+ghost use Rattle.shares.specs.Shares.{shares_of, words_of, words_in};
 
-use shares::{Answer, Shares};
+use shares::Shares;
 
 // Top and bottom of each share: above zero, zero, below zero, 1/2 or more in size.
 fn words_of(s: Shares) -> [u64; 8]
@@ -33,16 +34,16 @@ pub extern "C" fn copperhook_shares(
     lengths: &[usize],
     words: &mut [u64; 8],
 ) -> usize
-    ensures value { result ≡ number_of (shares_of stored.now lengths.now) }
+    ensures value { result ≡ refused (shares_of stored.now lengths.now) }
     ensures words_after { words.new ≡ words_in (shares_of stored.now lengths.now) words.old }
 {
     let answer = shares::shares(stored, lengths);
     match answer {
-        Answer::Pooled(s) => {
+        Ok(s) => {
             let told = words_of(s);
             *words = told;
             0
         }
-        Answer::Refused(number) => number,
+        Err(refusal) => refusal.number(),
     }
 }

@@ -1,20 +1,29 @@
 -- What reading a whole sheet leaves in references and lists.
 use Rattle.std.specs.Prelude.{◌≡◌, List, ℕ}
+use Rattle.std.specs.declared.result.Result.{Result}
+use Rattle.std.specs.declared.result.Result.TheVariants.{Ok, Err}
 use Rattle.list_laws.specs.Front.{over}
+use Rattle.refusals.specs.declared.Refusal.{Refusal}
+use Rattle.refusals.specs.Numbers.{refused}
 use Rattle.refusals.specs.Answers.{left}
 use Rattle.job_sheet.specs.Counts.{counts_of}
 use Rattle.job_sheet_bytes.specs.Jobs.{job_of}
 use Rattle.job_sheet_lists.specs.Lists.{refusal_of}
 use Rattle.job_sheet_lists.specs.declared.answer.SheetJob.{SheetJob}
 
+-- what an answered job leaves where the number `old` stood: a number of it, or `old` where the sheet is refused
+abbrev pub part_in : (SheetJob → ℕ) → Result SheetJob Refusal → (old : ℕ) → ℕ
+part_in part (Ok job) old = part job
+part_in part (Err e) old = old
+
 -- the numbers of a sheet's job
-pub record TellsJob (job : SheetJob) (r n n' floor floor' edges edges' pairs pairs' betas betas' : ℕ) : Type 0 where
-  pub number : r ≡ job.refusal
-  pub vertices : n' ≡ left job.refusal job.n n
-  pub floors : floor' ≡ left job.refusal job.floor floor
-  pub some_edges : edges' ≡ left job.refusal job.edges edges
-  pub some_pairs : pairs' ≡ left job.refusal job.pairs pairs
-  pub some-betas : betas' ≡ left job.refusal job.betas betas
+pub record TellsJob (answer : Result SheetJob Refusal) (r n n' floor floor' edges edges' pairs pairs' betas betas' : ℕ) : Type 0 where
+  pub number : r ≡ refused answer
+  pub vertices : n' ≡ part_in (λ job. job.n) answer n
+  pub floors : floor' ≡ part_in (λ job. job.floor) answer floor
+  pub some_edges : edges' ≡ part_in (λ job. job.edges) answer edges
+  pub some_pairs : pairs' ≡ part_in (λ job. job.pairs) answer pairs
+  pub some-betas : betas' ≡ part_in (λ job. job.betas) answer betas
 
 -- A call's answer r, and what it leaves: the job of the sheet, or all as it was.
 pub record Told (sheet : List ℕ) (r n n' floor floor' : ℕ) (a a' b b' m m' us us' vs vs' x x' : List ℕ) (edges edges' pairs pairs' betas betas' : ℕ) : Type 0 where

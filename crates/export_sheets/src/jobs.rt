@@ -2,29 +2,31 @@
 ghost use Rattle.export_sheets.specs.Jobs.{TellsJob, Told};
 
 use job_sheet_lists::{SheetJob, sheet_job};
+use refusals::Refusal;
 
 // The numbers of a sheet through references; where it is refused, all keep what they held.
 fn tell_job(
-    job: SheetJob,
+    answer: Result<SheetJob, Refusal>,
     n: &mut usize,
     floor: &mut usize,
     edges: &mut usize,
     pairs: &mut usize,
     n_betas: &mut usize,
 ) -> usize
-    ensures { TellsJob job result n.old n.new floor.old floor.new edges.old edges.new
+    ensures { TellsJob answer result n.old n.new floor.old floor.new edges.old edges.new
         pairs.old pairs.new n_betas.old n_betas.new }
 {
-    let refusal = job.refusal;
-    if refusal != 0 {
-        return refusal;
+    match answer {
+        Ok(job) => {
+            *n = job.n;
+            *floor = job.floor;
+            *edges = job.edges;
+            *pairs = job.pairs;
+            *n_betas = job.betas;
+            0
+        }
+        Err(refusal) => refusal.number(),
     }
-    *n = job.n;
-    *floor = job.floor;
-    *edges = job.edges;
-    *pairs = job.pairs;
-    *n_betas = job.betas;
-    0
 }
 
 // As `job_sheet_lists::sheet_job`, its numbers through references, which keep what they held where the call is refused.

@@ -1,13 +1,15 @@
 // One record of a sheet.
 ghost use Rattle.std.specs.Prelude.{◌<◌, ◌^◌};
+ghost use Rattle.refusals.specs.Numbers.{by_number};
 ghost use Rattle.job_sheet.specs.Records.{record_at, next_of};
 ghost use Rattle.export_sheets.specs.Records.{Tells};
 
 use job_sheet::{Record, read_record};
+use refusals::Refusal;
 
 // The parts of a record at `place` through references; what it has not keeps what it held.
 fn tell_record(
-    answer: Record,
+    answer: Result<Record, Refusal>,
     place: usize,
     kind: &mut usize,
     next: &mut usize,
@@ -15,19 +17,19 @@ fn tell_record(
     second: &mut usize,
     value: &mut u64,
 ) -> usize
-    requires { next_of answer place 0 < 2 ^ 64 }
-    ensures { Tells answer place result kind.old kind.new next.old next.new first.old first.new
+    requires { next_of (by_number answer) place 0 < 2 ^ 64 }
+    ensures { Tells (by_number answer) place result kind.old kind.new next.old next.new first.old first.new
         second.old second.new value.old value.new }
 {
     match answer {
-        Record::Size(n, floor) => {
+        Ok(Record::Size(n, floor)) => {
             *kind = 1;
             *next = place + 4;
             *first = n;
             *second = floor;
             0
         }
-        Record::Edge(a, b, m) => {
+        Ok(Record::Edge(a, b, m)) => {
             *kind = 2;
             *next = place + 13;
             *first = a;
@@ -35,25 +37,25 @@ fn tell_record(
             *value = m;
             0
         }
-        Record::Beta(x) => {
+        Ok(Record::Beta(x)) => {
             *kind = 3;
             *next = place + 9;
             *value = x;
             0
         }
-        Record::Pair(u, v) => {
+        Ok(Record::Pair(u, v)) => {
             *kind = 4;
             *next = place + 5;
             *first = u;
             *second = v;
             0
         }
-        Record::End => {
+        Ok(Record::End) => {
             *kind = 5;
             *next = place + 1;
             0
         }
-        Record::Refused(number) => number,
+        Err(refusal) => refusal.number(),
     }
 }
 

@@ -5,7 +5,7 @@ ghost use Rattle.c_values.specs.Kinds.{kind_numbered};
 ghost use Rattle.export_strips.specs.Kinds.{is_known, kind_of};
 
 use c_values::{kind_numbered, number_of, strip_numbered};
-use strip::{Kind, Parsed};
+use strip::Kind;
 
 // As `Kind::parse`: whether the name means a kind. Its number is then in `kind`, which keeps what it held where there is none.
 #[unsafe(no_mangle)]
@@ -14,11 +14,11 @@ pub extern "C" fn copperhook_kind_parse(name: &[u8], kind: &mut usize) -> bool
 {
     let answer = Kind::parse(name);
     match answer {
-        Parsed::Known(known) => {
+        Some(known) => {
             *kind = number_of(known);
             true
         }
-        Parsed::NoKind => false,
+        None => false,
     }
 }
 

@@ -1,14 +1,13 @@
 // A strip by four numbers: its vertices and its window.
-ghost use Rattle.std.specs.Prelude.{◌≡◌, false, ◌*◌};
+ghost use Rattle.std.specs.Prelude.{◌≡◌, false, ◌*◌, is_some, unwrap_or};
 ghost use Rattle.refusals.specs.Answers.{left};
 ghost use Rattle.refusals.specs.StripRequest.{strip_refusal, of_sides, of_strip};
 ghost use Rattle.strip_window.specs.Window.{window_of};
 ghost use Rattle.strip.specs.Requests.{strip_request};
 ghost use Rattle.strip.specs.Vertices.{sited};
 ghost use Rattle.c_values.specs.Kinds.{strip_numbered};
-ghost use Rattle.c_answers.specs.Vertices.{number_of, inside_of, vertex_of};
 
-use c_answers::{tell_number, tell_vertex};
+use c_answers::{tell_found, tell_number};
 use c_values::strip_numbered;
 
 // As `Strip::n`, the number of vertices in `n`; where the call is refused, that keeps what it held.
@@ -41,13 +40,13 @@ pub extern "C" fn copperhook_strip_vid(
     inside: &mut bool,
     vertex: &mut usize,
 ) -> usize
-    ensures value { result ≡ number_of (sited (strip_refusal of_sides (strip_request (strip_numbered kind w l periodic) false)) (strip_numbered kind w l periodic) x y) }
-    ensures inside_after { inside.new ≡ inside_of (sited (strip_refusal of_sides (strip_request (strip_numbered kind w l periodic) false)) (strip_numbered kind w l periodic) x y) inside.old }
-    ensures vertex_after { vertex.new ≡ vertex_of (sited (strip_refusal of_sides (strip_request (strip_numbered kind w l periodic) false)) (strip_numbered kind w l periodic) x y) vertex.old }
+    ensures value { result ≡ strip_refusal of_sides (strip_request (strip_numbered kind w l periodic) false) }
+    ensures inside_after { inside.new ≡ left result (is_some (sited (strip_numbered kind w l periodic) x y)) inside.old }
+    ensures vertex_after { vertex.new ≡ left result (unwrap_or (sited (strip_numbered kind w l periodic) x y) vertex.old) vertex.old }
 {
     let s = strip_numbered(kind, w, l, periodic);
     let answer = s.vid(x, y);
-    tell_vertex(answer, inside, vertex)
+    tell_found(answer, inside, vertex)
 }
 
 // As `strip_window::window`, in `window`; where the call is refused, that keeps what it held.

@@ -1,12 +1,15 @@
 // The entries that take house factors, with the options as a number and the count through a reference.
-ghost use Rattle.std.specs.Prelude.{◌≡◌};
-ghost use Rattle.refusals.specs.Answers.{answered};
+ghost use Rattle.std.specs.Prelude.{◌≡◌, ℕ};
+ghost use Rattle.std.specs.declared.result.Result.{Result};
+ghost use Rattle.refusals.specs.declared.Refusal.{Refusal};
 ghost use Rattle.entry_correlations.specs.Correlations.{HouseCorrelated};
 ghost use Rattle.totals_call.specs.Calls.{HouseEnumerated, HouseEnumeratedEach, HouseSampled};
 ghost use Rattle.c_values.specs.Options.{options_numbered};
+ghost use Rattle.c_answers.specs.Numbers.{Tells};
 
 use c_answers::tell_number;
 use c_values::options_numbered;
+use refusals::refused;
 
 // As `entry_house_correlations::house_correlations`.
 #[unsafe(no_mangle)]
@@ -30,7 +33,7 @@ pub extern "C" fn copperhook_house_correlations(
     let manner = asked.manner;
     let arrangement = asked.arrangement;
     let caller = asked.caller;
-    entry_house_correlations::house_correlations(
+    let answer = entry_house_correlations::house_correlations(
         n,
         floor,
         a,
@@ -44,7 +47,8 @@ pub extern "C" fn copperhook_house_correlations(
         caller,
         results,
         work,
-    )
+    );
+    refused(answer)
 }
 
 // As `entry_house_exhaustive::house_exhaustive`, how many configurations there are in `count`; where the call is refused, that keeps what it held.
@@ -64,9 +68,10 @@ pub extern "C" fn copperhook_house_exhaustive(
     work: &mut [f64],
     count: &mut usize,
 ) -> usize
-    ensures house_enumerated { HouseEnumerated n floor a.now b.now m.now us.now vs.now
+    ensures house_enumerated { (answer : Result ℕ Refusal) × Tells answer result count.old count.new
+        × HouseEnumerated n floor a.now b.now m.now us.now vs.now
         betas.now (options_numbered options).manner (options_numbered options).arrangement (options_numbered options).caller
-        (answered result count.new) squares.old squares.new fourths.old fourths.new work.old work.new }
+        answer squares.old squares.new fourths.old fourths.new work.old work.new }
     ensures count_unchanged { (result ≡ 0 → ⊥) → count.new ≡ count.old }
 {
     let asked = options_numbered(options);
@@ -108,9 +113,10 @@ pub extern "C" fn copperhook_house_exhaustive_c(
     work: &mut [f64],
     count: &mut usize,
 ) -> usize
-    ensures house_enumerated_each { HouseEnumeratedEach n floor a.now b.now m.now us.now vs.now
+    ensures house_enumerated_each { (answer : Result ℕ Refusal) × Tells answer result count.old count.new
+        × HouseEnumeratedEach n floor a.now b.now m.now us.now vs.now
         betas.now (options_numbered options).manner (options_numbered options).arrangement (options_numbered options).caller
-        (answered result count.new) stored.old stored.new work.old work.new }
+        answer stored.old stored.new work.old work.new }
     ensures count_unchanged { (result ≡ 0 → ⊥) → count.new ≡ count.old }
 {
     let asked = options_numbered(options);
@@ -156,9 +162,10 @@ pub extern "C" fn copperhook_house_sample(
     work: &mut [f64],
     count: &mut usize,
 ) -> usize
-    ensures house_sampled { HouseSampled n floor a.now b.now m.now us.now vs.now
+    ensures house_sampled { (answer : Result ℕ Refusal) × Tells answer result count.old count.new
+        × HouseSampled n floor a.now b.now m.now us.now vs.now
         betas.now (options_numbered options).manner (options_numbered options).arrangement (options_numbered options).caller seed from to samples
-        (answered result count.new) squares.old squares.new fourths.old fourths.new work.old work.new }
+        answer squares.old squares.new fourths.old fourths.new work.old work.new }
     ensures count_unchanged { (result ≡ 0 → ⊥) → count.new ≡ count.old }
 {
     let asked = options_numbered(options);

@@ -1,8 +1,10 @@
 // Totals over configurations, and every configuration's correlations, with the count through a reference.
-ghost use Rattle.std.specs.Prelude.{◌≡◌};
-ghost use Rattle.refusals.specs.Answers.{answered};
+ghost use Rattle.std.specs.Prelude.{◌≡◌, ℕ};
+ghost use Rattle.std.specs.declared.result.Result.{Result};
+ghost use Rattle.refusals.specs.declared.Refusal.{Refusal};
 ghost use Rattle.totals_call.specs.Calls.{Enumerated, EnumeratedEach, Sampled};
 ghost use Rattle.c_values.specs.Options.{options_numbered};
+ghost use Rattle.c_answers.specs.Numbers.{Tells};
 
 use c_answers::tell_number;
 use c_values::options_numbered;
@@ -25,9 +27,10 @@ pub extern "C" fn copperhook_exhaustive(
     work: &mut [f64],
     count: &mut usize,
 ) -> usize
-    ensures enumerated { Enumerated n floor a.now b.now m.now us.now vs.now
+    ensures enumerated { (answer : Result ℕ Refusal) × Tells answer result count.old count.new
+        × Enumerated n floor a.now b.now m.now us.now vs.now
         betas.now factors.now (options_numbered options).manner (options_numbered options).arrangement (options_numbered options).caller
-        (answered result count.new) squares.old squares.new fourths.old fourths.new work.old work.new }
+        answer squares.old squares.new fourths.old fourths.new work.old work.new }
     ensures count_unchanged { (result ≡ 0 → ⊥) → count.new ≡ count.old }
 {
     let asked = options_numbered(options);
@@ -71,9 +74,10 @@ pub extern "C" fn copperhook_exhaustive_c(
     work: &mut [f64],
     count: &mut usize,
 ) -> usize
-    ensures enumerated_each { EnumeratedEach n floor a.now b.now m.now us.now vs.now
+    ensures enumerated_each { (answer : Result ℕ Refusal) × Tells answer result count.old count.new
+        × EnumeratedEach n floor a.now b.now m.now us.now vs.now
         betas.now factors.now (options_numbered options).manner (options_numbered options).arrangement (options_numbered options).caller
-        (answered result count.new) stored.old stored.new work.old work.new }
+        answer stored.old stored.new work.old work.new }
     ensures count_unchanged { (result ≡ 0 → ⊥) → count.new ≡ count.old }
 {
     let asked = options_numbered(options);
@@ -121,9 +125,10 @@ pub extern "C" fn copperhook_sample(
     work: &mut [f64],
     count: &mut usize,
 ) -> usize
-    ensures sampled { Sampled n floor a.now b.now m.now us.now vs.now
+    ensures sampled { (answer : Result ℕ Refusal) × Tells answer result count.old count.new
+        × Sampled n floor a.now b.now m.now us.now vs.now
         betas.now factors.now (options_numbered options).manner (options_numbered options).arrangement (options_numbered options).caller seed from to samples
-        (answered result count.new) squares.old squares.new fourths.old fourths.new work.old work.new }
+        answer squares.old squares.new fourths.old fourths.new work.old work.new }
     ensures count_unchanged { (result ≡ 0 → ⊥) → count.new ≡ count.old }
 {
     let asked = options_numbered(options);

@@ -37,12 +37,10 @@ pub fn number_free_edges(n: usize, early: &[usize], late: &[usize], bits: &mut [
     let p = &mut parents[..n];
     start(p);
     let mut free: usize = 0;
-    let mut e: usize = 0;
-    while e < early.len() {
+    for e in 0..early.len() {
         let joins = union_lower(p, early[e], late[e]);
         bits[e] = bit_or_none(joins, free);
         free = with_edge(joins, free);
-        e += 1;
     }
     free
 }

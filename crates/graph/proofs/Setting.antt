@@ -4,31 +4,29 @@ use mathlib.Core.Bool.{false}
 use mathlib.Core.List.{List}
 use Prim.Native.Nat.{ℕ, ◌<◌}
 use lib.Dec.{leb}
-use lib.ListN.{length}
 use borrow.Author.Tests.{leb-false}
 use Rattle.list_laws.proofs.Laws.Search.{or-false}
 use Rattle.refusals.specs.Request.{outside}
+use Rattle.std.specs.Prelude.{Option, Some, None, Ok, Err}
+use Rattle.refusals.specs.declared.Refusal.{Refusal}
+use Rattle.refusals.specs.Numbers.{number}
 use Rattle.distance.specs.Walks.{Distance}
-use Rattle.distance.specs.declared.Reach.TheVariants as Reach
 use Rattle.forest.specs.Lowest.{lowest_marks}
 use Rattle.forest.proofs.Laws.Marks.{marks-lowest, marks-counted}
 use Rattle.kept_edges.specs.Keep.{KeptEdges}
-use Rattle.refusals.proofs.Laws.Answers.{left_alone}
+use Rattle.refusals.proofs.Laws.Answers.{number-not_zero, left_alone}
 use Rattle.graph.specs.Graphs.{measure_of, ComponentMarks}
 use Rattle.graph.specs.declared.graph.Measure.{Measure}
 use Rattle.graph.specs.Reached.{Distanced}
 use Rattle.graph.proofs.Building.{joined}
-use Rattle.graph.specs.declared.graph.Reached.TheVariants as Reached
 
 -- ---- the answer of `distance`
-pub refused-distance : (K : ℕ) (early late : List ℕ) (u v r : ℕ) → r ≡ K → (r ≡ 0 → ⊥) → Distanced K early late u v (Reached.Refused r)
-refused-distance K early late u v r e z = record { number = e; values = λ k. absurd (z (e ∙ k)) }
+pub refused-distance : {K u v : ℕ} {early late : List ℕ} (e : Refusal) → number e ≡ K → Distanced K early late u v (Err e)
+refused-distance e p = record { number = p; values = λ z. absurd (number-not_zero e (p ∙ z)) }
 
-pub length-distance : (K : ℕ) (early late : List ℕ) (u v k : ℕ) → 0 ≡ K → Distance early late u v (Reach.Length k) → Distanced K early late u v (Reached.Length k)
-length-distance K early late u v k e d = record { number = e; values = λ z joined length. d }
-
-pub no_distance : (K : ℕ) (early late : List ℕ) (u v : ℕ) → 0 ≡ K → Distance early late u v Reach.NotJoined → Distanced K early late u v Reached.NotJoined
-no_distance K early late u v e d = record { number = e; values = λ z joined length. d }
+pub told-distance : {K u v : ℕ} {early late : List ℕ} (x : Option ℕ) → 0 ≡ K → Distance early late u v x → Distanced K early late u v (Ok x)
+told-distance (Some k) e d = record { number = e; values = λ z joined length. d }
+told-distance None e d = record { number = e; values = λ z joined length. d }
 
 pub inside_both : (n u v : ℕ) → outside n u v ≡ false → (u < n) × (v < n)
 inside_both n u v h = let p = or-false (leb n u) (leb n v) h in (leb-false n u p.0, leb-false n v p.1)

@@ -3,4 +3,4 @@
 
 mod graph;
 
-pub use graph::{Reached, components, cyclomatic, distance, n_components, spanning_forest, window};
+pub use graph::{components, cyclomatic, distance, n_components, spanning_forest, window};

@@ -10,6 +10,11 @@ use Rattle.limits.specs.Limits.{most_vertices, most_edges}
 use Rattle.list_laws.specs.Search.{some}
 use Rattle.refusals.specs.Edges.{kept, kept_early, kept_late}
 use Rattle.refusals.specs.Request.{job_request, bad_ends, joined_twice}
+use Rattle.std.specs.declared.result.Result.TheVariants.{Ok, Err}
+use Rattle.refusals.specs.declared.Refusal.{Refusal}
+use Rattle.refusals.specs.declared.Refusal.TheVariants.{ParallelEdges}
+use Rattle.refusals.specs.Numbers.{number}
+use Rattle.refusals.proofs.Laws.Answers.{number-not_zero}
 use Rattle.refusals.specs.Refusal.{refusal, of_graph}
 use Rattle.refusals.proofs.Laws.First.{told}
 use Rattle.refusals.proofs.Laws.Later.{or_else}
@@ -34,8 +39,9 @@ module _ {a b : List ℕ} {m : List Float} {k : ℕ} {early early' late late' : 
       let l = late-part W in
       rw (front-late W) (omega (arith, (kept-inside n a b m ok e (omega (arith, W.edges))).1))
 
--- ---- the graph's lists were checked, and r was answered
-module _ {n : ℕ} {a b : List ℕ} {m : List Float} {us vs : List ℕ} {betas : List Float} {r : ℕ} (R : CheckedRaw n a b m us vs betas r) where
+-- ---- the graph's lists were checked, and r was found
+module _ {n : ℕ} {a b : List ℕ} {m : List Float} {us vs : List ℕ} {betas : List Float} {r : ℕ}
+    (R : CheckedRaw n a b m us vs betas r) where
   whole : refusal of_graph (job_request n 0 a b m us vs betas) ≡ or_else r (cond (joined_twice (kept_early a b m) (kept_late a b m)) 5 0)
   whole =
       graph_in_parts n 0 a b m us vs betas
@@ -44,27 +50,17 @@ module _ {n : ℕ} {a b : List ℕ} {m : List Float} {us vs : List ℕ} {betas :
   pub raw-accepted : r ≡ 0 → AcceptedRaw n a b m us vs betas
   raw-accepted z = accepted-raw n 0 a b m us vs betas (sym R.refusal ∙ z)
 
-  refused_with : {q k : ℕ} {early early' late late' : List ℕ} {mag mag' : List Float} → (q ≡ 0 → ⊥) → k ≡ 0
-      → q ≡ refusal of_graph (job_request n 0 a b m us vs betas) → CheckedGraph n a b m us vs betas q k early early' late late' mag mag'
-  refused_with nz e h = rw e record {
-    refusal = h;
-    written = λ z. absurd (nz z);
-    early-fits = omega arith;
-    early-part = refl;
-    late-fits = omega arith;
-    late-part = refl;
-    mag_fits = omega arith;
-    mag_part = refl;
-  }
-
   -- one of 1 to 4, or 21
-  pub raw-refused : {q k : ℕ} {early early' late late' : List ℕ} {mag mag' : List Float} → (q ≡ r) × (k ≡ 0) → (r ≡ 0 → ⊥)
-      → CheckedGraph n a b m us vs betas q k early early' late late' mag mag'
-  raw-refused (e, k) nz = refused_with (λ z. nz (sym e ∙ z)) k (e ∙ go r nz ∙ sym whole)
+  pub raw-refused : {e : Refusal} {early early' late late' : List ℕ} {mag mag' : List Float} → r ≡ number e
+      → CheckedGraph n a b m us vs betas (Err e) early early' late late' mag mag'
+  raw-refused {e} s = record { refusal = s' ∙ sym whole; written = tt }
     where
       go : (x : ℕ) → (x ≡ 0 → ⊥) → x ≡ or_else x (cond (joined_twice (kept_early a b m) (kept_late a b m)) 5 0)
       go zero f = absurd (f refl)
       go (suc x) f = refl
+
+      s' : number e ≡ or_else r (cond (joined_twice (kept_early a b m) (kept_late a b m)) 5 0)
+      s' = rw s (go (number e) (number-not_zero e))
 
   after : r ≡ 0 → (t : Bool) → joined_twice (kept_early a b m) (kept_late a b m) ≡ t
       → cond t 5 0 ≡ refusal of_graph (job_request n 0 a b m us vs betas)
@@ -74,18 +70,9 @@ module _ {n : ℕ} {a b : List ℕ} {m : List Float} {us vs : List ℕ} {betas :
   module _ {k : ℕ} {early early' late late' : List ℕ} {mag mag' : List Float} (z : r ≡ 0)
       (W : Written a b m (length a) k early early' late late' mag mag') {t : Bool} (tested : t ≡ joined_twice (take k early') (take k late')) where
     -- 5
-    pub twice-refused : {q j : ℕ} → (q ≡ 5) × (j ≡ 0) → t ≡ true → CheckedGraph n a b m us vs betas q j early early' late late' mag mag'
-    twice-refused (e, j) s = refused_with (λ o. omega arith) j (e ∙ after z true (told (of-kept W joined_twice tested) s))
+    pub twice-refused : t ≡ true → CheckedGraph n a b m us vs betas (Err ParallelEdges) early early' late late' mag mag'
+    twice-refused s = record { refusal = after z true (told (of-kept W joined_twice tested) s); written = tt }
 
     -- none
-    pub none-refused : t ≡ false → CheckedGraph n a b m us vs betas 0 k early early' late late' mag mag'
-    none-refused s = record {
-      refusal = after z false (told (of-kept W joined_twice tested) s);
-      written = λ o. W;
-      early-fits = early-fits W;
-      early-part = early-part W;
-      late-fits = late-fits W;
-      late-part = late-part W;
-      mag_fits = mag_fits W;
-      mag_part = mag_part W;
-    }
+    pub none-refused : t ≡ false → CheckedGraph n a b m us vs betas (Ok k) early early' late late' mag mag'
+    none-refused s = record { refusal = after z false (told (of-kept W joined_twice tested) s); written = W }

@@ -4,29 +4,15 @@
 ghost use Rattle.std.specs.Prelude.{◌≡◌, []};
 ghost use Rattle.limits.specs.Limits.{most_edges};
 ghost use Rattle.refusals.specs.Edges.{dropping};
+ghost use Rattle.refusals.specs.Numbers.{refused};
 ghost use Rattle.kept_edges.specs.Keep.{Holds, CheckedRaw, CheckedGraph};
 
 use graph_checks::{bad_edges, bad_lists, bad_sizes, bad_vertices, joined_twice, unordered_betas};
 use kept_edges::keep::keep_dropping;
+use refusals::Refusal;
 
-// The refusal's number, 0 for accepted, and how many edges are kept.
-#[derive(Drop)]
-pub struct Checked {
-    pub refusal: usize,
-    pub edges: usize,
-}
-
-pub fn refused(number: usize) -> Checked
-    ensures { (result.refusal ≡ number) × (result.edges ≡ 0) }
-{
-    Checked {
-        refusal: number,
-        edges: 0,
-    }
-}
-
-// The checks that read the lists as they are lent, 1 to 4 and 21: of a graph, pairs and betas. Returns the refusal's number, 0 for accepted. The
-// magnitude at `dropped` counts as zero, here and below.
+// The checks that read the lists as they are lent, 1 to 4 and 21: of a graph, pairs and betas. The magnitude at `dropped` counts as zero, here
+// and below.
 fn check_raw(
     n: usize,
     a: &[usize],
@@ -36,28 +22,28 @@ fn check_raw(
     us: &[usize],
     vs: &[usize],
     betas: &[f64],
-) -> usize
-    ensures { CheckedRaw n a.now b.now (dropping dropped m.now) us.now vs.now betas.now result }
+) -> Result<(), Refusal>
+    ensures { CheckedRaw n a.now b.now (dropping dropped m.now) us.now vs.now betas.now (refused result) }
 {
     if bad_vertices(n) {
-        return 1;
+        return Err(Refusal::VertexCount);
     }
     if bad_lists(a.len(), b.len(), m.len(), us.len(), vs.len(), betas.len()) {
-        return 2;
+        return Err(Refusal::ListLengths);
     }
     if bad_edges(n, a, b) {
-        return 3;
+        return Err(Refusal::EdgeEnds);
     }
     if bad_sizes(m, dropped, betas) {
-        return 4;
+        return Err(Refusal::Magnitude);
     }
     if unordered_betas(betas) {
-        return 21;
+        return Err(Refusal::Betas);
     }
-    0
+    Ok(())
 }
 
-// Checks 1 to 5, 21 among them. Where none fits, the kept edges stand at the fronts of the three lists.
+// Checks 1 to 5, 21 among them. Where none fits, the kept edges stand at the fronts of the three lists, and their count is returned.
 pub fn check_graph_dropping(
     n: usize,
     a: &[usize],
@@ -70,21 +56,17 @@ pub fn check_graph_dropping(
     early: &mut [usize],
     late: &mut [usize],
     mag: &mut [f64],
-) -> Checked
+) -> Result<usize, Refusal>
     requires { Holds most_edges early.old late.old mag.old }
-    ensures { CheckedGraph n a.now b.now (dropping dropped m.now) us.now vs.now betas.now
-        result.refusal result.edges
+    ensures { CheckedGraph n a.now b.now (dropping dropped m.now) us.now vs.now betas.now result
         early.old early.new late.old late.new mag.old mag.new }
 {
-    let refusal = check_raw(n, a, b, m, dropped, us, vs, betas);
-    if refusal != 0 {
-        return refused(refusal);
-    }
+    check_raw(n, a, b, m, dropped, us, vs, betas)?;
     let edges = keep_dropping(a, b, m, dropped, early, late, mag);
     if joined_twice(&early[..edges], &late[..edges]) {
-        return refused(5);
+        return Err(Refusal::ParallelEdges);
     }
-    Checked { refusal: 0, edges }
+    Ok(edges)
 }
 
 // The same where no magnitude counts as another.
@@ -99,10 +81,9 @@ pub fn check_graph(
     early: &mut [usize],
     late: &mut [usize],
     mag: &mut [f64],
-) -> Checked
+) -> Result<usize, Refusal>
     requires { Holds most_edges early.old late.old mag.old }
-    ensures { CheckedGraph n a.now b.now m.now us.now vs.now betas.now
-        result.refusal result.edges
+    ensures { CheckedGraph n a.now b.now m.now us.now vs.now betas.now result
         early.old early.new late.old late.new mag.old mag.new }
 {
     check_graph_dropping(n, a, b, m, m.len(), us, vs, betas, early, late, mag)
@@ -117,9 +98,9 @@ pub fn build(
     early: &mut [usize],
     late: &mut [usize],
     mag: &mut [f64],
-) -> Checked
+) -> Result<usize, Refusal>
     requires { Holds most_edges early.old late.old mag.old }
-    ensures { CheckedGraph n a.now b.now m.now [] [] [] result.refusal result.edges
+    ensures { CheckedGraph n a.now b.now m.now [] [] [] result
         early.old early.new late.old late.new mag.old mag.new }
 {
     check_graph(n, a, b, m, &a[..0], &a[..0], &m[..0], early, late, mag)

@@ -13,10 +13,7 @@ use limits::{BETAS, EDGES, PAIRS, VERTICES};
 pub fn bad_vertices(n: usize) -> bool
     ensures { result ≡ (eqb n 0 || ltb most_vertices n) }
 {
-    if n == 0 {
-        return true;
-    }
-    VERTICES < n
+    n == 0 || VERTICES < n
 }
 
 // 2. Lists of one kind differ in length, or there are over 4,096 edges, 256 pairs or 64 betas.
@@ -65,12 +62,10 @@ pub fn bad_edges(n: usize, a: &[usize], b: &[usize]) -> bool
     requires { length b.now ≡ length a.now }
     ensures { result ≡ some (bad_ends n a.now b.now) (length a.now) }
 {
-    let mut i: usize = 0;
-    while i < a.len() {
+    for i in 0..a.len() {
         if bad_edge(n, a[i], b[i]) {
             return true;
         }
-        i += 1;
     }
     false
 }
@@ -98,12 +93,10 @@ pub fn magnitude_dropping(m: &[f64], dropped: usize, i: usize) -> f64
 fn some_oversized(m: &[f64], dropped: usize) -> bool
     ensures { result ≡ some_oversized (dropping dropped m.now) }
 {
-    let mut i: usize = 0;
-    while i < m.len() {
+    for i in 0..m.len() {
         if is_oversized(magnitude_dropping(m, dropped, i)) {
             return true;
         }
-        i += 1;
     }
     false
 }
@@ -128,12 +121,10 @@ fn is_not_less(x: f64, y: f64) -> bool
 pub fn unordered_betas(betas: &[f64]) -> bool
     ensures { result ≡ unordered betas.now }
 {
-    let mut i: usize = 0;
-    while i + 1 < betas.len() {
-        if is_not_less(betas[i], betas[i + 1]) {
+    for i in 1..betas.len() {
+        if is_not_less(betas[i - 1], betas[i]) {
             return true;
         }
-        i += 1;
     }
     false
 }

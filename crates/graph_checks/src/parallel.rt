@@ -29,16 +29,14 @@ fn find_twice(early: &[usize], late: &[usize], heads: &mut [usize], next: &mut [
     requires by_index { (e : ℕ) → e < length late.now → get_or late.now e 0 < length heads.old }
     ensures { result ≡ joined_twice early.now late.now }
 {
-    let mut e: usize = 0;
-    while e < early.len() {
+    for e in 0..early.len() {
         let v = late[e];
         let last = heads[v];
         if joined_before(early, late, next, e, last) {
             return true;
         }
         next[e] = last;
-        e += 1;
-        heads[v] = e;
+        heads[v] = e + 1;
     }
     false
 }

@@ -7,6 +7,9 @@ use native.Mathlib.Numerals.{add-one}
 use native.Mathlib.Omega.{arith}
 use lib.Ieee.{Float}
 use lib.ListN.{length, get_or, set, length-set, length-map}
+use Rattle.std.specs.Prelude.{Ok, Err}
+use Rattle.refusals.specs.declared.Refusal.{Refusal}
+use Rattle.refusals.proofs.Laws.Answers.{number-not_zero}
 use Rattle.list_laws.specs.Search.{some}
 use Rattle.list_laws.specs.Most.{most}
 use Rattle.list_laws.proofs.Laws.Most.{most_ext}
@@ -22,8 +25,6 @@ use Rattle.refusals.specs.Edges.{Kept, kept, early_ends, late_ends, places, kept
 use Rattle.kept_edges.specs.Keep.{Written}
 use Rattle.graph_edges.specs.Graphs.{Set, Turned, turned, rotate}
 use Rattle.graph_edges.specs.declared.Graph.{Graph}
-use Rattle.graph_edges.specs.declared.Made.{Made}
-use Rattle.graph_edges.specs.declared.Made.TheVariants as Made
 
 -- e of the edges were turned
 pub record Turning (n k : ℕ) (early₀ early late₀ late : List ℕ) (e : ℕ) : Type 0 where
@@ -143,19 +144,11 @@ kept-below n {a} {b} {m} {early₀ = early₀} {late₀ = late₀} W q ok e h =
 
 -- ---- from what `Graph::new` answered
 
-abbrev refusals : Made → ℕ
-refusals (Made.Kept g) = 0
-refusals (Made.Refused k) = 1
-
-abbrev graph_of : Graph → Made → Graph
-graph_of other (Made.Kept g) = g
-graph_of other (Made.Refused k) = other
-
 -- a refused graph has nothing to turn
-pub refused-turned : (K : ℕ) {n floor k : ℕ} {es : List Kept} {r : Made} {early early' late late' : List ℕ} {mag mag' : List Float} {raw raw' : List ℕ} → r ≡ Made.Refused k
-    → Set K n floor es r early early' late late' mag mag' raw raw' → Set K n floor (rotate n es) (Made.Refused k) early early' late late' mag mag' raw raw'
-refused-turned zero p S = let apart = ap refusals (sym p ∙ S.answer) in absurd (omega arith)
-refused-turned (suc j) p S = record { answer = sym p ∙ S.answer; earlies = S.earlies; lates = S.lates; mags = S.mags; raws = S.raws }
+pub refused-turned : (K : ℕ) {n floor : ℕ} {es : List Kept} {e : Refusal} {early early' late late' : List ℕ} {mag mag' : List Float} {raw raw' : List ℕ}
+    → Set K n floor es (Err e) early early' late late' mag mag' raw raw' → Set K n floor (rotate n es) (Err e) early early' late late' mag mag' raw raw'
+refused-turned zero {e = e} S = absurd (number-not_zero e S.answer.0)
+refused-turned (suc j) S = record { answer = (S.answer.0, tt); earlies = S.earlies; lates = S.lates; mags = S.mags; raws = S.raws }
 
 -- an accepted one was not refused, and its edges were written
 pub record Given (K n floor : ℕ) (g : Graph) (a b : List ℕ) (m : List Float) (early early' late late' : List ℕ) (mag mag' : List Float) (raw raw' : List ℕ) : Type 0 where
@@ -164,23 +157,23 @@ pub record Given (K n floor : ℕ) (g : Graph) (a b : List ℕ) (m : List Float)
   pub written : Written a b m (length a) g.edges early early' late late' mag mag'
   pub raws : raw' ≡ over (places (kept a b m)) raw
 
-pub given : (K : ℕ) {n floor : ℕ} {g : Graph} {a b : List ℕ} {m : List Float} {r : Made} {early early' late late' : List ℕ} {mag mag' : List Float} {raw raw' : List ℕ} → r ≡ Made.Kept g
-    → Set K n floor (kept a b m) r early early' late late' mag mag' raw raw' → Given K n floor g a b m early early' late late' mag mag' raw raw'
-given zero {g = g} p S =
-    let same = ap (graph_of g) (sym p ∙ S.answer) in
+pub given : (K : ℕ) {n floor : ℕ} {g : Graph} {a b : List ℕ} {m : List Float} {early early' late late' : List ℕ} {mag mag' : List Float} {raw raw' : List ℕ}
+    → Set K n floor (kept a b m) (Ok g) early early' late late' mag mag' raw raw' → Given K n floor g a b m early early' late late' mag mag' raw raw'
+given zero S =
+    let same = S.answer.1 in
     record { accepted = refl; graph = same; written = record { edges = ap (λ x. x.edges) same; earlies = S.earlies; lates = S.lates; mags = S.mags }; raws = S.raws }
-given (suc j) p S = let apart = ap refusals (sym p ∙ S.answer) in absurd (omega arith)
+given (suc j) S = let z = S.answer.0 in absurd (omega arith)
 
 -- the turned graph as the entry leaves it
 pub rotated_given : (K : ℕ) {n floor : ℕ} {g : Graph} {a b : List ℕ} {m : List Float} {early₀ early early' late₀ late late' : List ℕ} {mag₀ mag : List Float} {raw₀ raw : List ℕ}
     → Given K n floor g a b m early₀ early late₀ late mag₀ mag raw₀ raw → some (bad_ends n a b) (length a) ≡ false → Turned n g.edges early early' late late'
-    → Set K n floor (rotate n (kept a b m)) (Made.Kept g) early₀ early' late₀ late' mag₀ mag raw₀ raw
+    → Set K n floor (rotate n (kept a b m)) (Ok g) early₀ early' late₀ late' mag₀ mag raw₀ raw
 rotated_given zero {n} {floor} {a = a} {b = b} {m = m} {mag₀ = mag₀} {raw₀ = raw₀} G ok T =
     let W = G.written in
     let turn = turned-kept W W.edges T in
     let es = kept a b m in
     record {
-      answer = ap Made.Kept (G.graph ∙ ap₂ (λ x y. record { n = n; win = x; edges = y }) (window-turned n floor a b m ok) (sym (length-map es _)));
+      answer = (refl, G.graph ∙ ap₂ (λ x y. record { n = n; win = x; edges = y }) (window-turned n floor a b m ok) (sym (length-map es _)));
       earlies = turn.0;
       lates = turn.1;
       mags = W.mags ∙ ap (λ l. over l mag₀) (sym (map-map (λ u. u.magnitude) _ es));

@@ -1,14 +1,13 @@
 -- What `Graph::new` and `rotated` answer and leave.
-use Rattle.std.specs.Prelude.{◌≡◌, Bool, cond, ◌||◌, List, map, ℕ, zero, suc, ◌-◌, ltb, Float, length, get_or}
+use Rattle.std.specs.Prelude.{◌≡◌, Result, Bool, cond, ◌||◌, List, map, ℕ, ◌-◌, ltb, Float, length, get_or}
 use Rattle.list_laws.specs.Tabulate.{tabulate}
 use Rattle.list_laws.specs.Front.{over}
 use Rattle.transfer_matrix.specs.Job.{window_of}
+use Rattle.refusals.specs.declared.Refusal.{Refusal}
 use Rattle.refusals.specs.Edges as Edges
 use Rattle.refusals.specs.Edges.{early_ends, late_ends, magnitudes, places}
-use Rattle.refusals.specs.Answers.{left}
+use Rattle.refusals.specs.Answers.{Answered, left}
 use Rattle.graph_edges.specs.declared.Graph.{Graph}
-use Rattle.graph_edges.specs.declared.Made.{Made}
-use Rattle.graph_edges.specs.declared.Made.TheVariants.{Kept, Refused}
 
 -- k edges do not fit into four buffers
 abbrev pub too_short : ℕ → List ℕ → List ℕ → List Float → List ℕ → Bool
@@ -22,14 +21,9 @@ pub record WrittenKept (es : List Edges.Kept) (r : ℕ) (early early' late late'
   pub mags : mag' ≡ left r (over (magnitudes es) mag) mag
   pub raws : raw' ≡ left r (over (places es) raw) raw
 
--- the graph of some kept edges, or the refusal
-abbrev pub made : ℕ → Graph → Made
-made zero g = Kept g
-made (suc k) g = Refused (suc k)
-
 -- What `Graph::new` answers and leaves: the graph, and the kept edges with their raw places at the fronts of the lists; refused, the lists as they were.
-pub record Set (refused n floor : ℕ) (es : List Edges.Kept) (r : Made) (early early' late late' : List ℕ) (mag mag' : List Float) (raw raw' : List ℕ) : Type 0 where
-  pub answer : r ≡ made refused (record { n = n; win = window_of floor (early_ends es) (late_ends es); edges = length es })
+pub record Set (refused n floor : ℕ) (es : List Edges.Kept) (r : Result Graph Refusal) (early early' late late' : List ℕ) (mag mag' : List Float) (raw raw' : List ℕ) : Type 0 where
+  pub answer : Answered refused (record { n = n; win = window_of floor (early_ends es) (late_ends es); edges = length es }) r
   pub earlies : early' ≡ left refused (over (early_ends es) early) early
   pub lates : late' ≡ left refused (over (late_ends es) late) late
   pub mags : mag' ≡ left refused (over (magnitudes es) mag) mag

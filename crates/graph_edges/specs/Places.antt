@@ -1,5 +1,5 @@
 -- Raw places in the lists that an accepted call leaves.
-use Rattle.std.specs.Prelude.{◌≡◌, refl, false, List, map, ℕ, ◌<◌, Float, length, get_or}
+use Rattle.std.specs.Prelude.{◌≡◌, refl, Result, false, List, map, ℕ, ◌<◌, Float, length, get_or}
 use Rattle.std.proofs.Common.{sym, ap, ◌∙◌, arith}
 use Rattle.std.specs.Float.{nan}
 use Rattle.std.proofs.lemmas.List.{length-map}
@@ -9,7 +9,8 @@ use Rattle.refusals.specs.Edges.{Kept, kept_at, kept, is_zero, early_ends, late_
 use Rattle.refusals.specs.Places.{edge_of, Remembers}
 use Rattle.refusals.proofs.Laws.Places.{column-at, kept_remember, changed_remember}
 use Rattle.graph_edges.specs.Graphs.{Set, turned_edge, rotate}
-use Rattle.graph_edges.specs.declared.Made.{Made}
+use Rattle.graph_edges.specs.declared.Graph.{Graph}
+use Rattle.refusals.specs.declared.Refusal.{Refusal}
 
 -- The first k of four lists are edges of n raw ones, each of which is told by its place.
 pub record Remembered (edge : ℕ → Kept) (n k : ℕ) (early late : List ℕ) (mag : List Float) (raw : List ℕ) : Type 0 where
@@ -24,7 +25,7 @@ pub record Remembered (edge : ℕ → Kept) (n k : ℕ) (early late : List ℕ) 
   -- every raw edge whose magnitude is not zero is there
   pub whole : (p : ℕ) → p < n → is_zero (edge p).magnitude ≡ false → (i : ℕ) × (i < k) × (get_or raw i 0 ≡ p)
 
-module _ {K v floor : ℕ} {r : Made} {early early' late late' : List ℕ} {mag mag' : List Float} {raw raw' : List ℕ} (accepted : K ≡ 0) where
+module _ {K v floor : ℕ} {r : Result Graph Refusal} {early early' late late' : List ℕ} {mag mag' : List Float} {raw raw' : List ℕ} (accepted : K ≡ 0) where
   -- edges that remember their places, in the lists
   pub remembered : {edge : ℕ → Kept} {n : ℕ} {es : List Kept} → Remembers edge n es → Set K v floor es r early early' late late' mag mag' raw raw'
       → Remembered edge n (length es) early' late' mag' raw'

@@ -3,6 +3,7 @@
 
 ghost use Rattle.std.specs.Prelude.{◌≡◌, ◌||◌, ltb, ℕ, ◌≤◌, ◌<◌, length, get_or};
 ghost use Rattle.refusals.specs.Edges.{kept};
+ghost use Rattle.refusals.specs.Numbers.{refused};
 ghost use Rattle.refusals.specs.Request.{graph_request};
 ghost use Rattle.refusals.specs.Refusal.{refusal, of_graph_with_buffers};
 ghost use Rattle.graph_edges.specs.Graphs.{too_short, WrittenKept, Set, rotate, Turned};
@@ -11,6 +12,7 @@ use graph_build::build;
 use kept_edges::keep::{keep, keep_places};
 use kept_edges::window_of;
 use limits::EDGES;
+use refusals::Refusal;
 
 // A graph whose kept edges stand in lists beside it.
 #[derive(Drop)]
@@ -18,13 +20,6 @@ pub struct Graph {
     pub n: usize,
     pub win: usize,
     pub edges: usize,
-}
-
-// A graph, or the number of a refusal.
-#[derive(Drop)]
-pub enum Made {
-    Kept(Graph),
-    Refused(usize),
 }
 
 impl Graph {
@@ -39,7 +34,7 @@ impl Graph {
         late: &mut [usize],
         mag: &mut [f64],
         raw: &mut [usize],
-    ) -> Made
+    ) -> Result<Graph, Refusal>
         ensures { Set (refusal of_graph_with_buffers (graph_request n a.now b.now m.now
             (too_short (length (kept a.now b.now m.now)) early.old late.old mag.old raw.old)))
             n floor (kept a.now b.now m.now) result
@@ -48,18 +43,10 @@ impl Graph {
         let mut first = [0usize; EDGES];
         let mut second = [0usize; EDGES];
         let mut size = [0.0f64; EDGES];
-        let g = build(n, a, b, m, &mut first, &mut second, &mut size);
-        let refusal = g.refusal;
-        if refusal != 0 {
-            return Made::Refused(refusal);
-        }
-        let edges = g.edges;
+        let edges = build(n, a, b, m, &mut first, &mut second, &mut size)?;
         let win = window_of(floor, &first[..edges], &second[..edges]);
-        let short = write_kept(edges, a, b, m, early, late, mag, raw);
-        if short != 0 {
-            return Made::Refused(short);
-        }
-        Made::Kept(Graph { n, win, edges })
+        write_kept(edges, a, b, m, early, late, mag, raw)?;
+        Ok(Graph { n, win, edges })
     }
 
     // The graph turned by 180 degrees, v to n - 1 - v; its edges keep their order, magnitudes, raw places and window.
@@ -73,19 +60,15 @@ impl Graph {
         late: &mut [usize],
         mag: &mut [f64],
         raw: &mut [usize],
-    ) -> Made
+    ) -> Result<Graph, Refusal>
         ensures { Set (refusal of_graph_with_buffers (graph_request n a.now b.now m.now
             (too_short (length (kept a.now b.now m.now)) early.old late.old mag.old raw.old)))
             n floor (rotate n (kept a.now b.now m.now)) result
             early.old early.new late.old late.new mag.old mag.new raw.old raw.new }
     {
-        match Graph::new(n, floor, a, b, m, early, late, mag, raw) {
-            Made::Kept(g) => {
-                turn(n, g.edges, early, late);
-                Made::Kept(g)
-            }
-            Made::Refused(refusal) => Made::Refused(refusal),
-        }
+        let g = Graph::new(n, floor, a, b, m, early, late, mag, raw)?;
+        turn(n, g.edges, early, late);
+        Ok(g)
     }
 }
 
@@ -104,7 +87,7 @@ fn is_too_short(edges: usize, early: usize, late: usize, mag: usize, raw: usize)
     raw < edges
 }
 
-// Writes the kept edges and their raw places to the fronts of four lists. Returns 0, or 12 where a list is too short.
+// Writes the kept edges and their raw places to the fronts of four lists. Refuses lists that are too short.
 pub fn write_kept(
     edges: usize,
     a: &[usize],
@@ -114,17 +97,17 @@ pub fn write_kept(
     late: &mut [usize],
     mag: &mut [f64],
     raw: &mut [usize],
-) -> usize
+) -> Result<(), Refusal>
     requires { (length b.now ≡ length a.now) × (length m.now ≡ length a.now) × (edges ≡ length (kept a.now b.now m.now)) }
-    ensures { WrittenKept (kept a.now b.now m.now) result early.old early.new
+    ensures { WrittenKept (kept a.now b.now m.now) (refused result) early.old early.new
         late.old late.new mag.old mag.new raw.old raw.new }
 {
     if is_too_short(edges, early.len(), late.len(), mag.len(), raw.len()) {
-        return 12;
+        return Err(Refusal::Buffer);
     }
     keep(a, b, m, early, late, mag);
     keep_places(m, raw);
-    0
+    Ok(())
 }
 
 // The first edges with their ends turned, v to n - 1 - v: the later end comes first.
@@ -133,12 +116,10 @@ fn turn(n: usize, edges: usize, early: &mut [usize], late: &mut [usize])
     requires by_index { (e : ℕ) → e < edges → (get_or early.old e 0 < n) × (get_or late.old e 0 < n) }
     ensures { Turned n edges early.old early.new late.old late.new }
 {
-    let mut e: usize = 0;
-    while e < edges {
+    for e in 0..edges {
         let x = early[e];
         let y = late[e];
         early[e] = n - 1 - y;
         late[e] = n - 1 - x;
-        e += 1;
     }
 }

@@ -16,12 +16,10 @@ pub fn bad_couplings(couplings: &[f64], count: usize) -> bool
     if couplings.len() != count {
         return true;
     }
-    let mut i = 0usize;
-    while i < couplings.len() {
-        if off_grid(couplings[i]) {
+    for x in couplings {
+        if off_grid(*x) {
             return true;
         }
-        i += 1;
     }
     false
 }
@@ -30,12 +28,10 @@ pub fn bad_couplings(couplings: &[f64], count: usize) -> bool
 fn off_products(beta: f64, mag: &[f64]) -> bool
     ensures { result ≡ some (λ e. off_grid (mul binary64 beta (get_or mag.now e nan))) (length mag.now) }
 {
-    let mut e = 0usize;
-    while e < mag.len() {
-        if off_grid(beta * mag[e]) {
+    for m in mag {
+        if off_grid(beta * *m) {
             return true;
         }
-        e += 1;
     }
     false
 }
@@ -44,12 +40,10 @@ fn off_products(beta: f64, mag: &[f64]) -> bool
 pub fn bad_products(betas: &[f64], mag: &[f64]) -> bool
     ensures { result ≡ bad_coupling_list (all_couplings betas.now mag.now) (length betas.now * length mag.now) }
 {
-    let mut b = 0usize;
-    while b < betas.len() {
-        if off_products(betas[b], mag) {
+    for beta in betas {
+        if off_products(*beta, mag) {
             return true;
         }
-        b += 1;
     }
     false
 }

@@ -5,14 +5,15 @@ ghost use Rattle.transfer_matrix.specs.Room.{arranged};
 ghost use Rattle.refusals.specs.Couplings.{all_couplings};
 ghost use Rattle.refusals.specs.Request.{house};
 ghost use Rattle.refusals.specs.AcceptedTotals.{misfits, enumeration_lists, sampling_lists};
+ghost use Rattle.refusals.specs.Numbers.{refused};
 ghost use Rattle.pair_places.specs.Places.{Pairs};
 
 use crate::couplings::bad_products;
 use buffer_checks::{check_buffers, misfit, too_many_chunks};
 use limits::{Caller, TESTER_FREE, over_limit};
+use refusals::Refusal;
 
 // Checks 9, 22, 23, 12 and 13 of a caller's call that goes through the configurations of so many free edges, where so many are the most.
-// Returns the refusal's number, 0 for accepted.
 pub fn check_house_enumeration(
     caller: Caller,
     less: bool,
@@ -28,27 +29,26 @@ pub fn check_house_enumeration(
     squares: usize,
     fourths: usize,
     work: usize,
-) -> usize
+) -> Result<(), Refusal>
     requires { Pairs us.now vs.now n × (n ≤ most_vertices) × (w ≤ most_window) × (length mag.now ≤ most_edges) }
-    ensures { result ≡ enumeration_lists house caller (arranged less) n w (length mag.now) us.now vs.now
+    ensures { refused result ≡ enumeration_lists house caller (arranged less) n w (length mag.now) us.now vs.now
         (all_couplings betas.now mag.now) (length betas.now * length mag.now) free most
         (misfits wanted squares fourths) work }
 {
     if most < free {
-        return 9;
+        return Err(Refusal::FreeEdges);
     }
     if over_limit(caller, TESTER_FREE, free) {
-        return 22;
+        return Err(Refusal::TesterLimit);
     }
     if bad_products(betas, mag) {
-        return 23;
+        return Err(Refusal::Couplings);
     }
     let misfit = misfit(wanted, squares, fourths);
     check_buffers(less, n, w, mag.len(), us, vs, misfit, work)
 }
 
 // Checks 23, 11, 12 and 13 of a call that draws chunks of samples.
-// Returns the refusal's number, 0 for accepted.
 pub fn check_house_sampling(
     less: bool,
     n: usize,
@@ -64,17 +64,17 @@ pub fn check_house_sampling(
     squares: usize,
     fourths: usize,
     work: usize,
-) -> usize
+) -> Result<(), Refusal>
     requires { Pairs us.now vs.now n × (n ≤ most_vertices) × (w ≤ most_window) × (length mag.now ≤ most_edges) }
-    ensures { result ≡ sampling_lists house (arranged less) n w (length mag.now) us.now vs.now
+    ensures { refused result ≡ sampling_lists house (arranged less) n w (length mag.now) us.now vs.now
         (all_couplings betas.now mag.now) (length betas.now * length mag.now) start end samples
         (misfits wanted squares fourths) work }
 {
     if bad_products(betas, mag) {
-        return 23;
+        return Err(Refusal::Couplings);
     }
     if too_many_chunks(start, end, samples) {
-        return 11;
+        return Err(Refusal::Samples);
     }
     let misfit = misfit(wanted, squares, fourths);
     check_buffers(less, n, w, mag.len(), us, vs, misfit, work)

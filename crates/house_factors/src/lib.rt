@@ -31,10 +31,8 @@ fn lay_from(table: &[f64; 1025], couplings: &[f64], factors: &mut [f64])
     requires { (table.now ≡ house_table) × (length factors.old ≡ length couplings.now) × (some_off_grid couplings.now ≡ false) }
     ensures { factors.new ≡ single_factors couplings.now }
 {
-    let mut e = 0usize;
-    while e < couplings.len() {
-        factors[e] = factor(table, couplings[e], false);
-        e += 1;
+    for (e, x) in couplings.iter().enumerate() {
+        factors[e] = factor(table, *x, false);
     }
 }
 

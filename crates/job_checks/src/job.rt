@@ -10,23 +10,13 @@ use graph_checks::bad_edges;
 use kept_edges::window_of;
 use limits::{Caller, TESTER_WINDOW, WINDOW, over_limit};
 use plan_steps::too_many_near;
+use refusals::Refusal;
 
-// The refusal's number, 0 for accepted; how many edges are kept, and the window.
-#[derive(Drop)]
+// How many edges a job keeps, and its window.
+#[derive(Clone, Copy)]
 pub struct Job {
-    pub refusal: usize,
     pub edges: usize,
     pub window: usize,
-}
-
-fn refused(number: usize) -> Job
-    ensures { result.refusal ≡ number }
-{
-    Job {
-        refusal: number,
-        edges: 0,
-        window: 0,
-    }
 }
 
 // Checks 6, 22, 7 and 8, which read the kept edges and the pairs; 8 asks of a pair what 3 asks of an edge.
@@ -38,29 +28,25 @@ fn check_kept(
     late: &[usize],
     us: &[usize],
     vs: &[usize],
-) -> Job
+) -> Result<Job, Refusal>
     requires { KeptEdges n early.now late.now × (length vs.now ≡ length us.now) }
-    ensures { CheckedKept caller n floor early.now late.now us.now vs.now
-        result.refusal result.edges result.window }
+    ensures { CheckedKept caller n floor early.now late.now us.now vs.now result }
 {
     let window = window_of(floor, early, late);
     if WINDOW < window {
-        return refused(6);
+        return Err(Refusal::Window);
     }
     if over_limit(caller, TESTER_WINDOW, window) {
-        return refused(22);
+        return Err(Refusal::TesterLimit);
     }
     if too_many_near(n, window, early, late) {
-        return refused(7);
+        return Err(Refusal::BackEdges);
     }
     if bad_edges(n, us, vs) {
-        return refused(8);
+        return Err(Refusal::PairEnds);
     }
-    Job {
-        refusal: 0,
-        edges: early.len(),
-        window,
-    }
+    let edges = early.len();
+    Ok(Job { edges, window })
 }
 
 // Checks 1 to 8 of a caller's job with betas, and 22 of its window. Where none fits, the kept edges stand at the fronts of the three lists.
@@ -79,18 +65,13 @@ pub fn check_dropping(
     early: &mut [usize],
     late: &mut [usize],
     mag: &mut [f64],
-) -> Job
+) -> Result<Job, Refusal>
     requires { Holds most_edges early.old late.old mag.old }
     ensures { CheckedJob caller n floor a.now b.now (dropping dropped m.now) us.now vs.now
-        betas.now result.refusal result.edges result.window
+        betas.now result
         early.old early.new late.old late.new mag.old mag.new }
 {
-    let graph = check_graph_dropping(n, a, b, m, dropped, us, vs, betas, early, late, mag);
-    let refusal = graph.refusal;
-    if refusal != 0 {
-        return refused(refusal);
-    }
-    let edges = graph.edges;
+    let edges = check_graph_dropping(n, a, b, m, dropped, us, vs, betas, early, late, mag)?;
     check_kept(caller, n, floor, &early[..edges], &late[..edges], us, vs)
 }
 
@@ -108,10 +89,10 @@ pub fn check_with_betas(
     early: &mut [usize],
     late: &mut [usize],
     mag: &mut [f64],
-) -> Job
+) -> Result<Job, Refusal>
     requires { Holds most_edges early.old late.old mag.old }
     ensures { CheckedJob caller n floor a.now b.now m.now us.now vs.now
-        betas.now result.refusal result.edges result.window
+        betas.now result
         early.old early.new late.old late.new mag.old mag.new }
 {
     check_dropping(
@@ -144,10 +125,9 @@ pub fn check_job(
     early: &mut [usize],
     late: &mut [usize],
     mag: &mut [f64],
-) -> Job
+) -> Result<Job, Refusal>
     requires { Holds most_edges early.old late.old mag.old }
-    ensures { CheckedJob caller n floor a.now b.now m.now us.now vs.now []
-        result.refusal result.edges result.window
+    ensures { CheckedJob caller n floor a.now b.now m.now us.now vs.now [] result
         early.old early.new late.old late.new mag.old mag.new }
 {
     check_with_betas(caller, n, floor, a, b, m, us, vs, &m[..0], early, late, mag)

@@ -1,16 +1,16 @@
 // The work memory that a caller is to lend.
-ghost use Rattle.std.specs.Prelude.{◌≡◌, length};
+ghost use Rattle.std.specs.Prelude.{length};
 ghost use Rattle.transfer_matrix.specs.Room.{room as room_of};
 ghost use Rattle.refusals.specs.Edges.{kept, window_from};
 ghost use Rattle.refusals.specs.Request.{room_request};
 ghost use Rattle.refusals.specs.Refusal.{refusal, of_room};
-ghost use Rattle.refusals.specs.Answers.{answered};
+ghost use Rattle.refusals.specs.Answers.{Answered};
 ghost use Rattle.plan_layout.specs.Arrangements.{arrangement_of};
 
 use crate::job::check_job;
 use limits::{Caller, EDGES};
 use plan_layout::{Arrangement, room_needed, takes_less};
-use refusals::Answer;
+use refusals::Refusal;
 
 // The doubles of work memory that a job's pairs need, whoever calls: no limit of the tester's is asked.
 pub fn room(
@@ -22,11 +22,11 @@ pub fn room(
     us: &[usize],
     vs: &[usize],
     arrangement: Arrangement,
-) -> Answer
-    ensures { result ≡ answered
+) -> Result<usize, Refusal>
+    ensures { Answered
         (refusal of_room (room_request n floor a.now b.now m.now us.now vs.now))
         (room_of (arrangement_of arrangement) n (window_from floor a.now b.now m.now)
-        (length (kept a.now b.now m.now)) us.now vs.now) }
+        (length (kept a.now b.now m.now)) us.now vs.now) result }
 {
     let mut early = [0usize; EDGES];
     let mut late = [0usize; EDGES];
@@ -43,11 +43,7 @@ pub fn room(
         &mut early,
         &mut late,
         &mut mag,
-    );
-    let refusal = job.refusal;
-    if refusal != 0 {
-        return Answer::Refused(refusal);
-    }
+    )?;
     let less = takes_less(arrangement);
-    Answer::Number(room_needed(less, n, job.window, job.edges, us, vs))
+    Ok(room_needed(less, n, job.window, job.edges, us, vs))
 }

@@ -18,11 +18,7 @@ pub fn lay_factors(room: &mut [f64], at: usize, x: &[f64])
     requires { at + length x.now ≤ length room.old }
     ensures { room.new ≡ put room.old at x.now }
 {
-    let mut e = 0usize;
-    while e < x.len() {
-        room[at + e] = x[e];
-        e += 1;
-    }
+    room[at..at + x.len()].copy_from_slice(x);
 }
 
 // All of a list at +0.0.

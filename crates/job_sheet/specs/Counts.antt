@@ -4,11 +4,22 @@ use Rattle.job_sheet.specs.Records.{kind_at, record_length, refusal_at}
 use Rattle.job_sheet.specs.declared.counts.Counts.{Counts}
 use Rattle.job_sheet.specs.declared.counts.Reading.{Reading}
 
-abbrev pub counted : (edges betas pairs : ℕ) → Counts
+-- the number that refuses a sheet, 0 for accepted, and its numbers of records
+pub record SheetCounts : Type 0 where
+  pub refusal : ℕ
+  pub edges : ℕ
+  pub betas : ℕ
+  pub pairs : ℕ
+
+abbrev pub counted : (edges betas pairs : ℕ) → SheetCounts
 counted edges betas pairs = record { refusal = 0; edges = edges; betas = betas; pairs = pairs }
 
-abbrev pub refused : ℕ → Counts
+abbrev pub refused : ℕ → SheetCounts
 refused k = record { refusal = k; edges = 0; betas = 0; pairs = 0 }
+
+-- what is answered of an accepted sheet
+abbrev pub records_of : SheetCounts → Counts
+records_of c = record { edges = c.edges; betas = c.betas; pairs = c.pairs }
 
 -- where a reading begins
 abbrev pub start : Reading
@@ -31,7 +42,7 @@ pub record Passed (at : Reading) : Type 0 where
   pub pairs : at.pairs ≤ at.place
 
 -- One call of the reader after another, up to a number of calls that no sheet needs.
-unfoldable pub read_from : (calls : ℕ) → List ℕ → Reading → Counts
+unfoldable pub read_from : (calls : ℕ) → List ℕ → Reading → SheetCounts
 read_from zero sheet at = refused 19
 read_from (suc calls) sheet at =
     let refusal = refusal_at sheet at.place at.last in
@@ -41,5 +52,5 @@ read_from (suc calls) sheet at =
     (refused refusal)
 
 -- each record has a byte at least
-unfoldable pub counts_of : List ℕ → Counts
+unfoldable pub counts_of : List ℕ → SheetCounts
 counts_of sheet = read_from (length sheet + 1) sheet start

@@ -1,8 +1,10 @@
 -- What stands at a place of a sheet, by the kind read last: document 02's records, little-endian, each kind a byte.
 use Rattle.std.specs.Prelude.{Bool, cond, not, ◌||◌, ◌&&◌, List, ℕ, ◌+◌, eqb, ltb, leb, length, get_or}
+use Rattle.std.specs.declared.result.Result.{Result}
+use Rattle.std.specs.declared.result.Result.TheVariants.{Ok, Err}
 use Rattle.little_endian.specs.Words.{word_at}
 use Rattle.job_sheet.specs.declared.record.Record.{Record}
-use Rattle.job_sheet.specs.declared.record.Record.TheVariants.{Size, Edge, Beta, Pair, End, Refused}
+use Rattle.job_sheet.specs.declared.record.Record.TheVariants.{Size, Edge, Beta, Pair, End}
 
 -- The bytes of a record, its kind's among them: 1, vertices u16 and floor u8; 2, edge ends u16, u16 and magnitude f64; 3, beta f64; 4, pair ends u16, u16; 5, end, no body.
 unfoldable pub record_length : (kind : ℕ) → ℕ
@@ -37,58 +39,54 @@ record_of sheet place kind =
     (cond (eqb kind 4) (Pair (word_at sheet (place + 1) 2) (word_at sheet (place + 3) 2)) End)))
 
 -- What the reader answers, going only by its place and the kind read last.
-unfoldable pub record_at : List ℕ → (place last : ℕ) → Record
+unfoldable pub record_at : List ℕ → (place last : ℕ) → Result Record ℕ
 record_at sheet place last =
     let refusal = refusal_at sheet place last in
-    cond (eqb refusal 0) (record_of sheet place (kind_at sheet place)) (Refused refusal)
+    cond (eqb refusal 0) (Ok (record_of sheet place (kind_at sheet place))) (Err refusal)
 
 -- ---- an answer's number, and its values where it has them; what it has not is as it was
 
-abbrev pub number_of : Record → ℕ
-number_of (Size n floor) = 0
-number_of (Edge a b m) = 0
-number_of (Beta x) = 0
-number_of (Pair u v) = 0
-number_of End = 0
-number_of (Refused k) = k
+abbrev pub number_of : Result Record ℕ → ℕ
+number_of (Ok r) = 0
+number_of (Err k) = k
 
-abbrev pub kind_of : Record → (old : ℕ) → ℕ
-kind_of (Size n floor) old = 1
-kind_of (Edge a b m) old = 2
-kind_of (Beta x) old = 3
-kind_of (Pair u v) old = 4
-kind_of End old = 5
-kind_of (Refused k) old = old
+abbrev pub kind_of : Result Record ℕ → (old : ℕ) → ℕ
+kind_of (Ok (Size n floor)) old = 1
+kind_of (Ok (Edge a b m)) old = 2
+kind_of (Ok (Beta x)) old = 3
+kind_of (Ok (Pair u v)) old = 4
+kind_of (Ok End) old = 5
+kind_of (Err k) old = old
 
-abbrev pub first_of : Record → (old : ℕ) → ℕ
-first_of (Size n floor) old = n
-first_of (Edge a b m) old = a
-first_of (Beta x) old = old
-first_of (Pair u v) old = u
-first_of End old = old
-first_of (Refused k) old = old
+abbrev pub first_of : Result Record ℕ → (old : ℕ) → ℕ
+first_of (Ok (Size n floor)) old = n
+first_of (Ok (Edge a b m)) old = a
+first_of (Ok (Beta x)) old = old
+first_of (Ok (Pair u v)) old = u
+first_of (Ok End) old = old
+first_of (Err k) old = old
 
-abbrev pub second_of : Record → (old : ℕ) → ℕ
-second_of (Size n floor) old = floor
-second_of (Edge a b m) old = b
-second_of (Beta x) old = old
-second_of (Pair u v) old = v
-second_of End old = old
-second_of (Refused k) old = old
+abbrev pub second_of : Result Record ℕ → (old : ℕ) → ℕ
+second_of (Ok (Size n floor)) old = floor
+second_of (Ok (Edge a b m)) old = b
+second_of (Ok (Beta x)) old = old
+second_of (Ok (Pair u v)) old = v
+second_of (Ok End) old = old
+second_of (Err k) old = old
 
-abbrev pub value_of : Record → (old : ℕ) → ℕ
-value_of (Size n floor) old = old
-value_of (Edge a b m) old = m
-value_of (Beta x) old = x
-value_of (Pair u v) old = old
-value_of End old = old
-value_of (Refused k) old = old
+abbrev pub value_of : Result Record ℕ → (old : ℕ) → ℕ
+value_of (Ok (Size n floor)) old = old
+value_of (Ok (Edge a b m)) old = m
+value_of (Ok (Beta x)) old = x
+value_of (Ok (Pair u v)) old = old
+value_of (Ok End) old = old
+value_of (Err k) old = old
 
 -- the place behind a record that is at a place
-abbrev pub next_of : Record → (place old : ℕ) → ℕ
-next_of (Size n floor) place old = place + 4
-next_of (Edge a b m) place old = place + 13
-next_of (Beta x) place old = place + 9
-next_of (Pair u v) place old = place + 5
-next_of End place old = place + 1
-next_of (Refused k) place old = old
+abbrev pub next_of : Result Record ℕ → (place old : ℕ) → ℕ
+next_of (Ok (Size n floor)) place old = place + 4
+next_of (Ok (Edge a b m)) place old = place + 13
+next_of (Ok (Beta x)) place old = place + 9
+next_of (Ok (Pair u v)) place old = place + 5
+next_of (Ok End) place old = place + 1
+next_of (Err k) place old = old

@@ -1,8 +1,7 @@
 -- The grammar of a sheet, apart from any reader: exactly one kind 1 first, then all 2, all 3, all 4, then 5 with nothing behind it.
 use Rattle.std.specs.Prelude.{◌≡◌, cond, List, ℕ, ◌+◌, ◌*◌, ◌<◌, ltb, length}
 use Rattle.job_sheet.specs.Records.{kind_at}
-use Rattle.job_sheet.specs.Counts.{counted, refused}
-use Rattle.job_sheet.specs.declared.counts.Counts.{Counts}
+use Rattle.job_sheet.specs.Counts.{SheetCounts, counted, refused}
 
 -- where the records of each kind stand
 abbrev pub edge_place : (i : ℕ) → ℕ
@@ -35,5 +34,5 @@ pub record Sheet (bytes : List ℕ) (edges betas pairs : ℕ) : Type 0 where
   pub size : length bytes ≡ sheet_length edges betas pairs
 
 -- What the reader tells of bytes with a sheet at their front: its numbers of records or, where bytes are behind it, 20.
-abbrev pub told_of : List ℕ → (edges betas pairs : ℕ) → Counts
+abbrev pub told_of : List ℕ → (edges betas pairs : ℕ) → SheetCounts
 told_of bytes edges betas pairs = cond (ltb (sheet_length edges betas pairs) (length bytes)) (refused 20) (counted edges betas pairs)

@@ -1,14 +1,15 @@
 // A whole sheet, read record by record.
 ghost use Rattle.std.specs.Prelude.{◌≡◌, cond, ◌+◌, ◌<◌, ◌^◌, eqb};
+ghost use Rattle.refusals.specs.Answers.{Answered};
 ghost use Rattle.job_sheet.specs.Records.{record_length};
-ghost use Rattle.job_sheet.specs.Counts.{counts_of, refused as refused_by, behind, Passed};
+ghost use Rattle.job_sheet.specs.Counts.{counts_of, records_of, behind, Passed};
 
 use crate::record::{check_record, record_length};
+use refusals::Refusal;
 
-// 19 or 20, or 0 and how many records of each kind an accepted sheet has.
-#[derive(Drop)]
+// How many records of each kind an accepted sheet has.
+#[derive(Clone, Copy)]
 pub struct Counts {
-    pub refusal: usize,
     pub edges: usize,
     pub betas: usize,
     pub pairs: usize,
@@ -49,20 +50,9 @@ fn read_on(at: Reading, kind: usize) -> Reading
     }
 }
 
-fn refused(number: usize) -> Counts
-    ensures { result ≡ refused_by number }
-{
-    Counts {
-        refusal: number,
-        edges: 0,
-        betas: 0,
-        pairs: 0,
-    }
-}
-
 // Counts the records of a whole sheet.
-pub fn count_records(sheet: &[u8]) -> Counts
-    ensures { result ≡ counts_of sheet.now }
+pub fn count_records(sheet: &[u8]) -> Result<Counts, Refusal>
+    ensures { Answered (counts_of sheet.now).refusal (records_of (counts_of sheet.now)) result }
 {
     let mut at = Reading {
         place: 0,
@@ -73,18 +63,14 @@ pub fn count_records(sheet: &[u8]) -> Counts
     };
     loop {
         let place = at.place;
-        let refusal = check_record(sheet, place, at.last);
-        if refusal != 0 {
-            return refused(refusal);
-        }
+        check_record(sheet, place, at.last)?;
         let kind = sheet[place] as usize;
         if 5 <= kind {
-            return Counts {
-                refusal: 0,
+            return Ok(Counts {
                 edges: at.edges,
                 betas: at.betas,
                 pairs: at.pairs,
-            };
+            });
         }
         at = read_on(at, kind);
     }

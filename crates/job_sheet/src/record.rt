@@ -1,11 +1,13 @@
 // One record of a sheet, by its place and the kind read last.
 ghost use Rattle.std.specs.Prelude.{◌≡◌, ◌+◌, ◌≤◌, length};
+ghost use Rattle.refusals.specs.Numbers.{refused, by_number};
 ghost use Rattle.little_endian.specs.Words.{word_at};
 ghost use Rattle.job_sheet.specs.Records.{may_follow, record_length, refusal_at, record_of, record_at};
 
 use little_endian::word_at;
+use refusals::Refusal;
 
-// The five kinds in their order, or 19 or 20. A double is its bits.
+// The five kinds in their order. A double is its bits.
 #[derive(Drop)]
 pub enum Record {
     Size(usize, usize),
@@ -13,7 +15,6 @@ pub enum Record {
     Beta(u64),
     Pair(usize, usize),
     End,
-    Refused(usize),
 }
 
 // How many bytes a record of this kind has.
@@ -54,28 +55,28 @@ fn may_follow(last: usize, kind: usize) -> bool
     kind <= 5
 }
 
-// Returns 19 or 20 where the reader has no record to answer, else 0.
-pub fn check_record(sheet: &[u8], place: usize, last: usize) -> usize
-    ensures { result ≡ refusal_at sheet.now place last }
+// Refuses where the reader has no record to answer: 19 or 20.
+pub fn check_record(sheet: &[u8], place: usize, last: usize) -> Result<(), Refusal>
+    ensures { refused result ≡ refusal_at sheet.now place last }
 {
     if sheet.len() <= place {
-        return 19;
+        return Err(Refusal::SheetRecord);
     }
     let kind = sheet[place] as usize;
     if !may_follow(last, kind) {
-        return 19;
+        return Err(Refusal::SheetRecord);
     }
     let left = sheet.len() - place;
     if left < record_length(kind) {
-        return 19;
+        return Err(Refusal::SheetRecord);
     }
     if kind < 5 {
-        return 0;
+        return Ok(());
     }
     if 1 < left {
-        return 20;
+        return Err(Refusal::SheetTail);
     }
-    0
+    Ok(())
 }
 
 // The number of so few bytes that begin at `place`.
@@ -117,12 +118,9 @@ fn whole_record(sheet: &[u8], place: usize, kind: usize) -> Record
 }
 
 // The record at `place`, where `last` is the kind read last, 0 at first.
-pub fn read_record(sheet: &[u8], place: usize, last: usize) -> Record
-    ensures { result ≡ record_at sheet.now place last }
+pub fn read_record(sheet: &[u8], place: usize, last: usize) -> Result<Record, Refusal>
+    ensures { by_number result ≡ record_at sheet.now place last }
 {
-    let refusal = check_record(sheet, place, last);
-    if refusal != 0 {
-        return Record::Refused(refusal);
-    }
-    whole_record(sheet, place, sheet[place] as usize)
+    check_record(sheet, place, last)?;
+    Ok(whole_record(sheet, place, sheet[place] as usize))
 }

@@ -1,7 +1,9 @@
 -- What reading a whole sheet answers and leaves in the lists.
 use Rattle.std.specs.Prelude.{◌≡◌, Bool, cond, ◌||◌, List, ℕ, ◌+◌, ◌*◌, ◌≤◌, ◌<◌, eqb, ltb, length}
+use Rattle.std.specs.declared.result.Result.{Result}
 use Rattle.list_laws.specs.Front.{over}
-use Rattle.refusals.specs.Answers.{left}
+use Rattle.refusals.specs.declared.Refusal.{Refusal}
+use Rattle.refusals.specs.Answers.{Answered, left}
 use Rattle.job_sheet.specs.Counts.{counts_of}
 use Rattle.job_sheet_bytes.specs.Jobs.{job_of}
 use Rattle.job_sheet_lists.specs.declared.answer.SheetJob.{SheetJob}
@@ -17,13 +19,9 @@ abbrev pub lists_refusal : List ℕ → (a b m betas us vs : ℕ) → ℕ
 lists_refusal sheet a b m betas us vs =
     cond (eqb (counts_of sheet).refusal 0) (cond (short_lists sheet a b m betas us vs) 12 0) (counts_of sheet).refusal
 
-abbrev pub refused_job : ℕ → SheetJob
-refused_job k = record { refusal = k; n = 0; floor = 0; edges = 0; betas = 0; pairs = 0 }
-
 -- an accepted sheet's numbers
 abbrev pub numbers_of : List ℕ → SheetJob
 numbers_of sheet = record {
-  refusal = 0;
   n = (job_of sheet).vertices;
   floor = (job_of sheet).floor;
   edges = (counts_of sheet).edges;
@@ -36,9 +34,8 @@ abbrev pub refusal_of : List ℕ → (a b m betas us vs : List ℕ) → ℕ
 refusal_of sheet a b m betas us vs = lists_refusal sheet (length a) (length b) (length m) (length betas) (length us) (length vs)
 
 -- The answer r of a call, and the lists after it: the sheet's job at their fronts, or as they were.
-pub record ReadJob (sheet : List ℕ) (r : SheetJob) (a a' b b' m m' x x' us us' vs vs' : List ℕ) : Type 0 where
-  pub answer : r ≡ left (refusal_of sheet a b m x us vs) (numbers_of sheet)
-      (refused_job (refusal_of sheet a b m x us vs))
+pub record ReadJob (sheet : List ℕ) (r : Result SheetJob Refusal) (a a' b b' m m' x x' us us' vs vs' : List ℕ) : Type 0 where
+  pub answer : Answered (refusal_of sheet a b m x us vs) (numbers_of sheet) r
   pub ones : a' ≡ left (refusal_of sheet a b m x us vs) (over (job_of sheet).ones a) a
   pub others : b' ≡ left (refusal_of sheet a b m x us vs) (over (job_of sheet).others b) b
   pub magnitudes : m' ≡ left (refusal_of sheet a b m x us vs) (over (job_of sheet).magnitudes m) m

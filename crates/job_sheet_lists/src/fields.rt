@@ -20,10 +20,8 @@ pub fn load_numbers(
     requires { Loads sheet.now place step offset 2 count (length out.old) }
     ensures { out.new ≡ over (tabulate (λ i. word_at sheet.now (place + step * i + offset) 2) count) out.old }
 {
-    let mut i: usize = 0;
-    while i < count {
+    for i in 0..count {
         out[i] = number_at(sheet, place + step * i + offset, 2);
-        i += 1;
     }
 }
 
@@ -39,9 +37,7 @@ pub fn load_words(
     requires { Loads sheet.now place step offset 8 count (length out.old) }
     ensures { out.new ≡ over (tabulate (λ i. word_at sheet.now (place + step * i + offset) 8) count) out.old }
 {
-    let mut i: usize = 0;
-    while i < count {
+    for i in 0..count {
         out[i] = word_at(sheet, place + step * i + offset, 8);
-        i += 1;
     }
 }

@@ -7,9 +7,10 @@ mod answer;
 mod fields;
 
 pub use answer::SheetJob;
-use answer::{refused, too_short};
+use answer::too_short;
 use fields::{load_numbers, load_words};
 use job_sheet::{count_records, number_at};
+use refusals::Refusal;
 
 // The numbers of an accepted sheet; its records at the fronts of the lists, doubles by their bits. What lies behind them stays.
 pub fn sheet_job(
@@ -20,26 +21,22 @@ pub fn sheet_job(
     betas: &mut [u64],
     us: &mut [usize],
     vs: &mut [usize],
-) -> SheetJob
+) -> Result<SheetJob, Refusal>
     ensures { ReadJob sheet.now result a.old a.new b.old b.new m.old m.new
         betas.old betas.new us.old us.new vs.old vs.new }
 {
-    let counts = count_records(sheet);
-    let refusal = counts.refusal;
-    if refusal != 0 {
-        return refused(refusal);
-    }
+    let counts = count_records(sheet)?;
     let edges = counts.edges;
     let n_betas = counts.betas;
     let pairs = counts.pairs;
     if too_short(edges, a.len(), edges, b.len()) {
-        return refused(12);
+        return Err(Refusal::Buffer);
     }
     if too_short(edges, m.len(), n_betas, betas.len()) {
-        return refused(12);
+        return Err(Refusal::Buffer);
     }
     if too_short(pairs, us.len(), pairs, vs.len()) {
-        return refused(12);
+        return Err(Refusal::Buffer);
     }
     let first_beta = 4 + 13 * edges;
     let first_pair = first_beta + 9 * n_betas;
@@ -49,12 +46,11 @@ pub fn sheet_job(
     load_words(sheet, first_beta, 9, 1, n_betas, betas);
     load_numbers(sheet, first_pair, 5, 1, pairs, us);
     load_numbers(sheet, first_pair, 5, 3, pairs, vs);
-    SheetJob {
-        refusal: 0,
+    Ok(SheetJob {
         n: number_at(sheet, 1, 2),
         floor: number_at(sheet, 3, 1),
         edges,
         betas: n_betas,
         pairs,
-    }
+    })
 }

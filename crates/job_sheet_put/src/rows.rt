@@ -11,10 +11,8 @@ pub fn put_edges(sheet: &mut [u8], place: usize, a: &[usize], b: &[usize], m: &[
     ensures { Appended place (rows (raw_edge a.now b.now m.now) (length a.now))
         sheet.old sheet.new }
 {
-    let mut i: usize = 0;
-    while i < a.len() {
+    for i in 0..a.len() {
         put_edge(sheet, place + 13 * i, a[i], b[i], bits_of(m[i]));
-        i += 1;
     }
 }
 
@@ -22,10 +20,8 @@ pub fn put_betas(sheet: &mut [u8], place: usize, betas: &[f64])
     requires { place + 9 * length betas.now ≤ length sheet.old }
     ensures { Appended place (rows (raw_beta betas.now) (length betas.now)) sheet.old sheet.new }
 {
-    let mut i: usize = 0;
-    while i < betas.len() {
-        put_beta(sheet, place + 9 * i, bits_of(betas[i]));
-        i += 1;
+    for (i, beta) in betas.iter().enumerate() {
+        put_beta(sheet, place + 9 * i, bits_of(*beta));
     }
 }
 
@@ -33,9 +29,7 @@ pub fn put_pairs(sheet: &mut [u8], place: usize, us: &[usize], vs: &[usize])
     requires { (length vs.now ≡ length us.now) × (place + 5 * length us.now ≤ length sheet.old) }
     ensures { Appended place (rows (raw_pair us.now vs.now) (length us.now)) sheet.old sheet.new }
 {
-    let mut i: usize = 0;
-    while i < us.len() {
+    for i in 0..us.len() {
         put_pair(sheet, place + 5 * i, us[i], vs[i]);
-        i += 1;
     }
 }

@@ -2,9 +2,11 @@
 #![tactic(auto)]
 
 ghost use Rattle.std.specs.Prelude.{◌≡◌};
+ghost use Rattle.refusals.specs.Numbers.{by_number};
 ghost use Rattle.job_sheet.specs.Records.{record_at};
 
 use job_sheet::{Record, read_record};
+use refusals::Refusal;
 
 #[derive(Drop)]
 pub struct SheetReader<'a> {
@@ -14,8 +16,8 @@ pub struct SheetReader<'a> {
 }
 
 // The work: as `job_sheet::read_record`.
-pub fn read_at(sheet: &[u8], place: usize, last: usize) -> Record
-    ensures { result ≡ record_at sheet.now place last }
+pub fn read_at(sheet: &[u8], place: usize, last: usize) -> Result<Record, Refusal>
+    ensures { by_number result ≡ record_at sheet.now place last }
 {
     read_record(sheet, place, last)
 }
@@ -32,8 +34,8 @@ pub fn new<'a>(sheet: &'a [u8]) -> SheetReader<'a>
 }
 
 // The record at the reader's place.
-pub fn read<'a>(reader: SheetReader<'a>) -> Record
-    ensures { result ≡ record_at reader.entry.sheet.now reader.entry.place reader.entry.last }
+pub fn read<'a>(reader: SheetReader<'a>) -> Result<Record, Refusal>
+    ensures { by_number result ≡ record_at reader.entry.sheet.now reader.entry.place reader.entry.last }
 {
     read_at(reader.sheet, reader.place, reader.last)
 }

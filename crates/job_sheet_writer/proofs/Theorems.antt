@@ -1,10 +1,9 @@
 -- A job read from a written sheet is the one written, doubles by their bits; an accepted sheet whose job passes the writer's checks is written again unchanged.
-use Rattle.std.specs.Prelude.{◌≡◌, refl, false, List, ℕ, zero, suc, Float, length, take}
-use Rattle.std.proofs.Common.{sym, ap, ◌∙◌, arith, take_at}
+use Rattle.std.specs.Prelude.{◌≡◌, Ok, false, List, ℕ, Float, length, take}
+use Rattle.std.proofs.Common.{sym, ap, ◌∙◌, take_at}
 use Rattle.list_laws.specs.Front.{over}
 use Rattle.refusals.specs.Request.{some_oversized}
-use Rattle.refusals.specs.Answers.{answered, left}
-use Rattle.refusals.specs.declared.Answer.TheVariants.{Number}
+use Rattle.refusals.specs.Answers.{left}
 use Rattle.little_endian.specs.Words.{Bytes}
 use Rattle.job_sheet.specs.Counts.{counted, counts_of}
 use Rattle.job_sheet.specs.Sheets.{sheet_length}
@@ -15,15 +14,10 @@ use Rattle.job_sheet_writer.specs.Writes.{sheet_refusal, Wrote}
 use Rattle.job_sheet_writer.proofs.Laws.Passed.{Doubles, sizes, fits-given, doubles_of_bits, bits_of_doubles}
 use Rattle.job_sheet_put.proofs.Laws.Rows.{bits-length}
 
--- an answer that is a length is that of an accepted call
-accepted-answer : (k x long : ℕ) → Number long ≡ answered k x → (k ≡ 0) × (long ≡ x)
-accepted-answer zero x long e = (refl, cc)
-accepted-answer (suc k) x long e = absurd (let z : ◌≡◌ {A = ℕ} 0 1 = cc in omega arith)
-
 module _ (n floor : ℕ) (a b : List ℕ) (m : List Float) (us vs : List ℕ) (betas : List Float) (long : ℕ) (sheet sheet' : List ℕ)
-    (w : Wrote n floor a b m us vs betas (Number long) sheet sheet') where
+    (w : Wrote n floor a b m us vs betas (Ok long) sheet sheet') where
   answer-is : (sheet_refusal n floor a b m us vs betas (length sheet) ≡ 0) × (long ≡ sheet_length (length a) (length betas) (length us))
-  answer-is = accepted-answer _ _ long w.answer
+  answer-is = (sym w.answer.0, w.answer.1)
 
   sizes_pass : (some_oversized m ≡ false) × (some_oversized betas ≡ false)
   sizes_pass = sizes n floor a b m us vs betas (length sheet) answer-is.0
@@ -56,7 +50,7 @@ module _ (n floor : ℕ) (a b : List ℕ) (m : List Float) (us vs : List ℕ) (b
 -- A call that writes the job of an accepted sheet leaves that sheet at the buffer's front, and its length is the answer.
 module _ (bytes : List ℕ) (b : Bytes bytes) (accepted : (counts_of bytes).refusal ≡ 0) (long : ℕ) (sheet sheet' : List ℕ)
     (w : Wrote (job_of bytes).vertices (job_of bytes).floor (job_of bytes).ones (job_of bytes).others (doubles_of (job_of bytes).magnitudes)
-    (job_of bytes).firsts (job_of bytes).seconds (doubles_of (job_of bytes).betas) (Number long) sheet sheet') where
+    (job_of bytes).firsts (job_of bytes).seconds (doubles_of (job_of bytes).betas) (Ok long) sheet sheet') where
   passes : (some_oversized (doubles_of (job_of bytes).magnitudes) ≡ false) × (some_oversized (doubles_of (job_of bytes).betas) ≡ false)
   passes = sizes_pass _ _ _ _ _ _ _ _ long sheet sheet' w
 

@@ -6,9 +6,9 @@ ghost use Rattle.job_sheet_writer.specs.Writes.{Wrote};
 use job_checks::check_with_betas;
 use job_sheet_put::put_sheet;
 use limits::{Caller, EDGES};
-use refusals::Answer;
+use refusals::Refusal;
 
-// The length of the sheet, or the refusal's number. What lies behind the sheet stays.
+// The length of the sheet. What lies behind the sheet stays.
 pub fn sheet_write(
     n: usize,
     floor: usize,
@@ -19,14 +19,14 @@ pub fn sheet_write(
     vs: &[usize],
     betas: &[f64],
     sheet: &mut [u8],
-) -> Answer
+) -> Result<usize, Refusal>
     ensures { Wrote n floor a.now b.now m.now us.now vs.now betas.now
         result sheet.old sheet.new }
 {
     let mut early = [0usize; EDGES];
     let mut late = [0usize; EDGES];
     let mut mag = [0.0f64; EDGES];
-    let job = check_with_betas(
+    check_with_betas(
         Caller::Desk,
         n,
         floor,
@@ -39,15 +39,11 @@ pub fn sheet_write(
         &mut early,
         &mut late,
         &mut mag,
-    );
-    let refusal = job.refusal;
-    if refusal != 0 {
-        return Answer::Refused(refusal);
-    }
+    )?;
     let long = 5 + 13 * a.len() + 9 * betas.len() + 5 * us.len();
     if sheet.len() < long {
-        return Answer::Refused(12);
+        return Err(Refusal::Buffer);
     }
     put_sheet(sheet, n, floor, a, b, m, us, vs, betas);
-    Answer::Number(long)
+    Ok(long)
 }

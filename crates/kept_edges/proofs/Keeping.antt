@@ -9,7 +9,7 @@ use lib.Ieee.{Float, nan, eq, ne}
 use lib.ListN.{length, get_or, set, length-append, length-set, length-map}
 use Rattle.list_laws.specs.Front.{over}
 use Rattle.list_laws.proofs.Laws.Front.{over-more}
-use Rattle.refusals.specs.Edges.{Kept, kept_at, kept_of, kept, is_zero, early_ends, late_ends, magnitudes}
+use Rattle.refusals.specs.Edges.{Kept, kept_at, kept_of, kept, is_zero}
 use Rattle.kept_edges.specs.Keep.{Written, Holds}
 
 module _ (a b : List ℕ) (m : List Float) where

@@ -1,10 +1,13 @@
 -- The kept edges on their way into three buffers: what a loop over the raw edges knows.
-use Rattle.std.specs.Prelude.{◌≡◌, List, [], ℕ, ◌≤◌, ◌<◌, Float, length, get_or, take}
+use Rattle.std.specs.Prelude.{◌≡◌, List, [], ℕ, ◌≤◌, ◌<◌, Float, length, get_or, IfOk}
+use Rattle.std.specs.declared.result.Result.{Result}
 use Rattle.limits.specs.Limits.{most_vertices}
 use Rattle.list_laws.specs.Front.{over}
 use Rattle.refusals.specs.Edges.{kept_of, early_ends, late_ends, magnitudes, places}
 use Rattle.refusals.specs.Request.{job_request}
-use Rattle.refusals.specs.Refusal as Refusal
+use Rattle.refusals.specs.declared.Refusal.{Refusal}
+use Rattle.refusals.specs.Numbers.{refused}
+use Rattle.refusals.specs.Refusal as Refused
 use Rattle.refusals.specs.Refusal.{of_raw_graph, of_graph}
 
 -- the k kept ones of the first i raw edges were written to the fronts of three buffers; what lies past them stayed
@@ -29,22 +32,15 @@ pub record Holds (k : ℕ) (early late : List ℕ) (mag : List Float) : Type 0 w
   pub lates : k ≤ length late
   pub mags : k ≤ length mag
 
--- the first of the checks 1 to 4 and 21 that fits a graph with pairs and betas
-pub record CheckedRaw (n : ℕ) (a b : List ℕ) (m : List Float) (us vs : List ℕ) (betas : List Float) (refused : ℕ) : Type 0 where
-  pub refusal : refused ≡ Refusal.refusal of_raw_graph (job_request n 0 a b m us vs betas)
+-- r is the number of the first of the checks 1 to 4 and 21 that fits a graph with pairs and betas, 0 where none does
+pub record CheckedRaw (n : ℕ) (a b : List ℕ) (m : List Float) (us vs : List ℕ) (betas : List Float) (r : ℕ) : Type 0 where
+  pub refusal : r ≡ Refused.refusal of_raw_graph (job_request n 0 a b m us vs betas)
 
--- the first of the checks 1 to 5, 21 among them, that fits a graph with pairs and betas, and its k kept edges, written if there is none
-pub record CheckedGraph (n : ℕ) (a b : List ℕ) (m : List Float) (us vs : List ℕ) (betas : List Float) (refused k : ℕ)
+-- the answer of the checks 1 to 5, 21 among them, of a graph with pairs and betas; where none fits, how many edges are kept, and these are written
+pub record CheckedGraph (n : ℕ) (a b : List ℕ) (m : List Float) (us vs : List ℕ) (betas : List Float) (answer : Result ℕ Refusal)
     (early early' late late' : List ℕ) (mag mag' : List Float) : Type 0 where
-  pub refusal : refused ≡ Refusal.refusal of_graph (job_request n 0 a b m us vs betas)
-  pub written : refused ≡ 0 → Written a b m (length a) k early early' late late' mag mag'
-  -- refused or not, the lists have fronts of k
-  pub early-fits : k ≤ length early'
-  pub early-part : k ≡ length (take k early')
-  pub late-fits : k ≤ length late'
-  pub late-part : k ≡ length (take k late')
-  pub mag_fits : k ≤ length mag'
-  pub mag_part : k ≡ length (take k mag')
+  pub refusal : refused answer ≡ Refused.refusal of_graph (job_request n 0 a b m us vs betas)
+  pub written : IfOk answer (λ k. Written a b m (length a) k early early' late late' mag mag')
 
 -- two lists of ends of one length, each edge's smaller end first
 pub record Ordered (early late : List ℕ) : Type 0 where

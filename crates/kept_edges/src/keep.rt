@@ -31,12 +31,10 @@ pub fn keep_dropping(
     ensures { Written a.now b.now (dropping dropped m.now) (length a.now) result early.old early.new late.old late.new mag.old mag.new }
 {
     let mut k: usize = 0;
-    let mut i: usize = 0;
-    while i < a.len() {
+    for i in 0..a.len() {
         let x = smaller(a[i], b[i]);
         let y = larger(a[i], b[i]);
         let w = magnitude_dropping(m, dropped, i);
-        i += 1;
         if w != 0.0 {
             early[k] = x;
             late[k] = y;
@@ -68,11 +66,8 @@ pub fn keep_places(m: &[f64], raw: &mut [usize]) -> usize
     ensures { Placed m.now (length m.now) result raw.old raw.new }
 {
     let mut k: usize = 0;
-    let mut i: usize = 0;
-    while i < m.len() {
-        let place = i;
-        i += 1;
-        if m[place] != 0.0 {
+    for (place, w) in m.iter().enumerate() {
+        if *w != 0.0 {
             raw[k] = place;
             k += 1;
         }

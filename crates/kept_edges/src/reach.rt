@@ -10,10 +10,8 @@ fn longest(early: &[usize], late: &[usize]) -> usize
     ensures { result ≡ longest early.now late.now }
 {
     let mut most: usize = 0;
-    let mut e: usize = 0;
-    while e < early.len() {
+    for e in 0..early.len() {
         most = larger(most, late[e] - early[e]);
-        e += 1;
     }
     most
 }

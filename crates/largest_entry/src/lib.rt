@@ -24,10 +24,8 @@ fn one_lane(v: &[f64], at: usize, n: usize) -> f64
     ensures { result ≡ S.largest ieee ieee.𝟘 (part v.now at n) }
 {
     let mut a = 0.0;
-    let mut i = 0usize;
-    while i < n {
+    for i in 0..n {
         a = larger_of(a, v[at + i]);
-        i += 1;
     }
     a
 }
@@ -89,14 +87,12 @@ fn sixteen_lanes(v: &[f64], at: usize, n: usize) -> f64
     let mut b = a;
     let mut c = a;
     let mut d = a;
-    let mut t = 0usize;
-    while t < n {
+    for t in 0..n {
         let from = at + 16 * t;
         a = joined(a, four_at(v, from));
         b = joined(b, four_at(v, from + 4));
         c = joined(c, four_at(v, from + 8));
         d = joined(d, four_at(v, from + 12));
-        t += 1;
     }
     let l = joined(joined(joined(a, b), c), d);
     larger_of(larger_of(larger_of(l.a, l.b), l.c), l.d)

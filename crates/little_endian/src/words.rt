@@ -9,9 +9,7 @@ pub fn word_at(bytes: &[u8], place: usize, width: usize) -> u64
     ensures { result ≡ word_at bytes.now place width }
 {
     let mut x: u64 = 0;
-    let mut i = width;
-    while 0 < i {
-        i -= 1;
+    for i in (0..width).rev() {
         let byte = bytes[place + i] as u64;
         x = 256 * x + byte;
     }
@@ -24,10 +22,8 @@ pub fn put_word(bytes: &mut [u8], place: usize, width: usize, x: u64)
     ensures { bytes.new ≡ put bytes.old place (bytes_of width x) }
 {
     let mut rest = x;
-    let mut i: usize = 0;
-    while i < width {
+    for i in 0..width {
         bytes[place + i] = (rest % 256) as u8;
         rest = rest / 256;
-        i += 1;
     }
 }

@@ -28,13 +28,11 @@ fn mark_forward(marks: &mut [bool], w: usize, us: &[usize], vs: &[usize])
     requires { Pairs us.now vs.now (length marks.old) × Marked marks.old (λ t. false) }
     ensures { Marked marks.new (keeps_forward w us.now vs.now) }
 {
-    let mut i = 0usize;
-    while i < us.len() {
+    for i in 0..us.len() {
         let u = us[i];
         let v = vs[i];
         mark(marks, later(u, v), true);
         mark(marks, earlier(u, v), is_propagated(w, u, v));
-        i += 1;
     }
 }
 
@@ -43,12 +41,10 @@ fn mark_backward(marks: &mut [bool], less: bool, w: usize, us: &[usize], vs: &[u
     requires { Pairs us.now vs.now (length marks.old) × Marked marks.old (λ t. false) }
     ensures { Marked marks.new (keeps_backward (arranged less) w us.now vs.now) }
 {
-    let mut i = 0usize;
-    while i < us.len() {
+    for i in 0..us.len() {
         let u = us[i];
         let v = vs[i];
         mark(marks, later(u, v), waits(less, w, u, v));
-        i += 1;
     }
 }
 
@@ -71,11 +67,9 @@ fn number_places(plan: &mut [usize], n: usize, k: usize, marks: &[bool], from: u
     ensures { Numbered plan.old plan.new (λ t. get_or marks.now t false) k from n result }
 {
     let mut next = from;
-    let mut t = 0usize;
-    while t < n {
+    for t in 0..n {
         let kept = marks[t];
         next = give_place(plan, t, k, kept, next);
-        t += 1;
     }
     next
 }
@@ -86,12 +80,10 @@ fn count_marks(marks: &[bool], n: usize) -> usize
     ensures { result ≡ count (λ t. get_or marks.now t false) n }
 {
     let mut c = 0usize;
-    let mut t = 0usize;
-    while t < n {
+    for t in 0..n {
         if marks[t] {
             c += 1;
         }
-        t += 1;
     }
     c
 }

@@ -5,13 +5,13 @@ ghost use Rattle.pair_places.specs.Places.{propagated_pair, waiting_pair};
 pub fn earlier(u: usize, v: usize) -> usize
     ensures { result ≡ min u v }
 {
-    if u < v { u } else { v }
+    u.min(v)
 }
 
 pub fn later(u: usize, v: usize) -> usize
     ensures { result ≡ max u v }
 {
-    if u < v { v } else { u }
+    u.max(v)
 }
 
 // A pair nearer than the window is direct; at the window or farther it is propagated.

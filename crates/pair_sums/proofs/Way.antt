@@ -1,5 +1,5 @@
 -- What an iteration adds to the sums of a pair, on the way there and on the way back.
-use mathlib.Core.Path.{◌≡◌, refl, ap, sym, ◌∙◌}
+use mathlib.Core.Path.{◌≡◌, refl, sym, ◌∙◌}
 use mathlib.Core.Bool.{Bool, true, false, not, cond}
 use mathlib.Core.List.{List}
 use mathlib.Core.Logic.{dite}
@@ -171,3 +171,9 @@ module _ (v : List Float) (at : Source) (i : ℕ) (even : i % 2 ≡ 0) (some : 1
           n-is = en ∙ rw (ex, ey) (signed_back (signs w at.d) (terms w (entries v at.g) (entries v at.b)) k minus s.n _ _ g.n-is (rw first) (rw second)
               (rw first (differ-odd at.d i some even)) (rw second (differ_even at.d i even)));
         })
+
+-- ---- two entries an iteration
+
+-- a half has two entries for each of 2 to the w - 2 iterations
+pub two_each : (w : ℕ) → 2 ≤ w → 2 * 2 ^ (w - 2) ≡ 2 ^ (w - 1)
+two_each w h = let e : w - 1 - 1 ≡ w - 2 = omega arith in sym (rw e at (pow_double (w - 1) (omega arith)))

@@ -6,21 +6,18 @@ ghost use Rattle.pair_sums.specs.Pair.{Within, Summed, Sourced, SumsOf};
 use crate::sums::{Source, Sums, begins, sums_of_one, terms_back, terms_there};
 use step_tables::pow2;
 
-// The sums over halves of two entries and more.
+// The sums over halves of two entries and more, two an iteration.
 fn alone_there_and_back(v: &[f64], x: Source, w: usize) -> Sums
     requires { (2 ≤ w) × (w ≤ most_window) × Within (length v.now) (2 ^ (w - 1)) x }
     ensures { Summed v.now x w (2 ^ w) result }
 {
     let mut s = Sums { z: 0.0, n: 0.0 };
-    let n = pow2(w - 1);
-    let mut i = 0usize;
-    while i < n {
-        s = terms_there(v, x, i, s);
-        i += 2;
+    let n = pow2(w - 2);
+    for k in 0..n {
+        s = terms_there(v, x, 2 * k, s);
     }
-    while i > 0 {
-        i -= 2;
-        s = terms_back(v, x, i, s);
+    for k in (0..n).rev() {
+        s = terms_back(v, x, 2 * k, s);
     }
     s
 }

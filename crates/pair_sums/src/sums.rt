@@ -79,24 +79,21 @@ pub fn sums_of_one(v: &[f64], at: Source) -> Sums
     }
 }
 
-// The sums of two pairs over halves of two entries and more.
+// The sums of two pairs over halves of two entries and more, two an iteration.
 fn there_and_back(v: &[f64], x: Source, y: Source, w: usize) -> Both
     requires { (2 ≤ w) × (w ≤ most_window) × Within (length v.now) (2 ^ (w - 1)) x × Within (length v.now) (2 ^ (w - 1)) y }
     ensures { Summed v.now x w (2 ^ w) result.first × Summed v.now y w (2 ^ w) result.second }
 {
     let mut s = Sums { z: 0.0, n: 0.0 };
     let mut t = s;
-    let n = pow2(w - 1);
-    let mut i = 0usize;
-    while i < n {
-        s = terms_there(v, x, i, s);
-        t = terms_there(v, y, i, t);
-        i += 2;
+    let n = pow2(w - 2);
+    for k in 0..n {
+        s = terms_there(v, x, 2 * k, s);
+        t = terms_there(v, y, 2 * k, t);
     }
-    while i > 0 {
-        i -= 2;
-        s = terms_back(v, x, i, s);
-        t = terms_back(v, y, i, t);
+    for k in (0..n).rev() {
+        s = terms_back(v, x, 2 * k, s);
+        t = terms_back(v, y, 2 * k, t);
     }
     Both {
         first: s,

@@ -9,8 +9,5 @@ use crate::Arrangement;
 pub fn takes_less(arrangement: Arrangement) -> bool
     ensures { arranged result ≡ arrangement_of arrangement }
 {
-    match arrangement {
-        Arrangement::KeepAll => false,
-        Arrangement::LessRoom => true,
-    }
+    arrangement == Arrangement::LessRoom
 }

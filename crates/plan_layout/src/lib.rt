@@ -8,7 +8,7 @@ pub use less::takes_less;
 pub use work::{Work, make_plan, room_needed};
 
 // How a call is arranged: every pair is answered from kept vectors, or direct pairs as the backward sweep passes, which takes less room.
-#[derive(Drop)]
+#[derive(Clone, Copy, Debug, PartialEq, Eq)]
 pub enum Arrangement {
     KeepAll,
     LessRoom,

@@ -15,11 +15,9 @@ fn clear_rows(plan: &mut [usize], n: usize)
     requires { Holds plan.old n }
     ensures { (t : ℕ) → t < n → (left_edge plan.new t ≡ 0) × (near_count plan.new t ≡ 0) }
 {
-    let mut t = 0usize;
-    while t < n {
+    for t in 0..n {
         plan[NUMBERS * t + LEFT_EDGE] = 0;
         plan[NUMBERS * t + NEAR_COUNT] = 0;
-        t += 1;
     }
 }
 
@@ -44,12 +42,10 @@ fn enter_all(plan: &mut [usize], n: usize, w: usize, early: &[usize], late: &[us
         × (result ≡ false → Steps plan.new early.now late.now n w) }
 {
     clear_rows(plan, n);
-    let mut e = 0usize;
-    while e < early.len() {
+    for e in 0..early.len() {
         let t = late[e];
         let d = t - early[e];
-        e += 1;
-        if !enter(plan, w, t, d, e) {
+        if !enter(plan, w, t, d, e + 1) {
             return true;
         }
     }
@@ -61,11 +57,9 @@ fn count_near(counts: &mut [usize], n: usize, w: usize, early: &[usize], late: &
     requires { Edges early.now late.now n w × Counts counts.old early.now late.now n w 0 }
     ensures { result ≡ false → too_many_near n w (numbered early.now late.now) ≡ false }
 {
-    let mut e = 0usize;
-    while e < early.len() {
+    for e in 0..early.len() {
         let t = late[e];
         let d = t - early[e];
-        e += 1;
         if d < w {
             let c = counts[t];
             if c == MOST_NEAR {

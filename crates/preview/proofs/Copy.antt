@@ -7,9 +7,7 @@ use Rattle.transfer_matrix.specs.Room as Room
 use Rattle.refusals.specs.Edges.{is_zero, dropping}
 use Rattle.refusals.specs.Request.{job_request, bad_vertices, bad_lists}
 use Rattle.refusals.proofs.Laws.Dropping.{dropping-length, dropping-lists}
-use Rattle.preview.specs.declared.answer.Preview.{Preview}
-use Rattle.preview.specs.declared.answer.Preview.TheVariants.{Refused}
-use Rattle.preview.specs.Previewed.{figures_of, told, cost_of, preview_of}
+use Rattle.preview.specs.Previewed.{cost_of, preview_of}
 use Rattle.preview.proofs.Laws.Zeros.{same_kept, same-sized}
 
 module _ (place : ℕ) (A : Room.Arrangement) (n floor : ℕ) (a b : List ℕ) (m : List Float) (us vs : List ℕ) (betas : List Float) where
@@ -19,12 +17,12 @@ module _ (place : ℕ) (A : Room.Arrangement) (n floor : ℕ) (a b : List ℕ) (
 
   -- No edge at that place: 24, right after 1 and 2.
   pub no_edge_there : length a ≤ place
-      → let q = job_request n floor a b m us vs betas in preview_of place A n floor a b m us vs betas ≡ Refused (cond (bad_vertices q) 1 (cond (bad_lists q) 2 24))
+      → let q = job_request n floor a b m us vs betas in (preview_of place A n floor a b m us vs betas).number ≡ cond (bad_vertices q) 1 (cond (bad_lists q) 2 24)
   no_edge_there h =
       let q = job_request n floor a b m us vs betas in
       rw (le-leb (length a) place h) (go (bad_vertices q) _ (bad_lists q) (sym (dropping-lists place n floor a b m us vs betas)))
     where
-      go : (x y z : Bool) → y ≡ z → told (cond x 1 (cond y 2 24)) (figures_of A n floor a b (dropping place m) us vs) ≡ Refused (cond x 1 (cond z 2 24))
+      go : (x y z : Bool) → y ≡ z → ◌≡◌ {A = ℕ} (cond x 1 (cond y 2 24)) (cond x 1 (cond z 2 24))
       go true y z e = refl
       go false y true e = rw e
       go false y false e = rw e

@@ -7,9 +7,3 @@ pub struct Figures {
     pub free: usize,
     pub room: usize,
 }
-
-#[derive(Drop)]
-pub enum Preview {
-    Costs(Figures),
-    Refused(usize),
-}

@@ -2,20 +2,20 @@
 // nothing written.
 #![tactic(auto)]
 
-ghost use Rattle.std.specs.Prelude.{◌≡◌};
 ghost use Rattle.refusals.specs.Edges.{dropping};
 ghost use Rattle.plan_layout.specs.Arrangements.{arrangement_of};
-ghost use Rattle.preview.specs.Previewed.{cost_of, preview_of};
+ghost use Rattle.preview.specs.Previewed.{Costs, cost_of, preview_of};
 
 use forest::count_free_edges;
 use graph_checks::{bad_lists, bad_vertices};
 use job_checks::check_dropping;
 use limits::{Caller, EDGES};
 use plan_layout::{Arrangement, room_needed, takes_less};
+use refusals::Refusal;
 
 mod answer;
 
-pub use answer::{Figures, Preview};
+pub use answer::Figures;
 
 // The figures of the job whose magnitude at `place` is zero, or the first of the checks 1 to 8 that it meets.
 fn cost_dropping(
@@ -29,9 +29,9 @@ fn cost_dropping(
     betas: &[f64],
     place: usize,
     arrangement: Arrangement,
-) -> Preview
-    ensures { result ≡ cost_of (arrangement_of arrangement) n floor a.now b.now (dropping place m.now)
-        us.now vs.now betas.now }
+) -> Result<Figures, Refusal>
+    ensures { Costs (cost_of (arrangement_of arrangement) n floor a.now b.now (dropping place m.now)
+        us.now vs.now betas.now) result }
 {
     let mut early = [0usize; EDGES];
     let mut late = [0usize; EDGES];
@@ -50,16 +50,12 @@ fn cost_dropping(
         &mut early,
         &mut late,
         &mut mag,
-    );
-    let refusal = job.refusal;
-    if refusal != 0 {
-        return Preview::Refused(refusal);
-    }
+    )?;
     let edges = job.edges;
     let free = count_free_edges(n, &early[..edges], &late[..edges]);
     let less = takes_less(arrangement);
     let room = room_needed(less, n, job.window, edges, us, vs);
-    Preview::Costs(Figures {
+    Ok(Figures {
         window: job.window,
         free,
         room,
@@ -78,18 +74,18 @@ pub fn preview(
     betas: &[f64],
     place: usize,
     arrangement: Arrangement,
-) -> Preview
-    ensures { result ≡ preview_of place (arrangement_of arrangement) n floor a.now b.now m.now us.now
-        vs.now betas.now }
+) -> Result<Figures, Refusal>
+    ensures { Costs (preview_of place (arrangement_of arrangement) n floor a.now b.now m.now us.now
+        vs.now betas.now) result }
 {
     if bad_vertices(n) {
-        return Preview::Refused(1);
+        return Err(Refusal::VertexCount);
     }
     if bad_lists(a.len(), b.len(), m.len(), us.len(), vs.len(), betas.len()) {
-        return Preview::Refused(2);
+        return Err(Refusal::ListLengths);
     }
     if a.len() <= place {
-        return Preview::Refused(24);
+        return Err(Refusal::EdgePlace);
     }
     cost_dropping(n, floor, a, b, m, us, vs, betas, place, arrangement)
 }

@@ -60,13 +60,11 @@ pub fn direct_pairs(us: &[usize], vs: &[usize], order: &[usize], n: usize, w: us
     requires { Pairs us.now vs.now n × InOrder order.now us.now vs.now w }
     ensures { Directs us.now vs.now order.now w result }
 {
-    let mut k = 0usize;
-    while k < order.len() {
+    for k in 0..order.len() {
         let p = order[k];
         if is_propagated(w, us[p], vs[p]) {
             return k;
         }
-        k += 1;
     }
-    k
+    order.len()
 }

@@ -1,5 +1,5 @@
 -- What `sample_record` and `house_sample_record` answer and leave in the lent lists.
-use Rattle.std.specs.Prelude.{◌≡◌, Bool, cond, List, ℕ, ◌+◌, eqb, Float, length, get_or}
+use Rattle.std.specs.Prelude.{◌≡◌, cond, List, ℕ, ◌+◌, eqb, Float, length, get_or}
 use Rattle.std.specs.Float.{nan}
 use Rattle.limits.specs.declared.Caller.TheVariants.{Desk}
 use Rattle.transfer_matrix.specs.Rounded.{ieee}

@@ -7,7 +7,6 @@ use Rattle.transfer_matrix.specs.Configuration.{numbered}
 use Rattle.transfer_matrix.specs.Room as Room
 use Rattle.refusals.specs.Edges.{kept, window_from, kept_early, kept_late}
 use Rattle.refusals.specs.Request.{Source, bad_list, source_number, passes}
-use Rattle.refusals.specs.Refusal.{checks}
 use Rattle.refusals.specs.Accepted.{Accepted}
 
 -- ---- in parts

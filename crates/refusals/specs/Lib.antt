@@ -5,6 +5,7 @@ pub mod Key
 pub mod Couplings
 pub mod Request
 pub mod Refusal
+pub mod Numbers
 pub mod Answers
 pub mod Accepted
 pub mod AcceptedJob

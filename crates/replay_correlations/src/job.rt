@@ -2,10 +2,11 @@
 use entry_correlations::Manner;
 use limits::Caller;
 use plan_layout::Arrangement;
-use refusals::Answer;
+use refusals::{Refusal, refused};
 use replay_format::{
-    Counted, NUMBERS, Replayed, advance, are_cleared, are_stored, at, begin, edge_lists, fill,
-    finish, length_at, load_doubles, load_edges, load_numbers, number_at, two_lists, word,
+    Counted, NUMBERS, Replayed, advance, answer_word, are_cleared, are_stored, at, begin,
+    edge_lists, fill, finish, length_at, load_doubles, load_edges, load_numbers, number_at,
+    two_lists, word,
 };
 
 // More than a call takes.
@@ -53,13 +54,6 @@ fn manner_of(elementwise: u64) -> Manner {
     Manner::Block
 }
 
-fn room_word(room: Answer) -> u64 {
-    match room {
-        Answer::Number(k) => k as u64,
-        Answer::Refused(k) => std::num::wrapping_add_u64(REFUSED, k as u64),
-    }
-}
-
 // Fills results and work memory with what they hold before the call, and calls.
 fn call(
     list: &[u8],
@@ -79,7 +73,7 @@ fn call(
     let manner = manner_of(word(list, at(start, PER_ELEMENT)));
     fill(list, at(start, BEFORE), results);
     fill(list, at(start, BEFORE), memory);
-    entry_correlations::correlations(
+    let answer = entry_correlations::correlations(
         n,
         floor,
         a,
@@ -93,7 +87,8 @@ fn call(
         Caller::Desk,
         results,
         memory,
-    )
+    );
+    refused(answer)
 }
 
 // Whether the number, the results, which are stored at `place`, and the work memory, so much of it cleared, are what they should be.
@@ -124,17 +119,17 @@ fn room_agrees(
     let n = number_at(list, start);
     let floor = number_at(list, at(start, FLOOR));
     let room = job_checks::room(n, floor, a, b, m, us, vs, Arrangement::KeepAll);
-    room_word(room) == word(list, at(start, ROOM))
+    answer_word(room, REFUSED) == word(list, at(start, ROOM))
 }
 
 // How much is +0.0 after a call in less room: its own room, where the other arrangement's was cleared.
-fn less_cleared(cleared: usize, room: Answer) -> usize {
+fn less_cleared(cleared: usize, room: Result<usize, Refusal>) -> usize {
     if cleared == 0 {
         return 0;
     }
     match room {
-        Answer::Number(k) => k,
-        Answer::Refused(_) => 0,
+        Ok(k) => k,
+        Err(_) => 0,
     }
 }
 
@@ -234,7 +229,7 @@ fn replay(list: &[u8], start: usize, work: &mut [f64]) -> Replayed {
 // The first word is the number of jobs. Those that agree are counted by their refusal's number.
 pub(crate) fn replay_all(list: &[u8], work: &mut [f64], counts: &mut [usize; NUMBERS]) -> Counted {
     let mut progress = begin(list);
-    while progress.left > 0 {
+    for _job in 0..progress.left {
         let place = progress.place;
         let r = replay(list, place, work);
         progress = advance(progress, r, number_at(list, at(place, NUMBER)), counts);

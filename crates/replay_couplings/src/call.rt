@@ -1,4 +1,5 @@
 // One call: its lists are loaded, the call is made, and what it answers and leaves in its results is compared.
+use refusals::refused;
 use replay_format::{
     Counted, NUMBERS, Replayed, advance, are_stored, at, begin, edge_lists, finish, length_at,
     load_doubles, load_edges, load_numbers, number_at,
@@ -42,8 +43,8 @@ fn replay_betas(
     let results = &mut second[..l];
     let answers = at(place, k);
     load_doubles(list, place, betas);
-    let number = couplings::couplings(number_at(list, start), a, b, m, betas, results);
-    let same = number == number_at(list, at(start, NUMBER));
+    let answer = couplings::couplings(number_at(list, start), a, b, m, betas, results);
+    let same = refused(answer) == number_at(list, at(start, NUMBER));
     Replayed {
         same: same & are_stored(results, list, answers),
         next: at(answers, l),
@@ -68,7 +69,7 @@ fn replay(list: &[u8], start: usize) -> Replayed {
 // The first word is the number of calls. Those that agree are counted by their refusal's number.
 pub(crate) fn replay_all(list: &[u8], counts: &mut [usize; NUMBERS]) -> Counted {
     let mut progress = begin(list);
-    while progress.left > 0 {
+    for _call in 0..progress.left {
         let place = progress.place;
         let r = replay(list, place);
         progress = advance(progress, r, number_at(list, at(place, NUMBER)), counts);

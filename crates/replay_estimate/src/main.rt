@@ -2,11 +2,12 @@
 // a count, both sums and the estimate; a pattern and its root.
 #![tactic(auto)]
 
-ghost use Rattle.std.specs.Prelude.{◌<◌, ◌≤◌};
+ghost use Rattle.std.specs.Prelude.{◌<◌};
 
 use estimate::Estimate;
+use refusals::Refusal;
+use replay_format::report_records;
 use std::io;
-use std::rt::Files;
 
 // bytes of a record of each list
 const ESTIMATE: usize = 8 * 6;
@@ -28,25 +29,25 @@ struct Told {
     error: u64,
 }
 
-fn words_of(e: Estimate) -> Told {
-    match e {
-        Estimate::Estimated(m) => Told {
+fn words_of(answer: Result<Estimate, Refusal>) -> Told {
+    match answer {
+        Ok(Estimate::Estimated(m)) => Told {
             case: 0,
             mean: replay_format::bits_of(m.mean),
             error: replay_format::bits_of(m.error),
         },
-        Estimate::TooFew(mean) => Told {
+        Ok(Estimate::TooFew(mean)) => Told {
             case: 1,
             mean: replay_format::bits_of(mean),
             error: 0,
         },
-        Estimate::Complete(m) => Told {
+        Ok(Estimate::Complete(m)) => Told {
             case: 2,
             mean: replay_format::bits_of(m.mean),
             error: replay_format::bits_of(m.error),
         },
-        Estimate::Refused(k) => Told {
-            case: k as u64,
+        Err(refusal) => Told {
+            case: refusal.number() as u64,
             mean: 0,
             error: 0,
         },
@@ -54,52 +55,24 @@ fn words_of(e: Estimate) -> Told {
 }
 
 fn replay_estimate(list: &[u8], at: usize) -> bool {
-    let squares = replay_format::float_of(word(list, at, 1));
-    let fourths = replay_format::float_of(word(list, at, 2));
+    let squares = replay_format::double_of(word(list, at, 1));
+    let fourths = replay_format::double_of(word(list, at, 2));
     let t = words_of(estimate::estimate(word(list, at, 0) as usize, squares, fourths));
     (t.case == word(list, at, 3)) & (t.mean == word(list, at, 4)) & (t.error == word(list, at, 5))
 }
 
 fn replay_root(list: &[u8], at: usize) -> bool {
-    replay_format::bits_of(sqrt::sqrt(replay_format::float_of(word(list, at, 0))))
+    replay_format::bits_of(sqrt::sqrt(replay_format::double_of(word(list, at, 0))))
         == word(list, at, 1)
 }
 
-fn replay(size: usize, list: &[u8], at: usize) -> bool {
-    if size == ESTIMATE {
-        return replay_estimate(list, at);
-    }
-    replay_root(list, at)
-}
-
-fn count_same(size: usize, list: &[u8]) -> usize
-    requires { (0 < size) × (size ≤ 48) }
-{
-    let mut count: usize = 0;
-    let mut at: usize = 0;
-    while at < list.len() {
-        if replay(size, list, at) {
-            count += 1;
-        }
-        at += size;
-    }
-    count
-}
-
-fn report(rt: &(impl Files + Print), size: usize, path: &str, what: &str) -> io::Result<()>
-    requires { (0 < size) × (size ≤ 48) }
-{
-    let mut list = [0u8; 98304];
-    let n = replay_format::read_file(rt, path, &mut list)?;
-    replay_format::print_tally(rt, count_same(size, &list[..n]), n / size, what)
-}
-
 fn main(rt: HostRuntime) -> io::Result<()> {
-    report(
+    report_records(
         &rt,
-        ESTIMATE,
         "estimates.bin",
+        ESTIMATE,
         " estimates agree, refused ones among them\n",
+        replay_estimate,
     )?;
-    report(&rt, ROOT, "roots.bin", " square roots agree\n")
+    report_records(&rt, "roots.bin", ROOT, " square roots agree\n", replay_root)
 }

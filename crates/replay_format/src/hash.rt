@@ -21,10 +21,8 @@ pub fn mix_numbers(hash: u64, xs: &[usize]) -> u64
     ensures { result ≡ mixed_all hash (λ i. slice_index xs.now i) (length xs.now) }
 {
     let mut h = hash;
-    let mut i: usize = 0;
-    while i < xs.len() {
-        h = mix_number(h, xs[i]);
-        i += 1;
+    for x in xs {
+        h = mix_number(h, *x);
     }
     h
 }
@@ -33,10 +31,8 @@ pub fn mix_doubles(hash: u64, xs: &[f64]) -> u64
     ensures { result ≡ mixed_all hash (λ i. to_bits binary64 (slice_index_or xs.now i nan)) (length xs.now) }
 {
     let mut h = hash;
-    let mut i: usize = 0;
-    while i < xs.len() {
-        h = mix(h, little_endian::bits_of(xs[i]));
-        i += 1;
+    for x in xs {
+        h = mix(h, little_endian::bits_of(*x));
     }
     h
 }

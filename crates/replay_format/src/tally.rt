@@ -2,8 +2,10 @@
 ghost use Rattle.std.specs.Prelude.{◌≡◌, ◌-◌, ◌<◌};
 ghost use Rattle.replay_format.specs.Counts.{counted};
 
+use crate::files::read_file;
 use crate::words::number_at;
 use std::io;
+use std::rt::Files;
 
 // How many calls agree, how many there are, and the bytes that are left of their list.
 #[derive(Clone, Copy)]
@@ -123,4 +125,32 @@ pub fn report(
 ) -> io::Result<()> {
     print_counted(rt, counted, them)?;
     print_counts(rt, counts)
+}
+
+// How many records of `size` bytes agree.
+fn count_same<F: Fn(&[u8], usize) -> bool>(list: &[u8], size: usize, agrees: F) -> usize
+    requires { (0 < size) × F.IsAlwaysCallable agrees }
+{
+    let mut count: usize = 0;
+    for at in (0..list.len()).step_by(size) {
+        if agrees(list, at) {
+            count += 1;
+        }
+    }
+    count
+}
+
+// Replays a list of records of `size` bytes each, and prints how many agree.
+pub fn report_records<F: Fn(&[u8], usize) -> bool>(
+    rt: &(impl Files + Print),
+    path: &str,
+    size: usize,
+    what: &str,
+    agrees: F,
+) -> io::Result<()>
+    requires { (0 < size) × F.IsAlwaysCallable agrees }
+{
+    let mut list = [0u8; 98304];
+    let n = read_file(rt, path, &mut list)?;
+    print_tally(rt, count_same(&list[..n], size, agrees), n / size, what)
 }

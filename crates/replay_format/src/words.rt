@@ -4,7 +4,7 @@ ghost use Rattle.std.specs.Float.{binary64, nan};
 ghost use Rattle.list_laws.specs.Tabulate.{tabulate};
 ghost use Rattle.replay_format.specs.Words.{word_at, place_at, every};
 
-use little_endian::bits_of;
+use little_endian::{bits_of, double_of};
 
 fn wide(x: u8) -> u64
     ensures { result ≡ x }
@@ -46,16 +46,6 @@ pub fn length_at(list: &[u8], place: usize, most: usize) -> usize
     if k < most { k } else { most }
 }
 
-// The double of a pattern; one NaN for every NaN's.
-pub fn float_of(bits: u64) -> f64
-    ensures { result ≡ from_bits binary64 bits }
-{
-    if bits % 0x8000_0000_0000_0000 <= 0x7ff0_0000_0000_0000 {
-        return f64::from_bits(bits);
-    }
-    0.0 / 0.0
-}
-
 // The place some words on; no list of a record is longer than 65,536.
 pub fn at(start: usize, words: usize) -> usize
     ensures { result ≡ place_at start words }
@@ -69,20 +59,16 @@ pub fn at(start: usize, words: usize) -> usize
 pub fn load_numbers(list: &[u8], start: usize, out: &mut [usize])
     ensures { out.new ≡ tabulate (λ i. word_at list.now (place_at start i)) (length out.old) }
 {
-    let mut i: usize = 0;
-    while i < out.len() {
-        out[i] = word(list, at(start, i)) as usize;
-        i += 1;
+    for (i, x) in out.iter_mut().enumerate() {
+        *x = word(list, at(start, i)) as usize;
     }
 }
 
 pub fn load_doubles(list: &[u8], start: usize, out: &mut [f64])
     ensures { out.new ≡ tabulate (λ i. from_bits binary64 (word_at list.now (place_at start i))) (length out.old) }
 {
-    let mut i: usize = 0;
-    while i < out.len() {
-        out[i] = float_of(word(list, at(start, i)));
-        i += 1;
+    for (i, x) in out.iter_mut().enumerate() {
+        *x = double_of(word(list, at(start, i)));
     }
 }
 
@@ -91,10 +77,8 @@ pub fn are_stored(xs: &[f64], list: &[u8], start: usize) -> bool
     ensures { result ≡ every (λ i. nat_eq (to_bits binary64 (slice_index_or xs.now i nan)) (word_at list.now (place_at start i))) (length xs.now) }
 {
     let mut same = true;
-    let mut i: usize = 0;
-    while i < xs.len() {
-        same = same & (bits_of(xs[i]) == word(list, at(start, i)));
-        i += 1;
+    for (i, x) in xs.iter().enumerate() {
+        same = same & (bits_of(*x) == word(list, at(start, i)));
     }
     same
 }

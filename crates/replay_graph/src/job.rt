@@ -1,10 +1,11 @@
 // One job: its lists are loaded, every graph entry is called, and what they answer and leave is hashed.
-use graph::Reached;
-use graph_edges::{Graph, Made};
-use refusals::Answer;
+ghost use Rattle.std.specs.Prelude.{◌≤◌};
+
+use graph_edges::Graph;
+use refusals::{Refusal, refused};
 use replay_format::{
-    Counted, OFFSET, Replayed, at, load_doubles, load_numbers, mix, mix_doubles, mix_number,
-    mix_numbers,
+    Counted, OFFSET, Replayed, answer_word, at, load_doubles, load_numbers, mix, mix_doubles,
+    mix_number, mix_numbers,
 };
 
 // A refusal's number, told from a value.
@@ -16,38 +17,35 @@ const BEFORE: usize = 9;
 
 const FEW: usize = 3;
 
-fn answer_word(a: Answer) -> u64 {
-    match a {
-        Answer::Number(k) => k as u64,
-        Answer::Refused(k) => std::num::wrapping_add_u64(REFUSED, k as u64),
-    }
+fn refused_word(refusal: Refusal) -> u64 {
+    std::num::wrapping_add_u64(REFUSED, refusal.number() as u64)
 }
 
-fn reached_word(r: Reached) -> u64 {
+fn reached_word(r: Result<Option<usize>, Refusal>) -> u64 {
     match r {
-        Reached::Length(k) => k as u64,
-        Reached::NotJoined => NOT_JOINED,
-        Reached::Refused(k) => std::num::wrapping_add_u64(REFUSED, k as u64),
+        Ok(Some(k)) => k as u64,
+        Ok(None) => NOT_JOINED,
+        Err(refusal) => refused_word(refusal),
     }
 }
 
-fn made_word(m: Made) -> u64 {
+fn graph_word(m: Result<Graph, Refusal>) -> u64 {
     match m {
-        Made::Kept(g) => g.win as u64,
-        Made::Refused(k) => std::num::wrapping_add_u64(REFUSED, k as u64),
+        Ok(g) => g.win as u64,
+        Err(refusal) => refused_word(refusal),
     }
 }
 
-fn kept_count(m: Made) -> usize {
+fn kept_count(m: Result<Graph, Refusal>) -> usize {
     match m {
-        Made::Kept(g) => g.edges,
-        Made::Refused(_) => 4097,
+        Ok(g) => g.edges,
+        Err(_) => 4097,
     }
 }
 
 // How many elements a buffer is given: `whole`, or one less, or a few where the job is refused.
-fn lent(refused: bool, whole: usize, short: bool) -> usize {
-    if refused {
+fn lent(bad: bool, whole: usize, short: bool) -> usize {
+    if bad {
         return FEW;
     }
     if short {
@@ -59,21 +57,14 @@ fn lent(refused: bool, whole: usize, short: bool) -> usize {
     whole
 }
 
-fn spare(refused: bool, edges: usize, short: bool) -> usize {
-    if refused {
+fn spare(bad: bool, edges: usize, short: bool) -> usize {
+    if bad {
         return FEW;
     }
     if short {
-        return lent(refused, edges, short);
+        return lent(bad, edges, short);
     }
     std::num::wrapping_add_usize(edges, 2)
-}
-
-fn is_refused(a: Answer) -> bool {
-    match a {
-        Answer::Number(_) => false,
-        Answer::Refused(_) => true,
-    }
 }
 
 fn count_kept(n: usize, a: &[usize], b: &[usize], m: &[f64]) -> usize {
@@ -84,27 +75,29 @@ fn count_kept(n: usize, a: &[usize], b: &[usize], m: &[f64]) -> usize {
     kept_count(Graph::new(n, 0, a, b, m, &mut early, &mut late, &mut mag, &mut raw))
 }
 
-fn mix_components(hash: u64, n: usize, a: &[usize], b: &[usize], m: &[f64], lent: usize) -> u64 {
-    let mut out = [BEFORE; 1024];
-    if 1024 < lent {
+// What a call answers and leaves in a list of `lent` numbers, up to N.
+fn mix_list<const N: usize, F: FnOnce(&mut [usize]) -> Result<(), Refusal>>(
+    hash: u64,
+    lent: usize,
+    call: F,
+) -> u64
+    requires { (N ≤ 4096) × F.IsAlwaysCallable call }
+{
+    let mut out = [BEFORE; N];
+    if N < lent {
         return hash;
     }
-    let names = &mut out[..lent];
-    let h = mix_number(hash, graph::components(n, a, b, m, names));
-    mix_numbers(h, names)
+    let list = &mut out[..lent];
+    let h = mix_number(hash, refused(call(list)));
+    mix_numbers(h, list)
 }
 
-fn mix_forest(hash: u64, n: usize, a: &[usize], b: &[usize], m: &[f64], lent: usize) -> u64 {
-    let mut out = [BEFORE; 4096];
-    if 4096 < lent {
-        return hash;
-    }
-    let bits = &mut out[..lent];
-    let h = mix_number(hash, graph::spanning_forest(n, a, b, m, bits));
-    mix_numbers(h, bits)
-}
-
-fn mix_graph(hash: u64, n: usize, a: &[usize], b: &[usize], m: &[f64], lent: usize) -> u64 {
+// The same of a call that sets out a graph in four lists.
+fn mix_graph<
+    F: FnOnce(&mut [usize], &mut [usize], &mut [f64], &mut [usize]) -> Result<Graph, Refusal>,
+>(hash: u64, lent: usize, call: F) -> u64
+    requires { F.IsAlwaysCallable call }
+{
     let mut first = [BEFORE; 4098];
     let mut second = [BEFORE; 4098];
     let mut third = [9.0f64; 4098];
@@ -116,32 +109,7 @@ fn mix_graph(hash: u64, n: usize, a: &[usize], b: &[usize], m: &[f64], lent: usi
     let late = &mut second[..lent];
     let mag = &mut third[..lent];
     let raw = &mut fourth[..lent];
-    let h = mix(
-        hash,
-        made_word(Graph::new(n, 0, a, b, m, early, late, mag, raw)),
-    );
-    mix_numbers(
-        mix_doubles(mix_numbers(mix_numbers(h, early), late), mag),
-        raw,
-    )
-}
-
-fn mix_rotated(hash: u64, n: usize, a: &[usize], b: &[usize], m: &[f64], lent: usize) -> u64 {
-    let mut first = [BEFORE; 4098];
-    let mut second = [BEFORE; 4098];
-    let mut third = [9.0f64; 4098];
-    let mut fourth = [BEFORE; 4098];
-    if 4098 < lent {
-        return hash;
-    }
-    let early = &mut first[..lent];
-    let late = &mut second[..lent];
-    let mag = &mut third[..lent];
-    let raw = &mut fourth[..lent];
-    let h = mix(
-        hash,
-        made_word(Graph::rotated(n, 0, a, b, m, early, late, mag, raw)),
-    );
+    let h = mix(hash, graph_word(call(early, late, mag, raw)));
     mix_numbers(
         mix_doubles(mix_numbers(mix_numbers(h, early), late), mag),
         raw,
@@ -151,19 +119,27 @@ fn mix_rotated(hash: u64, n: usize, a: &[usize], b: &[usize], m: &[f64], lent: u
 // The original marks no lowest vertex, so the count alone is compared.
 fn components_word(n: usize, a: &[usize], b: &[usize], m: &[f64]) -> u64 {
     let mut marks = [0u64; 16];
-    answer_word(graph::n_components(n, a, b, m, &mut marks))
+    answer_word(graph::n_components(n, a, b, m, &mut marks), REFUSED)
 }
 
 fn hash_of(n: usize, a: &[usize], b: &[usize], m: &[f64], short: bool) -> u64 {
-    let refused = is_refused(graph::window(n, a, b, m, 0));
+    let bad = graph::window(n, a, b, m, 0).is_err();
     let edges = count_kept(n, a, b, m);
-    let w = mix(OFFSET, answer_word(graph::window(n, a, b, m, 0)));
+    let w = mix(OFFSET, answer_word(graph::window(n, a, b, m, 0), REFUSED));
     let k = mix(w, components_word(n, a, b, m));
-    let f = mix(k, answer_word(graph::cyclomatic(n, a, b, m)));
-    let c = mix_components(f, n, a, b, m, lent(refused, n, short));
-    let t = mix_forest(c, n, a, b, m, lent(refused, edges, short));
-    let g = mix_graph(t, n, a, b, m, spare(refused, edges, short));
-    mix_rotated(g, n, a, b, m, spare(refused, edges, short))
+    let f = mix(k, answer_word(graph::cyclomatic(n, a, b, m), REFUSED));
+    let c = mix_list::<1024, _>(f, lent(bad, n, short), |names| {
+        graph::components(n, a, b, m, names)
+    });
+    let t = mix_list::<4096, _>(c, lent(bad, edges, short), |bits| {
+        graph::spanning_forest(n, a, b, m, bits)
+    });
+    let g = mix_graph(t, spare(bad, edges, short), |early, late, mag, raw| {
+        Graph::new(n, 0, a, b, m, early, late, mag, raw)
+    });
+    mix_graph(g, spare(bad, edges, short), |early, late, mag, raw| {
+        Graph::rotated(n, 0, a, b, m, early, late, mag, raw)
+    })
 }
 
 // Whether the distances of the pairs are the stored ones.
@@ -178,15 +154,13 @@ fn distances(
 ) -> bool {
     let mut same = true;
     let mut p = start;
-    let mut left = pairs;
-    while left > 0 {
+    for _ in 0..pairs {
         let u = replay_format::word(list, p) as usize;
         let v = replay_format::word(list, at(p, 1)) as usize;
         same = same
             & (reached_word(graph::distance(n, a, b, m, u, v))
                 == replay_format::word(list, at(p, 2)));
         p = at(p, 3);
-        left -= 1;
     }
     same
 }
@@ -261,14 +235,12 @@ pub(crate) fn replay_all(list: &[u8]) -> Counted {
     let all = replay_format::word(list, 0) as usize;
     let mut same: usize = 0;
     let mut p: usize = 8;
-    let mut left = all;
-    while left > 0 {
+    for _ in 0..all {
         let r = replay(list, p);
         if r.same {
             same = std::num::wrapping_add_usize(same, 1);
         }
         p = r.next;
-        left -= 1;
     }
     Counted {
         same,

@@ -23,14 +23,12 @@ struct Replayed {
 fn replay_words(list: &[u8], at: usize, start: Rng) -> Replayed {
     let mut rng = start;
     let mut same = true;
-    let mut i: usize = 0;
-    while i < WORDS {
+    for i in 0..WORDS {
         let drawn = rng.next_u64();
         same = same
             & (drawn.word == replay_format::word(list, std::num::wrapping_add_usize(at, i * 8)));
         let after = drawn.rng;
         rng = after;
-        i += 1;
     }
     Replayed { rng, same }
 }
@@ -38,15 +36,13 @@ fn replay_words(list: &[u8], at: usize, start: Rng) -> Replayed {
 fn replay_uniforms(list: &[u8], at: usize, start: Rng) -> Replayed {
     let mut rng = start;
     let mut same = true;
-    let mut i: usize = 0;
-    while i < UNIFORMS {
+    for i in 0..UNIFORMS {
         let drawn = rng.uniform();
         same = same
             & (replay_format::bits_of(drawn.value)
                 == replay_format::word(list, std::num::wrapping_add_usize(at, i * 8)));
         let after = drawn.rng;
         rng = after;
-        i += 1;
     }
     Replayed { rng, same }
 }
@@ -80,12 +76,10 @@ fn replay(list: &[u8], at: usize) -> bool {
 
 fn count_same(list: &[u8]) -> usize {
     let mut count: usize = 0;
-    let mut i: usize = 0;
-    while i < list.len() / RECORD {
+    for i in 0..list.len() / RECORD {
         if replay(list, i * RECORD) {
             count += 1;
         }
-        i += 1;
     }
     count
 }

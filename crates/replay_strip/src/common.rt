@@ -1,7 +1,7 @@
 // What the replays share: strips from stored words, checksums, and buffers filled with guards, which a call must leave where it writes nothing.
 ghost use Rattle.std.specs.Prelude.{◌≤◌};
 
-use refusals::Answer;
+use refusals::Refusal;
 use strip::{Kind, Strip};
 
 pub(crate) const GUARD: usize = 77;
@@ -40,17 +40,17 @@ pub(crate) fn word(list: &[u8], at: usize, i: usize) -> u64
     replay_format::word(list, std::num::wrapping_add_usize(at, i * 8))
 }
 
-pub(crate) fn is_number(a: Answer, n: u64) -> bool {
+pub(crate) fn is_number(a: Result<usize, Refusal>, n: u64) -> bool {
     match a {
-        Answer::Number(k) => wide(k) == n,
-        Answer::Refused(_) => false,
+        Ok(k) => wide(k) == n,
+        Err(_) => false,
     }
 }
 
-pub(crate) fn is_refused(a: Answer, n: u64) -> bool {
-    match a {
-        Answer::Number(_) => false,
-        Answer::Refused(k) => wide(k) == n,
+pub(crate) fn is_refused<T: Drop>(answer: Result<T, Refusal>, by: Refusal) -> bool {
+    match answer {
+        Ok(_) => false,
+        Err(refusal) => refusal == by,
     }
 }
 
@@ -70,8 +70,7 @@ pub(crate) fn see_edges(
 ) -> Seen {
     let mut hashed = replay_format::OFFSET;
     let mut rest = true;
-    let mut i: usize = 0;
-    while i < 4096 {
+    for i in 0..4096 {
         let a = early[i];
         let b = late[i];
         let m = mag[i];
@@ -81,7 +80,6 @@ pub(crate) fn see_edges(
         } else {
             rest = rest & (a == GUARD) & (b == GUARD) & (m == GUARD_MAGNITUDE);
         }
-        i += 1;
     }
     Seen { hash: hashed, rest }
 }

@@ -1,9 +1,10 @@
 // The graph of a diluted strip: the original's kept edges and window, each edge with its place in the strip's edge list. And lists one too short, or exact.
 ghost use Rattle.std.specs.Prelude.{◌≤◌, length};
 
-use crate::common::{GUARD, GUARD_MAGNITUDE, cut, see_edges, wide, word};
+use crate::common::{GUARD, GUARD_MAGNITUDE, cut, is_refused, see_edges, wide, word};
 use crate::dilutions::Dilution;
-use graph_edges::Made;
+use graph_edges::Graph;
+use refusals::Refusal;
 use strip::Strip;
 
 // The graph into the first k elements of four lists; one less of the list that is to be short, 4 for none.
@@ -16,7 +17,7 @@ fn lend(
     late: &mut [usize],
     mag: &mut [f64],
     raw: &mut [usize],
-) -> Made
+) -> Result<Graph, Refusal>
     requires { (k ≤ length early.old) × (k ≤ length late.old) × (k ≤ length mag.old) × (k ≤ length raw.old) }
 {
     let a = cut(k, short == 0);
@@ -36,17 +37,10 @@ fn lend(
     )
 }
 
-fn is_graph(m: Made, edges: u64, window: u64) -> bool {
+fn is_graph(m: Result<Graph, Refusal>, edges: u64, window: u64) -> bool {
     match m {
-        Made::Kept(g) => (wide(g.edges) == edges) & (wide(g.win) == window),
-        Made::Refused(_) => false,
-    }
-}
-
-fn is_refused(m: Made, n: u64) -> bool {
-    match m {
-        Made::Kept(_) => false,
-        Made::Refused(k) => wide(k) == n,
+        Ok(g) => (wide(g.edges) == edges) & (wide(g.win) == window),
+        Err(_) => false,
     }
 }
 
@@ -62,7 +56,7 @@ fn short_agrees(s: Strip, x: Dilution, k: usize, short: usize) -> bool {
     let answer = lend(s, x, k, short, &mut early, &mut late, &mut mag, &mut raw);
     let seen = see_edges(0, &early, &late, &mag);
     let placed = see_edges(0, &raw, &late, &mag);
-    is_refused(answer, 12) & seen.rest & placed.rest
+    is_refused(answer, Refusal::Buffer) & seen.rest & placed.rest
 }
 
 // Lists of k elements each hold the kept edges and their places, and no more is written.

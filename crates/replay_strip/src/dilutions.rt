@@ -5,7 +5,7 @@ use crate::common::{
     GUARD, GUARD_MAGNITUDE, cut, is_number, is_refused, see_edges, strip_of, wide, word,
 };
 use crate::diluted_graphs;
-use refusals::Answer;
+use refusals::Refusal;
 use strip::Strip;
 
 // The kept edges among the first k: how many, their checksum, and the longest.
@@ -29,8 +29,7 @@ fn kept_of(k: usize, early: &[usize; 4096], late: &[usize; 4096], mag: &[f64; 40
     let mut edges: usize = 0;
     let mut hashed = replay_format::OFFSET;
     let mut longest: usize = 1;
-    let mut i: usize = 0;
-    while i < 4096 {
+    for i in 0..4096 {
         let a = early[i];
         let b = late[i];
         let m = mag[i];
@@ -40,7 +39,6 @@ fn kept_of(k: usize, early: &[usize; 4096], late: &[usize; 4096], mag: &[f64; 40
             hashed = replay_format::mix(hashed, replay_format::bits_of(m));
             longest = longer(longest, a, b);
         }
-        i += 1;
     }
     Kept {
         edges,
@@ -49,10 +47,10 @@ fn kept_of(k: usize, early: &[usize; 4096], late: &[usize; 4096], mag: &[f64; 40
     }
 }
 
-fn number(a: &Answer) -> usize {
+fn number(a: &Result<usize, Refusal>) -> usize {
     match a {
-        Answer::Number(k) => *k,
-        Answer::Refused(_) => 0,
+        Ok(k) => *k,
+        Err(_) => 0,
     }
 }
 
@@ -74,7 +72,7 @@ fn lend(
     early: &mut [usize],
     late: &mut [usize],
     mag: &mut [f64],
-) -> Answer
+) -> Result<usize, Refusal>
     requires { (a ≤ length early.old) × (b ≤ length late.old) × (c ≤ length mag.old) }
 {
     strip_dilution::diluted(
@@ -102,7 +100,7 @@ fn short_agrees(s: Strip, x: Dilution, k: usize, buffer: usize) -> bool {
     let c = cut(k, buffer == 2);
     let answer = lend(s, x, a, b, c, &mut early, &mut late, &mut mag);
     let seen = see_edges(0, &early, &late, &mag);
-    is_refused(answer, 12) & seen.rest
+    is_refused(answer, Refusal::Buffer) & seen.rest
 }
 
 // Buffers of exactly k: the same kept edges, and no more is written.
@@ -133,9 +131,9 @@ fn lengths_agree(s: Strip, x: Dilution, k: usize, hash: u64) -> bool {
 pub(crate) fn replay(list: &[u8], at: usize) -> bool {
     let s = strip_of(word(list, at, 0));
     let x = Dilution {
-        keep: replay_format::float_of(word(list, at, 2)),
-        low: replay_format::float_of(word(list, at, 3)),
-        high: replay_format::float_of(word(list, at, 4)),
+        keep: replay_format::double_of(word(list, at, 2)),
+        low: replay_format::double_of(word(list, at, 3)),
+        high: replay_format::double_of(word(list, at, 4)),
         seed: word(list, at, 1),
     };
     let mut early = [GUARD; 4096];

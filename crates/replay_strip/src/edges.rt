@@ -12,8 +12,7 @@ fn ends_agree(
     mag: &[f64; 4096],
 ) -> bool {
     let mut same = true;
-    let mut i: usize = 0;
-    while i < 4096 {
+    for i in 0..4096 {
         if wide(i) < k {
             let place = std::num::wrapping_add_usize(at, i * 16);
             same = same
@@ -21,7 +20,6 @@ fn ends_agree(
                 & (wide(late[i]) == word(list, place, 1))
                 & (mag[i] == 1.0);
         }
-        i += 1;
     }
     same
 }

@@ -9,9 +9,7 @@ mod edges;
 mod refused;
 mod strips;
 
-ghost use Rattle.std.specs.Prelude.{◌<◌, ◌≤◌};
-
-use edges::Tally;
+use replay_format::{print_tally, read_file, report_records};
 use std::io;
 use std::rt::Files;
 
@@ -21,75 +19,36 @@ const STRIP: usize = 8 * 7;
 const DILUTION: usize = 8 * 10;
 
 const REFUSAL: usize = 8 * 9;
-// stands for records of different sizes
-const EDGES: usize = 1;
 
-fn replay(size: usize, list: &[u8], at: usize) -> bool {
-    match size {
-        STRIP => strips::replay(list, at),
-        DILUTION => dilutions::replay(list, at),
-        _ => refused::replay(list, at),
-    }
-}
-
-fn count_same(size: usize, list: &[u8]) -> usize
-    requires { (0 < size) × (size ≤ 80) }
-{
-    let mut count: usize = 0;
-    let mut at: usize = 0;
-    while at < list.len() {
-        if replay(size, list, at) {
-            count += 1;
-        }
-        at += size;
-    }
-    count
-}
-
-fn tally(size: usize, list: &[u8]) -> Tally
-    requires { (0 < size) × (size ≤ 80) }
-{
-    if size == EDGES {
-        return edges::replay_all(list);
-    }
-    Tally {
-        records: list.len() / size,
-        agree: count_same(size, list),
-    }
-}
-
-fn report(rt: &(impl Files + Print), size: usize, path: &str, what: &str) -> io::Result<()>
-    requires { (0 < size) × (size ≤ 80) }
-{
+// Small strips edge by edge: the records differ in length.
+fn report_edges(rt: &(impl Files + Print)) -> io::Result<()> {
     let mut list = [0u8; 98304];
-    let n = replay_format::read_file(rt, path, &mut list)?;
-    let t = tally(size, &list[..n]);
-    replay_format::print_tally(rt, t.agree, t.records, what)
+    let n = read_file(rt, "edges.bin", &mut list)?;
+    let t = edges::replay_all(&list[..n]);
+    print_tally(rt, t.agree, t.records, " small strips agree edge by edge\n")
 }
 
 fn main(rt: HostRuntime) -> io::Result<()> {
-    report(
+    report_records(
         &rt,
-        STRIP,
         "strips.bin",
+        STRIP,
         " strips agree: edges, window, pairs, labels, buffers too short and exact\n",
+        strips::replay,
     )?;
-    report(
+    report_edges(&rt)?;
+    report_records(
         &rt,
-        EDGES,
-        "edges.bin",
-        " small strips agree edge by edge\n",
-    )?;
-    report(
-        &rt,
-        DILUTION,
         "dilutions.bin",
+        DILUTION,
         " dilutions agree, list and graph, buffers too short and exact\n",
+        dilutions::replay,
     )?;
-    report(
+    report_records(
         &rt,
-        REFUSAL,
         "refusals.bin",
+        REFUSAL,
         " refusals and near misses agree\n",
+        refused::replay,
     )
 }

@@ -1,13 +1,13 @@
 // Refusals and near misses of every entry.
 use crate::common::{GUARD, GUARD_BYTE, GUARD_MAGNITUDE, kind_of, see_edges, wide, word};
-use refusals::Answer;
+use refusals::Refusal;
 use strip::Strip;
 
 // The refusal's number, 0 for accepted.
-fn refusal(a: Answer) -> u64 {
+fn refusal(a: Result<usize, Refusal>) -> u64 {
     match a {
-        Answer::Number(_) => 0,
-        Answer::Refused(k) => wide(k),
+        Ok(_) => 0,
+        Err(refusal) => wide(refusal.number()),
     }
 }
 
@@ -16,9 +16,9 @@ fn edges_agree(s: Strip, list: &[u8], at: usize, diluted: bool) -> bool {
     let mut early = [GUARD; 4096];
     let mut late = [GUARD; 4096];
     let mut mag = [GUARD_MAGNITUDE; 4096];
-    let keep = replay_format::float_of(word(list, at, 5));
-    let low = replay_format::float_of(word(list, at, 6));
-    let high = replay_format::float_of(word(list, at, 7));
+    let keep = replay_format::double_of(word(list, at, 5));
+    let low = replay_format::double_of(word(list, at, 6));
+    let high = replay_format::double_of(word(list, at, 7));
     let expected = word(list, at, 8);
     let answered = if diluted {
         refusal(strip_dilution::diluted(s, keep, low, high, 1, &mut early, &mut late, &mut mag))

@@ -5,7 +5,7 @@ use crate::common::{
     GUARD, GUARD_BYTE, GUARD_MAGNITUDE, Seen, cut, is_number, is_refused, see_edges, strip_of,
     wide, word,
 };
-use refusals::Answer;
+use refusals::Refusal;
 use strip::Strip;
 
 fn edges_agree(s: Strip, k: u64, sum: u64) -> bool {
@@ -24,7 +24,9 @@ fn odd_agrees(s: Strip) -> bool {
     let mut mag = [GUARD_MAGNITUDE; 4096];
     let answer = strip_edges::raw_edges(s, &mut early, &mut late, &mut mag);
     let seen = see_edges(0, &early, &late, &mag);
-    is_refused(answer, 16) & seen.rest & is_refused(strip_window::window(s), 16)
+    is_refused(answer, Refusal::OddCylinder)
+        & seen.rest
+        & is_refused(strip_window::window(s), Refusal::OddCylinder)
 }
 
 // The edge list into the first a, b and c elements of three buffers.
@@ -36,7 +38,7 @@ fn lend_edges(
     early: &mut [usize],
     late: &mut [usize],
     mag: &mut [f64],
-) -> Answer
+) -> Result<usize, Refusal>
     requires { (a ≤ length early.old) × (b ≤ length late.old) × (c ≤ length mag.old) }
 {
     strip_edges::raw_edges(s, &mut early[..a], &mut late[..b], &mut mag[..c])
@@ -51,7 +53,7 @@ fn lend_pairs(
     us: &mut [usize],
     vs: &mut [usize],
     labels: &mut [u8],
-) -> Answer
+) -> Result<usize, Refusal>
     requires { (a ≤ length us.old) × (b ≤ length vs.old) × (c ≤ length labels.old) }
 {
     strip_pairs::pairs(s, &mut us[..a], &mut vs[..b], &mut labels[..c])
@@ -70,7 +72,7 @@ fn short_agrees(s: Strip, k: usize, buffer: usize) -> bool {
     let c = cut(k, buffer == 2);
     let answer = lend_edges(s, a, b, c, &mut early, &mut late, &mut mag);
     let seen = see_edges(0, &early, &late, &mag);
-    is_refused(answer, 12) & seen.rest
+    is_refused(answer, Refusal::Buffer) & seen.rest
 }
 
 // Buffers of exactly k.
@@ -96,8 +98,7 @@ fn lengths_agree(s: Strip, k: usize, sum: u64) -> bool {
 fn see_ends(k: u64, us: &[usize; 20], vs: &[usize; 20]) -> Seen {
     let mut hashed = replay_format::OFFSET;
     let mut rest = true;
-    let mut i: usize = 0;
-    while i < 20 {
+    for i in 0..20 {
         let u = us[i];
         let v = vs[i];
         if wide(i) < k {
@@ -105,7 +106,6 @@ fn see_ends(k: u64, us: &[usize; 20], vs: &[usize; 20]) -> Seen {
         } else {
             rest = rest & (u == GUARD) & (v == GUARD);
         }
-        i += 1;
     }
     Seen { hash: hashed, rest }
 }
@@ -119,16 +119,13 @@ fn see_labels(k: u64, ends: Seen, labels: &[u8; 320]) -> Seen {
     let mut hashed = ends.hash;
     let mut rest = ends.rest;
     let mut closed: u64 = 0;
-    let mut i: usize = 0;
-    while i < 320 {
-        let x = labels[i];
+    for x in labels {
         if closed < k {
-            hashed = replay_format::mix(hashed, byte(x));
+            hashed = replay_format::mix(hashed, byte(*x));
         } else {
-            rest = rest & (x == GUARD_BYTE);
+            rest = rest & (*x == GUARD_BYTE);
         }
-        closed = std::num::wrapping_add_u64(closed, if x == 0 { 1 } else { 0 });
-        i += 1;
+        closed = std::num::wrapping_add_u64(closed, if *x == 0 { 1 } else { 0 });
     }
     Seen { hash: hashed, rest }
 }
@@ -161,7 +158,7 @@ fn pairs_short(s: Strip, k: usize, n: usize, buffer: usize) -> bool {
         return is_number(answer, wide(k));
     }
     let seen = see_labels(0, see_ends(0, &us, &vs), &labels);
-    is_refused(answer, 12) & seen.rest
+    is_refused(answer, Refusal::Buffer) & seen.rest
 }
 
 fn pair_lengths_agree(s: Strip, k: usize, n: usize) -> bool {

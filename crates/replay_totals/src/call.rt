@@ -2,8 +2,8 @@
 use entry_correlations::Manner;
 use limits::Caller;
 use plan_layout::Arrangement;
-use refusals::Answer;
-use replay_format::{are_cleared, are_stored, at, fill, number_at, word};
+use refusals::Refusal;
+use replay_format::{answer_word, are_cleared, are_stored, at, fill, number_at, word};
 
 // Refused for short work memory.
 const SHORT: usize = 13;
@@ -41,13 +41,6 @@ fn manner_of(elementwise: u64) -> Manner {
     Manner::Block
 }
 
-fn answer_word(answer: Answer) -> u64 {
-    match answer {
-        Answer::Number(k) => k as u64,
-        Answer::Refused(k) => std::num::wrapping_add_u64(REFUSED, k as u64),
-    }
-}
-
 // The number of a stored answer's refusal, 0 where it is a count.
 pub(crate) fn refusal_at(list: &[u8], start: usize) -> usize {
     let answer = word(list, at(start, ANSWER));
@@ -72,7 +65,7 @@ fn answer(
     first: &mut [f64],
     second: &mut [f64],
     memory: &mut [f64],
-) -> Answer {
+) -> Result<usize, Refusal> {
     let n = number_at(list, start);
     let floor = number_at(list, at(start, FLOOR));
     let manner = manner_of(word(list, at(start, PER_ELEMENT)));
@@ -175,7 +168,7 @@ pub(crate) fn answers(
         second,
         memory,
     );
-    answer_word(answered) == word(list, at(start, ANSWER))
+    answer_word(answered, REFUSED) == word(list, at(start, ANSWER))
 }
 
 // How much of the work memory is +0.0 after a call that keeps every vector.
@@ -199,8 +192,8 @@ pub(crate) fn less_cleared_at(
     let n = number_at(list, start);
     let floor = number_at(list, at(start, FLOOR));
     match job_checks::room(n, floor, a, b, m, us, vs, Arrangement::LessRoom) {
-        Answer::Number(k) => k,
-        Answer::Refused(_) => 0,
+        Ok(k) => k,
+        Err(_) => 0,
     }
 }
 

@@ -133,7 +133,7 @@ fn replay(list: &[u8], start: usize, work: &mut [f64]) -> Replayed {
 // The first word is the number of calls. Those that agree are counted by their refusal's number.
 pub(crate) fn replay_all(list: &[u8], work: &mut [f64], counts: &mut [usize; NUMBERS]) -> Counted {
     let mut progress = begin(list);
-    while progress.left > 0 {
+    for _call in 0..progress.left {
         let place = progress.place;
         let r = replay(list, place, work);
         progress = advance(progress, r, refusal_at(list, place), counts);

@@ -6,23 +6,10 @@ ghost use Rattle.limits.specs.Limits.{most_named};
 ghost use Rattle.run_record.specs.Reading.{double_at, bad_sums};
 
 use estimate::in_order;
-use little_endian::word_at;
+use little_endian::{double_of, word_at};
 
-// Without its sign, the largest pattern that is no NaN's.
-const INFINITY: u64 = 0x7ff0_0000_0000_0000;
-
-// -0.0, and without the other bits the sign.
+// -0.0.
 const MINUS_ZERO: u64 = 0x8000_0000_0000_0000;
-
-// The double of a pattern; one NaN for every NaN's.
-pub fn double_of(bits: u64) -> f64
-    ensures { result ≡ of_bits binary64 bits }
-{
-    if bits % MINUS_ZERO <= INFINITY {
-        return f64::from_bits(bits);
-    }
-    0.0 / 0.0
-}
 
 pub fn double_at(bytes: &[u8], place: usize) -> f64
     requires { place + 8 ≤ length bytes.now }

@@ -2,8 +2,10 @@
 #![tactic(auto)]
 
 ghost use Rattle.std.specs.Prelude.{◌≡◌};
+ghost use Rattle.refusals.specs.Numbers.{refused};
 ghost use Rattle.run_record_join.specs.Joining.{apart, Joined};
 
+use refusals::Refusal;
 use run_record::{Head, head_of};
 use run_record_reader::is_record;
 
@@ -33,20 +35,20 @@ fn are_apart(g: Head, h: Head) -> bool
     h.end != g.start
 }
 
-// Returns the refusal's number, 0 for accepted: then the joined record is in `joined`, which else stays.
-pub fn record_join(one: &[u8], two: &[u8], joined: &mut [u8]) -> usize
-    ensures { Joined one.now two.now result joined.old joined.new }
+// The joined record is in `joined`, which a refused call leaves as it was.
+pub fn record_join(one: &[u8], two: &[u8], joined: &mut [u8]) -> Result<(), Refusal>
+    ensures { Joined one.now two.now (refused result) joined.old joined.new }
 {
     if !is_record(one) {
-        return 26;
+        return Err(Refusal::Record);
     }
     if !is_record(two) {
-        return 26;
+        return Err(Refusal::Record);
     }
     let g = head_of(one);
     let h = head_of(two);
     if are_apart(g, h) {
-        return 27;
+        return Err(Refusal::Join);
     }
     if g.end == h.start {
         return join_in_turn(one, two, joined);

@@ -1,12 +1,14 @@
 // Two records that join, the earlier first.
 ghost use Rattle.std.specs.Prelude.{◌≡◌, ◌+◌, ◌≤◌, length, drop};
 ghost use Rattle.list_laws.specs.Part.{put};
+ghost use Rattle.refusals.specs.Numbers.{refused};
 ghost use Rattle.refusals.specs.Answers.{left};
 ghost use Rattle.run_record_join.specs.Joining.{in_turn};
 ghost use Rattle.run_record_join.specs.Turns.{Turns, limits_of, written};
 
 use buffer_checks::too_many_chunks;
 use little_endian::put_word;
+use refusals::Refusal;
 use run_record::head_of;
 
 // The bytes of `source` behind its first `from`, to `target` from `at` on.
@@ -15,11 +17,7 @@ fn copy_behind(source: &[u8], from: usize, target: &mut [u8], at: usize)
     ensures { target.new ≡ put target.old at (drop from source.now) }
 {
     let count = source.len() - from;
-    let mut i: usize = 0;
-    while i < count {
-        target[at + i] = source[from + i];
-        i += 1;
-    }
+    target[at..at + count].copy_from_slice(&source[from..]);
 }
 
 // Writes the earlier record with the later one's end, then the rows of the later one.
@@ -33,23 +31,23 @@ fn write_both(earlier: &[u8], later: &[u8], end: u64, joined: &mut [u8])
 }
 
 // 11, then 12; the joined record's length is taken as a difference, for a sum may not fit into a word.
-pub fn join_in_turn(earlier: &[u8], later: &[u8], joined: &mut [u8]) -> usize
+pub fn join_in_turn(earlier: &[u8], later: &[u8], joined: &mut [u8]) -> Result<(), Refusal>
     requires { Turns earlier.now later.now }
-    ensures value { result ≡ limits_of earlier.now later.now (length joined.old) }
-    ensures joined_after { joined.new ≡ left result (in_turn earlier.now later.now) joined.old }
+    ensures value { refused result ≡ limits_of earlier.now later.now (length joined.old) }
+    ensures joined_after { joined.new ≡ left (refused result) (in_turn earlier.now later.now) joined.old }
 {
     let g = head_of(earlier);
     let h = head_of(later);
     let end = h.end;
     if too_many_chunks(g.start as usize, end as usize, g.samples) {
-        return 11;
+        return Err(Refusal::Samples);
     }
     if joined.len() < earlier.len() {
-        return 12;
+        return Err(Refusal::Buffer);
     }
     if joined.len() - earlier.len() != later.len() - 32 {
-        return 12;
+        return Err(Refusal::Buffer);
     }
     write_both(earlier, later, end, joined);
-    0
+    Ok(())
 }

@@ -22,11 +22,9 @@ fn put_beta(
     requires { (first + pairs ≤ length squares.now) × (first + pairs ≤ length fourths.now) × (place + 28 * pairs ≤ length bytes.old) }
     ensures { Appended place (listed_beta chunk b first pairs squares.now fourths.now) bytes.old bytes.new }
 {
-    let mut p = 0usize;
-    while p < pairs {
+    for p in 0..pairs {
         let k = first + p;
         put_row(bytes, place + 28 * p, chunk, b, p, squares[k], fourths[k]);
-        p += 1;
     }
 }
 
@@ -38,8 +36,7 @@ pub fn put_chunk(bytes: &mut [u8], head: Head, c: u64, squares: &[f64], fourths:
 {
     let chunk = head.start + c;
     let place = 32 + 28 * (c as usize * squares.len());
-    let mut b = 0usize;
-    while b < head.betas {
+    for b in 0..head.betas {
         let first = b * head.pairs;
         put_beta(
             bytes,
@@ -51,6 +48,5 @@ pub fn put_chunk(bytes: &mut [u8], head: Head, c: u64, squares: &[f64], fourths:
             squares,
             fourths,
         );
-        b += 1;
     }
 }

@@ -43,13 +43,11 @@ fn bad_beta(
     requires { Lying bytes.now start samples betas pairs (chunk + 1) × (beta < betas) }
     ensures { result ≡ bad_beta bytes.now start samples betas pairs chunk beta }
 {
-    let mut p: usize = 0;
-    while p < pairs {
+    for p in 0..pairs {
         let place = 32 + 28 * (chunk * (betas * pairs) + (beta * pairs + p));
         if bad_row(bytes, place, start + chunk as u64, beta, p, samples) {
             return true;
         }
-        p += 1;
     }
     false
 }
@@ -66,12 +64,10 @@ fn bad_chunk(
     requires { Lying bytes.now start samples betas pairs (chunk + 1) }
     ensures { result ≡ bad_chunk bytes.now start samples betas pairs chunk }
 {
-    let mut b: usize = 0;
-    while b < betas {
+    for b in 0..betas {
         if bad_beta(bytes, start, samples, betas, pairs, chunk, b) {
             return true;
         }
-        b += 1;
     }
     false
 }
@@ -87,12 +83,10 @@ pub fn bad_chunks(
     requires { Lying bytes.now start samples betas pairs chunks }
     ensures { result ≡ bad_chunks bytes.now start samples betas pairs chunks }
 {
-    let mut c: usize = 0;
-    while c < chunks {
+    for c in 0..chunks {
         if bad_chunk(bytes, start, samples, betas, pairs, c) {
             return true;
         }
-        c += 1;
     }
     false
 }

@@ -1,5 +1,6 @@
 -- What the totals of a run record are, and what `record_totals` answers and leaves in the lent lists.
 use Rattle.std.specs.Prelude.{◌≡◌, false, List, ℕ, ◌+◌, ◌*◌, Float, length}
+use Rattle.std.specs.declared.result.Result.{Result}
 use Rattle.list_laws.specs.Tabulate.{tabulate}
 use Rattle.transfer_matrix.specs.Arithmetic.{sum}
 use Rattle.transfer_matrix.specs.Rounded.{ieee}
@@ -7,8 +8,8 @@ use Rattle.transfer_matrix.specs.Totals.{sampled_count}
 use Rattle.refusals.specs.Request.{record_request}
 use Rattle.refusals.specs.Refusal.{refusal, of_record_totals}
 use Rattle.refusals.specs.AcceptedTotals.{misfits}
-use Rattle.refusals.specs.Answers.{answered, left}
-use Rattle.refusals.specs.declared.Answer.{Answer}
+use Rattle.refusals.specs.Answers.{Answered, left}
+use Rattle.refusals.specs.declared.Refusal.{Refusal}
 use Rattle.run_record.specs.declared.Head.{Head}
 use Rattle.run_record.specs.Records.{chunks_of, per_chunk}
 use Rattle.run_record.specs.Reading.{head_of, double_at, squares_in, fourths_in, bad_record}
@@ -42,7 +43,7 @@ module _ (bytes : List ℕ) where
       (record_request (record { broken = bad_record bytes; apart = false }) head.start head.end head.samples (misfits (per_chunk head) squares fourths))
 
   -- The answer r of a call, and both lists after it.
-  pub record Totalled (r : Answer) (squares squares' fourths fourths' : List Float) : Type 0 where
-    pub answer : r ≡ answered (refused_totals (length squares) (length fourths)) record_count
+  pub record Totalled (r : Result ℕ Refusal) (squares squares' fourths fourths' : List Float) : Type 0 where
+    pub answer : Answered (refused_totals (length squares) (length fourths)) record_count r
     pub squares_are : squares' ≡ left (refused_totals (length squares) (length fourths)) total_squares squares
     pub fourths_are : fourths' ≡ left (refused_totals (length squares) (length fourths)) total_fourths fourths

@@ -6,7 +6,7 @@ ghost use Rattle.list_laws.specs.Tabulate.{tabulate};
 ghost use Rattle.run_record_totals.specs.Totals.{column_sum, Totalled};
 
 use buffer_checks::misfit;
-use refusals::Answer;
+use refusals::Refusal;
 use run_record::{double_at, head_of};
 use run_record_reader::is_record;
 
@@ -16,10 +16,8 @@ fn column_sum(bytes: &[u8], per: usize, chunks: usize, k: usize, offset: usize) 
     ensures { result ≡ column_sum bytes.now per chunks offset k }
 {
     let mut total: f64 = 0.0;
-    let mut c: usize = 0;
-    while c < chunks {
+    for c in 0..chunks {
         total = total + double_at(bytes, 32 + 28 * (c * per + k) + offset);
-        c += 1;
     }
     total
 }
@@ -29,27 +27,29 @@ fn fill_totals(bytes: &[u8], chunks: usize, offset: usize, totals: &mut [f64])
     ensures { totals.new ≡ tabulate (column_sum bytes.now (length totals.old) chunks offset) (length totals.old) }
 {
     let per = totals.len();
-    let mut k: usize = 0;
-    while k < per {
-        totals[k] = column_sum(bytes, per, chunks, k, offset);
-        k += 1;
+    for (k, total) in totals.iter_mut().enumerate() {
+        *total = column_sum(bytes, per, chunks, k, offset);
     }
 }
 
 // 26, then 12; else how many samples there are, chunks times samples per chunk.
-pub fn record_totals(bytes: &[u8], squares: &mut [f64], fourths: &mut [f64]) -> Answer
+pub fn record_totals(
+    bytes: &[u8],
+    squares: &mut [f64],
+    fourths: &mut [f64],
+) -> Result<usize, Refusal>
     ensures { Totalled bytes.now result squares.old squares.new fourths.old fourths.new }
 {
     if !is_record(bytes) {
-        return Answer::Refused(26);
+        return Err(Refusal::Record);
     }
     let h = head_of(bytes);
     let chunks = (h.end - h.start) as usize;
     let samples = h.samples;
     if misfit(h.betas * h.pairs, squares.len(), fourths.len()) {
-        return Answer::Refused(12);
+        return Err(Refusal::Buffer);
     }
     fill_totals(bytes, chunks, 12, squares);
     fill_totals(bytes, chunks, 20, fourths);
-    Answer::Number(chunks * samples)
+    Ok(chunks * samples)
 }

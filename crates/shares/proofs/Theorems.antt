@@ -1,6 +1,7 @@
 -- What an answer says of the lists that were lent.
 use Rattle.std.specs.Prelude.{◌≡◌, refl, Bool, true, false, List, [], ◌∷◌, ℕ, ◌+◌, ◌*◌, ◌≤◌, ◌<◌, ◌^◌, Float, length, replicate}
 use Rattle.std.proofs.Common.{sym, ap, ◌∙◌, arith}
+use Rattle.std.specs.declared.result.Result.TheVariants.{Ok, Err}
 use Rattle.list_laws.specs.Count.{count}
 use Rattle.list_laws.specs.Search.{some}
 use Rattle.list_laws.proofs.Laws.Count.{count_ext}
@@ -8,8 +9,8 @@ use Rattle.list_laws.proofs.Laws.Search.{or-false}
 use Rattle.euclid.specs.declared.Fraction.{Fraction}
 use Rattle.euclid.specs.Euclid.{LowestTerms}
 use Rattle.euclid.proofs.Theorems.{in_lowest_terms, only-lowest-terms}
+use Rattle.refusals.specs.declared.Refusal.TheVariants as R
 use Rattle.shares.specs.declared.answer.Shares.{Shares}
-use Rattle.shares.specs.declared.answer.Answer.TheVariants.{Pooled, Refused}
 use Rattle.shares.specs.Lists.{counted_in, shares_by}
 use Rattle.shares.specs.Shares.{at, bad_entry, is_above, is_zero, is_below, is_half, most_lists, most_entries, bad_lists, refuses, counted, pooled, shares_of}
 use Rattle.shares.proofs.Laws.Cases.{all_kinds}
@@ -30,7 +31,7 @@ abbrev pub AddToOne : Fraction → Fraction → Fraction → Type 0
 AddToOne f g h = f.top * g.bottom * h.bottom + g.top * f.bottom * h.bottom + h.top * f.bottom * g.bottom ≡ f.bottom * g.bottom * h.bottom
 
 module _ (stored : List Float) (lengths : List ℕ) where
-  pub refused : refuses stored lengths ≡ true → shares_of stored lengths ≡ Refused 25
+  pub refused : refuses stored lengths ≡ true → shares_of stored lengths ≡ Err R.Shares
   unfolding shares_of
   refused h = rw h
 
@@ -38,7 +39,7 @@ module _ (stored : List Float) (lengths : List ℕ) where
     parts : (bad_lists lengths (length stored) ≡ false) × (some (λ i. bad_entry (at stored i)) (length stored) ≡ false)
     parts = or-false (bad_lists lengths (length stored)) (some (λ i. bad_entry (at stored i)) (length stored)) h
 
-    pub answered : shares_of stored lengths ≡ Pooled (pooled stored)
+    pub answered : shares_of stored lengths ≡ Ok (pooled stored)
     unfolding shares_of
     answered = rw h
 
@@ -80,7 +81,7 @@ module _ (stored : List Float) (lengths : List ℕ) where
         entries.0 tops_add_up l.above.same l.zeros.same l.below.same
 
   -- an answer of shares comes of lists that are not refused, and has their shares
-  pub accepted : (s : Shares) → shares_of stored lengths ≡ Pooled s → (refuses stored lengths ≡ false) × (s ≡ pooled stored)
+  pub accepted : (s : Shares) → shares_of stored lengths ≡ Ok s → (refuses stored lengths ≡ false) × (s ≡ pooled stored)
   accepted s e = go (refuses stored lengths) refl
     where
       go : (b : Bool) → refuses stored lengths ≡ b → (refuses stored lengths ≡ false) × (s ≡ pooled stored)
@@ -88,20 +89,20 @@ module _ (stored : List Float) (lengths : List ℕ) where
       go false h = (h, (let a = answered h in cc))
 
   -- so whatever shares are answered are in lowest terms, and the first three add to one
-  pub answered-exactly : (s : Shares) → shares_of stored lengths ≡ Pooled s → InLowestTerms stored s × AddToOne s.above s.zero s.below
+  pub answered-exactly : (s : Shares) → shares_of stored lengths ≡ Ok s → InLowestTerms stored s × AddToOne s.above s.zero s.below
   answered-exactly s e = let (h, is) = accepted s e in rw is (lowest-terms h, add_to_one h)
 
 -- Good lists of one length are not refused,
 pub equal_lists_answered : (stored : List Float) (lists entries : ℕ) → 0 < lists → lists ≤ most_lists → 0 < entries → entries ≤ most_entries
     → length stored ≡ lists * entries → ((i : ℕ) → i < lists * entries → bad_entry (at stored i) ≡ false)
-    → shares_of stored (replicate lists entries) ≡ Pooled (pooled stored)
+    → shares_of stored (replicate lists entries) ≡ Ok (pooled stored)
 equal_lists_answered stored lists entries l m e f n g = answered stored (replicate lists entries) (equal_lists lists entries stored l m e f n g)
 
 -- and one list has the shares of the rule that gives its entries.
 pub by_rule : (entry : ℕ → Float) (n : ℕ) (list : List Float) → 0 < n → n ≤ most_entries → length list ≡ n
-    → ((i : ℕ) → i < n → at list i ≡ entry i) → ((i : ℕ) → i < n → bad_entry (entry i) ≡ false) → shares_of list (n ∷ []) ≡ Pooled (shares_by entry n)
+    → ((i : ℕ) → i < n → at list i ≡ entry i) → ((i : ℕ) → i < n → bad_entry (entry i) ≡ false) → shares_of list (n ∷ []) ≡ Ok (shares_by entry n)
 by_rule entry n list h m e r g =
     let one : 1 * n ≡ n = omega arith in
     let same : (test : Float → Bool) → counted test list ≡ count (λ i. test (entry i)) n = λ test. rw e (count_ext _ _ n (λ i l. ap test (r i l))) in
     equal_lists_answered list 1 n (omega arith) (omega arith) h m (e ∙ sym one) (λ i l. rw (r i (omega arith)) (g i (omega arith)))
-    ∙ ap Pooled (rw (same is_above, same is_zero, same is_below, same is_half, e))
+    ∙ ap Ok (rw (same is_above, same is_zero, same is_below, same is_half, e))

@@ -1,5 +1,7 @@
 -- The shares of stored correlations: lists lent end to end with their lengths, and fractions of all their entries.
-use Rattle.std.specs.Prelude.{Bool, not, ◌&&◌, ◌||◌, cond, List, [], ◌∷◌, ℕ, zero, suc, ◌+◌, ◌^◌, eqb, ltb, Float, length, get_or}
+use Rattle.std.specs.Prelude.{Bool, not, ◌&&◌, ◌||◌, cond, List, [], ◌∷◌, ℕ, zero, suc, ◌+◌, eqb, ltb, Float, length, get_or}
+use Rattle.std.specs.declared.result.Result.{Result}
+use Rattle.std.specs.declared.result.Result.TheVariants.{Ok, Err}
 use Rattle.std.specs.Float.{nan, binary64}
 use Rattle.std.specs.Float.Ieee.{of_bits, neg, lt, le, eq}
 -- the most lists, and the most entries of one
@@ -7,9 +9,9 @@ pub use Rattle.limits.specs.Limits.{most_lists, most_entries}
 use Rattle.list_laws.specs.Count.{count}
 use Rattle.list_laws.specs.Search.{some}
 use Rattle.euclid.specs.Euclid.{reduced}
+use Rattle.refusals.specs.declared.Refusal.{Refusal}
+use Rattle.refusals.specs.declared.Refusal.TheVariants as R
 use Rattle.shares.specs.declared.answer.Shares.{Shares}
-use Rattle.shares.specs.declared.answer.Answer.{Answer}
-use Rattle.shares.specs.declared.answer.Answer.TheVariants.{Pooled, Refused}
 
 -- 0, 1/2 and 1
 abbrev pub +0·0 : Float
@@ -84,15 +86,10 @@ abbrev pub pooled : List Float → Shares
 pooled stored = fractions (counted is_above stored) (counted is_zero stored) (counted is_below stored) (counted is_half stored) (length stored)
 
 -- the answer
-unfoldable pub shares_of : List Float → List ℕ → Answer
-shares_of stored lengths = cond (refuses stored lengths) (Refused 25) (Pooled (pooled stored))
+unfoldable pub shares_of : List Float → List ℕ → Result Shares Refusal
+shares_of stored lengths = cond (refuses stored lengths) (Err R.Shares) (Ok (pooled stored))
 
--- ---- an answer's number and values, case by case
-
--- 0 for accepted
-abbrev pub number_of : Answer → ℕ
-number_of (Pooled s) = 0
-number_of (Refused k) = k
+-- ---- an answer's values
 
 -- four shares as eight words, the top and the bottom of each
 abbrev pub words_of : Shares → List ℕ
@@ -100,6 +97,6 @@ words_of s =
     s.above.top ∷ s.above.bottom ∷ s.zero.top ∷ s.zero.bottom ∷ s.below.top ∷ s.below.bottom ∷ s.half.top ∷ s.half.bottom ∷ []
 
 -- what an answer leaves where the words `old` stood
-abbrev pub words_in : Answer → List ℕ → List ℕ
-words_in (Pooled s) old = words_of s
-words_in (Refused k) old = old
+abbrev pub words_in : Result Shares Refusal → List ℕ → List ℕ
+words_in (Ok s) old = words_of s
+words_in (Err e) old = old

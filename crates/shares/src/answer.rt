@@ -9,9 +9,3 @@ pub struct Shares {
     pub below: Fraction,
     pub half: Fraction,
 }
-
-#[derive(Drop)]
-pub enum Answer {
-    Pooled(Shares),
-    Refused(usize),
-}

@@ -44,14 +44,11 @@ pub fn count_kinds(stored: &[f64]) -> Tally
     let mut above: u64 = 0;
     let mut below: u64 = 0;
     let mut half: u64 = 0;
-    let mut i: usize = 0;
-    while i < stored.len() {
-        let x = stored[i];
-        bad += one_if(bad_entry(x));
-        above += one_if(0.0 < x);
-        below += one_if(x < 0.0);
-        half += one_if(is_half(x));
-        i += 1;
+    for x in stored {
+        bad += one_if(bad_entry(*x));
+        above += one_if(0.0 < *x);
+        below += one_if(*x < 0.0);
+        half += one_if(is_half(*x));
     }
     Tally {
         bad,

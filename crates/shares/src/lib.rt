@@ -8,10 +8,11 @@ mod answer;
 mod entries;
 mod lists;
 
-pub use answer::{Answer, Shares};
+pub use answer::Shares;
 use entries::count_kinds;
 use euclid::reduce;
 use lists::bad_lists;
+use refusals::Refusal;
 
 // Each count over all entries, in lowest terms.
 fn fractions(above: u64, zeros: u64, below: u64, halves: u64, entries: u64) -> Shares
@@ -26,17 +27,17 @@ fn fractions(above: u64, zeros: u64, below: u64, halves: u64, entries: u64) -> S
 }
 
 // Lists of stored correlations, end to end, with their lengths. Of good entries those that are neither above nor below zero are zero.
-pub fn shares(stored: &[f64], lengths: &[usize]) -> Answer
+pub fn shares(stored: &[f64], lengths: &[usize]) -> Result<Shares, Refusal>
     ensures { result ≡ shares_of stored.now lengths.now }
 {
     if bad_lists(lengths, stored.len()) {
-        return Answer::Refused(25);
+        return Err(Refusal::Shares);
     }
     let t = count_kinds(stored);
     if t.bad != 0 {
-        return Answer::Refused(25);
+        return Err(Refusal::Shares);
     }
     let entries = stored.len() as u64;
     let zeros = entries - t.above - t.below;
-    Answer::Pooled(fractions(t.above, zeros, t.below, t.half, entries))
+    Ok(fractions(t.above, zeros, t.below, t.half, entries))
 }

@@ -7,10 +7,7 @@ use limits::{ENTRIES, LISTS};
 fn bad_length(entries: usize) -> bool
     ensures { result ≡ bad_length entries }
 {
-    if entries == 0 {
-        return true;
-    }
-    ENTRIES < entries
+    entries == 0 || ENTRIES < entries
 }
 
 // A length is limited before it is added, so that no sum wraps.
@@ -24,14 +21,11 @@ pub fn bad_lists(lengths: &[usize], lent: usize) -> bool
         return true;
     }
     let mut total: usize = 0;
-    let mut k: usize = 0;
-    while k < lengths.len() {
-        let entries = lengths[k];
-        if bad_length(entries) {
+    for entries in lengths {
+        if bad_length(*entries) {
             return true;
         }
-        total += entries;
-        k += 1;
+        total += *entries;
     }
     total != lent
 }

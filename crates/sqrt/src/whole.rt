@@ -11,12 +11,10 @@ pub fn whole_root(m: u64) -> u64
     let mut root = 0u64;
     let mut rest = 0u64;
     let mut next = m;
-    let mut i = 0u64;
-    while i < 54 {
+    for _digit in 0u64..54 {
         let taken = rest * 4 + next / 0x0010_0000_0000_0000;
         let odd = root * 4 + 1;
         next = next % 0x0010_0000_0000_0000 * 4;
-        i += 1;
         if odd <= taken {
             rest = taken - odd;
             root = root * 2 + 1;

@@ -41,8 +41,7 @@ fn backward_run(
         (top (backward_rule em ep (alternating p0 p1) (alternating q0 q1) (entries v.old s)) n) }
 {
     let mut m = no_entries();
-    let mut i = 0usize;
-    while i < n {
+    for i in (0..n).step_by(2) {
         let s0 = v[s + 2 * i] * p0;
         let t0 = v[s + 2 * i + 1] * q0;
         let s1 = v[s + 2 * i + 2] * p1;
@@ -58,7 +57,6 @@ fn backward_run(
         v[hi - i - 2] = r.c;
         v[hi - i - 1] = r.d;
         m = joined(m, r);
-        i += 2;
     }
     larger_of(larger_of(m.a, m.b), larger_of(m.d, m.c))
 }
@@ -88,8 +86,7 @@ fn backward_runs(
     let StepRuns { end, e, size, one } = step_runs(bits, n, g);
     let past = dst + 2 * end;
     let mut most = 0.0;
-    let mut k = 0usize;
-    while k < end {
+    for k in (0..end).step_by(size) {
         let m = pattern_of(k, bits, n);
         let j = m + one;
         let p0 = up[m];
@@ -110,7 +107,6 @@ fn backward_runs(
             q1,
         );
         most = larger_of(most, r);
-        k += size;
     }
     most
 }

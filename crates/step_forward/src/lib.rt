@@ -43,8 +43,7 @@ fn forward_run(
         (2 * n) }
 {
     let mut m = no_entries();
-    let mut i = 0usize;
-    while i < n {
+    for i in (0..n).step_by(2) {
         let a0 = v[a + i];
         let b0 = v[b - i];
         let a1 = v[a + i + 1];
@@ -60,7 +59,6 @@ fn forward_run(
         v[o + 2 * i + 2] = r.c;
         v[o + 2 * i + 3] = r.d;
         m = joined(m, r);
-        i += 2;
     }
     larger_of(larger_of(m.a, m.c), larger_of(m.b, m.d))
 }
@@ -91,8 +89,7 @@ fn forward_runs(
     let StepRuns { end, e, size, one } = step_runs(bits, n, g);
     let last = src + 2 * end - 1;
     let mut most = 0.0;
-    let mut k = 0usize;
-    while k < end {
+    for k in (0..end).step_by(size) {
         let m = pattern_of(k, bits, n);
         let j = m + one;
         let p0 = up[m];
@@ -115,7 +112,6 @@ fn forward_runs(
             q1,
         );
         most = larger_of(most, r);
-        k += size;
     }
     most
 }

@@ -1,5 +1,5 @@
 -- The weights of two steps at once: alternately within a run, and by the patterns of its places.
-use Rattle.std.specs.Prelude.{◌≡◌, List, ◌⊎◌, ℕ, ◌+◌, ◌/◌, ◌^◌, ◌≤◌, ◌<◌, get_or, Float}
+use Rattle.std.specs.Prelude.{◌≡◌, List, ◌⊎◌, ℕ, ◌+◌, ◌/◌, ◌≤◌, ◌<◌, get_or, Float}
 use Rattle.std.specs.Float.{nan}
 use Rattle.step_tables.specs.Rule.{alternating}
 use Rattle.step_runs.specs.declared.runs.Four.{Four}

@@ -13,13 +13,11 @@ fn alternate_run(v: &mut [f64], s: usize, o: usize, n: usize)
     requires { (n % 2 ≡ 0) × Apart (length v.old) s n o n }
     ensures { v.new ≡ put v.old o (tabulate (alternate_half (entries v.old s)) n) }
 {
-    let mut j = 0usize;
-    while j < n {
+    for j in (0..n).step_by(2) {
         let a = v[s + j];
         let b = v[s + (j + 1)];
         v[o + j] = a;
         v[o + (j + 1)] = -b;
-        j += 2;
     }
 }
 

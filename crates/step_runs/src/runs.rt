@@ -35,10 +35,8 @@ pub fn run_bit(bits: &[usize; 4], n: usize, low: usize, h: usize) -> usize
     ensures sparse { Sparse bits.now n low result }
 {
     let mut e = h;
-    let mut i = 0usize;
-    while i < n {
+    for i in 0..n {
         let b = bits[i];
-        i += 1;
         if b >= low {
             if b < e {
                 e = b;

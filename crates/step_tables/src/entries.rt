@@ -8,9 +8,7 @@ pub fn fill(room: &mut [f64], at: usize, n: usize, x: f64)
     requires { at + n ≤ length room.old }
     ensures { room.new ≡ put room.old at (tabulate (λ _. x) n) }
 {
-    let mut i = 0usize;
-    while i < n {
+    for i in 0..n {
         room[at + i] = x;
-        i += 1;
     }
 }

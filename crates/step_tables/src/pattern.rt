@@ -18,9 +18,7 @@ pub fn pattern_of(k: usize, bits: &[usize; 4], n: usize) -> usize
     ensures upper_bound { result < 16 }
 {
     let mut m = 0usize;
-    let mut i = n;
-    while i > 0 {
-        i -= 1;
+    for i in (0..n).rev() {
         m = 2 * m + (k >> bits[i]) % 2;
     }
     m

@@ -22,11 +22,9 @@ fn product(factors: &[f64; 4], n: usize, m: usize) -> f64
 {
     let mut f = 1.0;
     let mut r = m;
-    let mut i = 0usize;
-    while i < n {
+    for i in 0..n {
         f = weighed(f, factors[i], r % 2);
         r = r / 2;
-        i += 1;
     }
     f
 }
@@ -44,12 +42,10 @@ pub fn fill_tables(factors: &[f64; 4], count: usize, scale: f64, up: &mut [f64],
     ensures { (bits : List ℕ) → Filled (near_edges factors.now bits 0 count) scale count up.new down.new }
 {
     let full = pow2(count);
-    let mut m = 0usize;
-    while m < full {
+    for m in 0..full {
         let mirrored = full - 1 - m;
         let f = product(factors, count, m);
         up[m] = f * scale;
         down[mirrored] = f * scale;
-        m += 1;
     }
 }

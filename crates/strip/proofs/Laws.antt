@@ -1,3 +1,4 @@
 -- What is proved of the definitions.
 pub mod Tests
+pub mod Kinds
 pub mod Sides

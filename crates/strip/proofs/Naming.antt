@@ -11,8 +11,8 @@ use Rattle.refusals.proofs.Laws.First.{told}
 use Rattle.strip.specs.Spelling.{spelled}
 use Rattle.strip.specs.Names.{same, is_word, parsed}
 use Rattle.strip.specs.declared.kinds.Kind.TheVariants.{Square, Tri, Honey, Eight}
-use Rattle.strip.specs.declared.kinds.Parsed.{Parsed}
-use Rattle.strip.specs.declared.kinds.Parsed.TheVariants.{Known, NoKind}
+use Rattle.strip.specs.declared.kinds.Kind.{Kind}
+use Rattle.std.specs.Prelude.{Option, Some, None}
 
 same_self : (a : List ℕ) → same a a ≡ true
 same_self [] = refl
@@ -50,28 +50,28 @@ take_past : {A : Type 0} (t : Bool) (z x y : A) → t ≡ false → x ≡ y → 
 take_past t z x y e h = rw e h
 
 module _ (name : List ℕ) {a : Bool} (p : a ≡ (is_word name "square" || is_word name "sq")) where
-  pub parsed-square : a ≡ true → Known Square ≡ parsed name
+  pub parsed-square : a ≡ true → Some Square ≡ parsed name
   unfolding parsed
   parsed-square t = take_here _ _ _ (told p t)
 
   module _ (p' : a ≡ false) {b : Bool} (q : b ≡ (is_word name "tri" || is_word name "triangular")) where
-    pub parsed_tri : b ≡ true → Known Tri ≡ parsed name
+    pub parsed_tri : b ≡ true → Some Tri ≡ parsed name
     unfolding parsed
     parsed_tri t = take_past _ _ _ _ (told p p') (take_here _ _ _ (told q t))
 
     module _ (q' : b ≡ false) {c : Bool} (r : c ≡ (is_word name "honey" || is_word name "honeycomb" || is_word name "hex")) where
-      pub parsed_honey : c ≡ true → Known Honey ≡ parsed name
+      pub parsed_honey : c ≡ true → Some Honey ≡ parsed name
       unfolding parsed
       parsed_honey t = take_past _ _ _ _ (told p p') (take_past _ _ _ _ (told q q') (take_here _ _ _ (told r t)))
 
       module _ (r' : c ≡ false) {d : Bool} (u : d ≡ is_word name "eight") where
         -- past the words of the other three kinds
-        past_three : {k : Parsed} → k ≡ cond (is_word name "eight") (Known Eight) NoKind → k ≡ parsed name
+        past_three : {k : Option Kind} → k ≡ cond (is_word name "eight") (Some Eight) None → k ≡ parsed name
         unfolding parsed
         past_three e = take_past _ _ _ _ (told p p') (take_past _ _ _ _ (told q q') (take_past _ _ _ _ (told r r') e))
 
-        pub parsed-eight : d ≡ true → Known Eight ≡ parsed name
+        pub parsed-eight : d ≡ true → Some Eight ≡ parsed name
         parsed-eight t = past_three (take_here _ _ _ (told u t))
 
-        pub parsed-none : d ≡ false → NoKind ≡ parsed name
+        pub parsed-none : d ≡ false → None ≡ parsed name
         parsed-none t = past_three (take_past _ _ _ _ (told u t) refl)

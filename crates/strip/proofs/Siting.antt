@@ -1,7 +1,7 @@
 -- What a caller is told of a site, from what was found.
 use mathlib.Core.Path.{◌≡◌, refl, ap}
 use mathlib.Core.Bool.{Bool, true, false, ◌&&◌}
-use Prim.Native.Nat.{ℕ, zero, suc, ◌+◌, ◌*◌, ◌≤◌, ◌<◌}
+use Prim.Native.Nat.{ℕ, ◌+◌, ◌*◌, ◌≤◌, ◌<◌}
 use native.Mathlib.Nat.{mul-le-mul_right, mul_comm}
 use native.Mathlib.Omega.{arith}
 use lib.Dec.{ltb}
@@ -9,28 +9,21 @@ use borrow.Author.Tests.{le-ltb, lt-ltb}
 use Rattle.strip.specs.Vertices.{vertex, sited}
 use Rattle.strip.specs.Sides.{Sides}
 use Rattle.strip.specs.declared.strip.Strip.{Strip}
-use Rattle.strip.specs.declared.vertices.Sited.TheVariants.{Vertex, Outside, Refused}
+use Rattle.std.specs.Prelude.{Some, None}
 
 module _ (s : Strip) (x y : ℕ) where
-  pub site_refused : (r k : ℕ) → r ≡ k → (r ≡ 0 → ⊥) → Refused r ≡ sited k s x y
-  site_refused r zero e n = absurd (n e)
-  site_refused r (suc k) e n = ap Refused e
+  pub beyond : s.l ≤ x → None ≡ sited s x y
+  beyond h = rw (le-ltb x s.l h)
 
-  pub beyond : (k : ℕ) → 0 ≡ k → s.l ≤ x → Outside ≡ sited k s x y
-  beyond zero e h = rw (le-ltb x s.l h)
-  beyond (suc k) e h = absurd (omega arith)
-
-  pub beside : (k : ℕ) → 0 ≡ k → s.w ≤ y → Outside ≡ sited k s x y
-  beside zero e h = rw (le-ltb y s.w h, off (ltb x s.l))
+  pub beside : s.w ≤ y → None ≡ sited s x y
+  beside h = rw (le-ltb y s.w h, off (ltb x s.l))
     where
       off : (b : Bool) → (b && false) ≡ false
       off true = refl
       off false = refl
-  beside (suc k) e h = absurd (omega arith)
 
-  pub within : (k v : ℕ) → 0 ≡ k → x < s.l → y < s.w → v ≡ vertex s.w x y → Vertex v ≡ sited k s x y
-  within zero v e a b q = rw (lt-ltb x s.l a, lt-ltb y s.w b) (ap Vertex q)
-  within (suc k) v e a b q = absurd (omega arith)
+  pub within : (v : ℕ) → x < s.l → y < s.w → v ≡ vertex s.w x y → Some v ≡ sited s x y
+  within v a b q = rw (lt-ltb x s.l a, lt-ltb y s.w b) (ap Some q)
 
   -- a vertex of a strip that passes check 15
   pub small : Sides s.w s.l → x < s.l → y < s.w → x * s.w + y ≤ 4096

@@ -1,11 +1,9 @@
 -- The names of kinds and boundaries.
-use Rattle.std.specs.Prelude.{Bool, true, false, cond, ◌||◌, ◌&&◌, List, [], ◌∷◌, ◌++◌, ℕ, eqb, take, replicate}
+use Rattle.std.specs.Prelude.{Option, Some, None, Bool, true, false, cond, ◌||◌, ◌&&◌, List, [], ◌∷◌, ◌++◌, ℕ, eqb, take, replicate}
 use Prim.Native.String.{String}
 use Rattle.strip.specs.Spelling.{spelled}
 use Rattle.strip.specs.declared.kinds.Kind.{Kind}
 use Rattle.strip.specs.declared.kinds.Kind.TheVariants.{Square, Tri, Honey, Eight}
-use Rattle.strip.specs.declared.kinds.Parsed.{Parsed}
-use Rattle.strip.specs.declared.kinds.Parsed.TheVariants.{Known, NoKind}
 
 -- whether two lists are one
 abbrev pub same : List ℕ → List ℕ → Bool
@@ -17,13 +15,13 @@ same (x ∷ xs) (y ∷ ys) = eqb x y && same xs ys
 abbrev pub is_word : List ℕ → String → Bool
 is_word name word = same name (spelled word)
 
-unfoldable pub parsed : List ℕ → Parsed
+unfoldable pub parsed : List ℕ → Option Kind
 parsed name =
-    cond (is_word name "square" || is_word name "sq") (Known Square)
-    (cond (is_word name "tri" || is_word name "triangular") (Known Tri)
-    (cond (is_word name "honey" || is_word name "honeycomb" || is_word name "hex") (Known Honey)
-    (cond (is_word name "eight") (Known Eight)
-    NoKind)))
+    cond (is_word name "square" || is_word name "sq") (Some Square)
+    (cond (is_word name "tri" || is_word name "triangular") (Some Tri)
+    (cond (is_word name "honey" || is_word name "honeycomb" || is_word name "hex") (Some Honey)
+    (cond (is_word name "eight") (Some Eight)
+    None)))
 
 abbrev pub name_of : Kind → List ℕ
 name_of Square = spelled "square"

@@ -6,7 +6,6 @@ mod refuse;
 mod strip;
 mod vertices;
 
-pub use kinds::{Kind, Parsed, Word, is_eight, is_honey, is_tri, six};
+pub use kinds::{Kind, Word, six};
 pub use refuse::{bad_sides, odd_cylinder};
 pub use strip::{Strip, vertex_at, vertex_count};
-pub use vertices::Sited;

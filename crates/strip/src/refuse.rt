@@ -2,7 +2,7 @@
 ghost use Rattle.std.specs.Prelude.{◌≡◌, ◌||◌, ◌*◌, eqb, ltb};
 ghost use Rattle.strip.specs.Requests.{odd_cylinder};
 
-use crate::kinds::is_honey;
+use crate::kinds::Kind;
 use crate::strip::Strip;
 
 // 15. A side is 0, or sides multiply above 1,024; the product itself may not fit a word.
@@ -22,6 +22,5 @@ pub fn bad_sides(w: usize, l: usize) -> bool
 pub fn odd_cylinder(s: Strip) -> bool
     ensures { result ≡ odd_cylinder s }
 {
-    let kind = s.kind;
-    is_honey(kind) & s.periodic & (s.w % 2 == 1)
+    (s.kind == Kind::Honey) & s.periodic & (s.w % 2 == 1)
 }

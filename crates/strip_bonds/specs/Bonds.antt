@@ -1,9 +1,7 @@
 -- What a rule gives, as a list.
-use Rattle.std.specs.Prelude.{List, [], ◌∷◌}
-use Rattle.strip_bonds.specs.Edges.{Edge, edge}
-use Rattle.strip_bonds.specs.declared.Bond.{Bond}
-use Rattle.strip_bonds.specs.declared.Bond.TheVariants.{Joins, Nothing}
+use Rattle.std.specs.Prelude.{Option, Some, None, List, [], ◌∷◌}
+use Rattle.strip_bonds.specs.declared.Edge.{Edge}
 
-abbrev pub listed : Bond → List Edge
-listed (Joins a b) = edge a b ∷ []
-listed Nothing = []
+abbrev pub listed : Option Edge → List Edge
+listed (Some e) = e ∷ []
+listed None = []

@@ -6,10 +6,7 @@ use Rattle.strip.specs.Kinds.{is_honey, is_tri, is_eight}
 use Rattle.strip.specs.declared.kinds.Kind.{Kind}
 use Rattle.strip.specs.Vertices.{vertex}
 use Rattle.strip.specs.declared.strip.Strip.{Strip}
-
-pub record Edge : Type 0 where
-  pub early : ℕ
-  pub late : ℕ
+use Rattle.strip_bonds.specs.declared.Edge.{Edge}
 
 abbrev pub edge : ℕ → ℕ → Edge
 edge a b = record { early = a; late = b }

@@ -1,7 +1,7 @@
 -- The sites of a strip, one after the other, and how many edges they give.
 use Rattle.std.specs.Prelude.{ℕ, ◌+◌, length}
 use Rattle.strip.specs.declared.strip.Strip.{Strip}
-use Rattle.strip_bonds.specs.Edges.{across, wrap, along, rising, falling, rules, edges}
+use Rattle.strip_bonds.specs.Edges.{across, wrap, along, rising, falling}
 
 -- how many edges the rules give at a site
 abbrev pub site_count : Strip → ℕ → ℕ → ℕ

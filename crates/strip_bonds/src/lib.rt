@@ -6,28 +6,29 @@ ghost use Rattle.strip_bonds.specs.Edges.{edge, given, brick, rises, falls, has_
 ghost use Rattle.strip.specs.Sides.{Site};
 ghost use Rattle.strip_bonds.specs.Bonds.{listed};
 
-use strip::{Kind, Strip, is_eight, is_honey, is_tri, vertex_at};
+use strip::{Kind, Strip, vertex_at};
 
-#[derive(Drop)]
-pub enum Bond {
-    Joins(usize, usize),
-    Nothing,
+// An edge, its smaller end first.
+#[derive(Clone, Copy)]
+pub struct Edge {
+    pub early: usize,
+    pub late: usize,
 }
 
-fn bond_if(joined: bool, early: usize, late: usize) -> Bond
+fn bond_if(joined: bool, early: usize, late: usize) -> Option<Edge>
     ensures { listed result ≡ given joined (edge early late) }
 {
     if joined {
-        return Bond::Joins(early, late);
+        return Some(Edge { early, late });
     }
-    Bond::Nothing
+    None
 }
 
 fn has_brick(kind: Kind, x: usize, y: usize) -> bool
     requires { x + y ≤ 2048 }
     ensures { result ≡ brick kind x y }
 {
-    !is_honey(kind) | ((x + y) % 2 == 0)
+    (kind != Kind::Honey) | ((x + y) % 2 == 0)
 }
 
 // Returns whether the strip has the diagonals to the next vertex across,
@@ -35,7 +36,7 @@ pub fn rises(s: Strip) -> bool
     ensures { result ≡ rises s }
 {
     let kind = s.kind;
-    is_eight(kind) | (is_tri(kind) & s.periodic)
+    (kind == Kind::Eight) | ((kind == Kind::Tri) & s.periodic)
 }
 
 // and those from it.
@@ -43,7 +44,7 @@ fn falls(s: Strip) -> bool
     ensures { result ≡ falls s }
 {
     let kind = s.kind;
-    is_eight(kind) | (is_tri(kind) & !s.periodic)
+    (kind == Kind::Eight) | ((kind == Kind::Tri) & !s.periodic)
 }
 
 // Returns whether some vertex across follows y.
@@ -66,7 +67,7 @@ fn next_across(w: usize, y: usize) -> usize
     0
 }
 
-pub fn across(s: Strip, x: usize, y: usize) -> Bond
+pub fn across(s: Strip, x: usize, y: usize) -> Option<Edge>
     requires { Site s x y }
     ensures { listed result ≡ across s x y }
 {
@@ -80,7 +81,7 @@ pub fn across(s: Strip, x: usize, y: usize) -> Bond
     )
 }
 
-pub fn wrap(s: Strip, x: usize, y: usize) -> Bond
+pub fn wrap(s: Strip, x: usize, y: usize) -> Option<Edge>
     requires { Site s x y }
     ensures { listed result ≡ wrap s x y }
 {
@@ -94,7 +95,7 @@ pub fn wrap(s: Strip, x: usize, y: usize) -> Bond
     )
 }
 
-pub fn along(s: Strip, x: usize, y: usize) -> Bond
+pub fn along(s: Strip, x: usize, y: usize) -> Option<Edge>
     requires { Site s x y }
     ensures { listed result ≡ along s x y }
 {
@@ -102,7 +103,7 @@ pub fn along(s: Strip, x: usize, y: usize) -> Bond
     bond_if(x + 1 < s.l, vertex_at(w, x, y), vertex_at(w, x + 1, y))
 }
 
-pub fn rising(s: Strip, x: usize, y: usize) -> Bond
+pub fn rising(s: Strip, x: usize, y: usize) -> Option<Edge>
     requires { Site s x y }
     ensures { listed result ≡ rising s x y }
 {
@@ -115,7 +116,7 @@ pub fn rising(s: Strip, x: usize, y: usize) -> Bond
     )
 }
 
-pub fn falling(s: Strip, x: usize, y: usize) -> Bond
+pub fn falling(s: Strip, x: usize, y: usize) -> Option<Edge>
     requires { Site s x y }
     ensures { listed result ≡ falling s x y }
 {

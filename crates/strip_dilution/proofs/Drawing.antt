@@ -16,7 +16,8 @@ use Rattle.list_laws.proofs.Laws.Tabulate.{tabulate_suc, tabulate-length}
 use Rattle.rng.specs.Xoshiro.{output, next, seeded}
 use Rattle.rng.specs.Uniform.{unit}
 use Rattle.refusals.specs.StripRequest.{Dilution}
-use Rattle.strip_bonds.specs.Edges.{Edge, one, unit_magnitudes}
+use Rattle.strip_bonds.specs.declared.Edge.{Edge}
+use Rattle.strip_bonds.specs.Edges.{one, unit_magnitudes}
 use Rattle.strip_dilution.specs.Diluted.{uniform, advanced, magnitude, magnitudes, state_at}
 
 -- what the generator ensures, in the definition's words

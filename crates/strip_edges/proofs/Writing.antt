@@ -8,7 +8,8 @@ use lib.Ieee.{Float}
 use lib.ListN.{length, drop, set, length-append, length-drop, length-map, length-set}
 use Rattle.list_laws.specs.Front.{over}
 use Rattle.list_laws.proofs.Laws.Front.{over-more, over-length}
-use Rattle.strip_bonds.specs.Edges.{Edge, edge, one, edges_below, edges, early_ends, late_ends, unit_magnitudes}
+use Rattle.strip_bonds.specs.declared.Edge.{Edge}
+use Rattle.strip_bonds.specs.Edges.{edge, one, edges_below, edges, early_ends, late_ends, unit_magnitudes}
 use Rattle.strip_bonds.specs.Sites.{site_count}
 use Rattle.strip_bonds.proofs.Laws.Sites.{added-length, edges_more, edges-below}
 use Rattle.strip_edges.specs.Listing.{Written, Placed, Sized, Holds}

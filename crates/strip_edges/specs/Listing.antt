@@ -2,7 +2,8 @@
 use Rattle.std.specs.Prelude.{◌≡◌, Bool, ◌||◌, List, ◌++◌, ℕ, ◌+◌, ◌≤◌, ltb, Float, length}
 use Rattle.list_laws.specs.Front.{over}
 use Rattle.strip.specs.declared.strip.Strip.{Strip}
-use Rattle.strip_bonds.specs.Edges.{Edge, rules, added, edges, early_ends, late_ends, unit_magnitudes}
+use Rattle.strip_bonds.specs.declared.Edge.{Edge}
+use Rattle.strip_bonds.specs.Edges.{rules, added, early_ends, late_ends, unit_magnitudes}
 
 -- k edges were written to the fronts of three buffers; what lies past them stayed
 pub record Written (es : List Edge) (k : ℕ) (early early' late late' : List ℕ) (mag mag' : List Float) : Type 0 where

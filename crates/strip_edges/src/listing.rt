@@ -7,14 +7,14 @@ ghost use Rattle.strip_bonds.specs.Sites.{site_count};
 ghost use Rattle.strip_edges.specs.Listing.{Holds, Written, Placed, Placing};
 
 use strip::{Strip, vertex_count};
-use strip_bonds::{Bond, across, along, falling, rising, wrap};
+use strip_bonds::{Edge, across, along, falling, rising, wrap};
 
-fn size(b: Bond) -> usize
+fn size(b: Option<Edge>) -> usize
     ensures { (result ≡ length (listed b)) × (result ≤ 1) }
 {
     match b {
-        Bond::Joins(_, _) => 1,
-        Bond::Nothing => 0,
+        Some(_) => 1,
+        None => 0,
     }
 }
 
@@ -36,27 +36,31 @@ pub fn count_edges(s: Strip) -> usize
     let w = s.w;
     let sites = vertex_count(w, s.l);
     let mut k: usize = 0;
-    let mut v: usize = 0;
-    while v < sites {
+    for v in 0..sites {
         k += count_site(s, v / w, v % w);
-        v += 1;
     }
     k
 }
 
 // Writes what a rule gave behind the first k edges, and answers how many there are then.
-fn place(b: Bond, k: usize, early: &mut [usize], late: &mut [usize], mag: &mut [f64]) -> usize
+fn place(
+    b: Option<Edge>,
+    k: usize,
+    early: &mut [usize],
+    late: &mut [usize],
+    mag: &mut [f64],
+) -> usize
     requires { Holds (k + length (listed b)) early.old late.old mag.old }
     ensures { Placed (listed b) k result early.old early.new late.old late.new mag.old mag.new }
 {
     match b {
-        Bond::Joins(a, z) => {
-            early[k] = a;
-            late[k] = z;
+        Some(edge) => {
+            early[k] = edge.early;
+            late[k] = edge.late;
             mag[k] = 1.0;
             k + 1
         }
-        Bond::Nothing => k,
+        None => k,
     }
 }
 
@@ -86,10 +90,8 @@ pub fn write_edges(s: Strip, early: &mut [usize], late: &mut [usize], mag: &mut 
     let w = s.w;
     let sites = vertex_count(w, s.l);
     let mut k: usize = 0;
-    let mut v: usize = 0;
-    while v < sites {
+    for v in 0..sites {
         k = place_site(s, v / w, v % w, k, early, late, mag);
-        v += 1;
     }
 }
 

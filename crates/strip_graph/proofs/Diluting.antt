@@ -1,25 +1,27 @@
 -- The list that `diluted` wrote, and the graph of what is kept of it.
-use mathlib.Core.Path.{◌≡◌, refl, sym, ap, ap₂, ◌∙◌}
+use mathlib.Core.Path.{◌≡◌, sym, ap, ap₂, ◌∙◌}
 use mathlib.Core.Bool.{cond}
 use mathlib.Core.List.{List}
-use Prim.Native.Nat.{ℕ, zero, suc, ◌*◌, ◌≤◌}
+use Prim.Native.Nat.{ℕ, ◌*◌, ◌≤◌}
 use native.Mathlib.Omega.{arith}
 use lib.Ieee.{Float}
 use lib.ListN.{length, take, length-map, length-take}
 use Rattle.list_laws.specs.Front.{over}
 use Rattle.list_laws.proofs.Laws.Tabulate.{tabulate-length}
 use Rattle.transfer_matrix.specs.Job.{window_of}
-use Rattle.refusals.specs.Answers.{answered, left}
+use Rattle.refusals.specs.Answers.{Answered, left}
 use Rattle.refusals.specs.StripRequest.{Dilution}
 use Rattle.refusals.specs.Edges.{Kept, kept}
 use Rattle.refusals.proofs.Laws.Accepted.{kept-most}
-use Rattle.refusals.specs.declared.Answer.{Answer}
-use Rattle.refusals.specs.declared.Answer.TheVariants.{Number, Refused}
+use Rattle.std.specs.Prelude.{Result, Ok, Err}
+use Rattle.refusals.specs.declared.Refusal.{Refusal}
+use Rattle.refusals.specs.Numbers.{number}
+use Rattle.refusals.proofs.Laws.Answers.{number-not_zero}
 use Rattle.kept_edges.specs.Keep.{places_of, Placed, Ordered}
 use Rattle.kept_edges.proofs.Laws.Places.{places-length}
 use Rattle.graph_edges.specs.Graphs.{too_short, Set}
 use Rattle.graph_edges.proofs.Laws.Setting.{refused-set}
-use Rattle.graph_edges.specs.declared.Made.{Made}
+use Rattle.graph_edges.specs.declared.Graph.{Graph}
 use Rattle.strip.specs.declared.strip.Strip.{Strip}
 use Rattle.strip_bonds.specs.Edges.{edges, early_ends, late_ends}
 use Rattle.strip_dilution.specs.Diluted.{magnitude, state_at, magnitudes, diluted_refusal}
@@ -40,14 +42,6 @@ places-counted a b m P e = P.edges ∙ places-length a b m (length m) ∙ rw e
 
 -- ---- the strip's list
 
-abbrev number_in : Answer → ℕ
-number_in (Number k) = k
-number_in (Refused r) = 0
-
-abbrev refusal_in : Answer → ℕ
-refusal_in (Number k) = 0
-refusal_in (Refused r) = suc r
-
 -- `diluted` was accepted: the k edges of the strip stand at the fronts of the lists, and only short lists refuse the graph
 pub record Drawn (s : Strip) (d : Dilution) (seed k : ℕ) (first second : List ℕ) (size : List Float) : Type 0 where
   pub accepted : AcceptedStrip s d
@@ -58,28 +52,22 @@ pub record Drawn (s : Strip) (d : Dilution) (seed k : ℕ) (first second : List 
   pub passed : (early late : List ℕ) (mag : List Float) (raw : List ℕ)
       → cond (too_short (length (diluted_edges s d seed)) early late mag raw) 12 0 ≡ graph_refusal s d seed early late mag raw
 
-pub drawn : (s : Strip) (d : Dilution) (seed k : ℕ) (first second : List ℕ) (size : List Float) {r : Answer} {first' second' : List ℕ} {size' : List Float}
-    → r ≡ Number k → r ≡ answered (diluted_refusal s d first second size) (length (edges s))
+pub drawn : (s : Strip) (d : Dilution) (seed k : ℕ) (first second : List ℕ) (size : List Float) {first' second' : List ℕ} {size' : List Float}
+    → Answered (diluted_refusal s d first second size) (length (edges s)) (Ok k)
     → first' ≡ left (diluted_refusal s d first second size) (over (early_ends (edges s)) first) first
     → second' ≡ left (diluted_refusal s d first second size) (over (late_ends (edges s)) second) second
     → size' ≡ left (diluted_refusal s d first second size) (over (magnitudes d seed (length (edges s))) size) size
     → Drawn s d seed k first' second' size'
-drawn s d seed k first second size {r = r} {first' = first'} {second' = second'} {size' = size'} p q a b c = go (diluted_refusal s d first second size) refl q a b c
-  where
-    go : (K : ℕ) → diluted_refusal s d first second size ≡ K → r ≡ answered K (length (edges s)) → first' ≡ left K (over (early_ends (edges s)) first) first
-        → second' ≡ left K (over (late_ends (edges s)) second) second → size' ≡ left K (over (magnitudes d seed (length (edges s))) size) size
-        → Drawn s d seed k first' second' size'
-    go zero z q a b c =
-        let n : k ≡ length (edges s) = ap number_in (sym p ∙ q) in
-        record {
-          accepted = (list_accepted s d seed first second size first second size first z).0;
-          number = n;
-          firsts = front (early_ends (edges s)) first first' k _ (length-map (edges s) _) n a;
-          seconds = front (late_ends (edges s)) second second' k _ (length-map (edges s) _) n b;
-          sizes = front (magnitudes d seed (length (edges s))) size size' k _ (tabulate-length (λ i. magnitude d (state_at seed i)) (length (edges s))) n c;
-          passed = λ early late mag raw. (list_accepted s d seed first second size early late mag raw z).1;
-        }
-    go (suc K) z q a b c = let apart = ap refusal_in (sym p ∙ q) in absurd (omega arith)
+drawn s d seed k first second size {first'} {second'} {size'} (z, n) a b c = record {
+  accepted = (list_accepted s d seed first second size first second size first (sym z)).0;
+  number = n;
+  firsts = front (early_ends (edges s)) first first' k _ (length-map (edges s) _) n (rw (← z) at a);
+  seconds = front (late_ends (edges s)) second second' k _ (length-map (edges s) _) n (rw (← z) at b);
+  sizes =
+      front (magnitudes d seed (length (edges s))) size size' k _ (tabulate-length (λ i. magnitude d (state_at seed i)) (length (edges s))) n
+      (rw (← z) at c);
+  passed = λ early late mag raw. (list_accepted s d seed first second size early late mag raw (sym z)).1;
+}
 
 module _ {s : Strip} {d : Dilution} {seed k : ℕ} {first second : List ℕ} {size : List Float} (D : Drawn s d seed k first second size) where
   -- its edges need no check
@@ -120,13 +108,13 @@ module _ {s : Strip} {d : Dilution} {seed k : ℕ} {first second : List ℕ} {si
   size_fits = front_fits size size-part
 
 -- what is left by a call for a graph, whose refusal, vertices, floor and edges are known otherwise
-moved : {K K' n n' floor floor' : ℕ} {es es' : List Kept} {r : Made} {early early' late late' : List ℕ} {mag mag' : List Float} {raw raw' : List ℕ}
+moved : {K K' n n' floor floor' : ℕ} {es es' : List Kept} {r : Result Graph Refusal} {early early' late late' : List ℕ} {mag mag' : List Float} {raw raw' : List ℕ}
     → K ≡ K' → n ≡ n' → floor ≡ floor' → es ≡ es' → Set K n floor es r early early' late late' mag mag' raw raw'
     → Set K' n' floor' es' r early early' late late' mag mag' raw raw'
 moved p q u v S = rw (← p, ← q, ← u, ← v) S
 
 -- the graph of the list is the graph of the strip
-pub drawn-set : {s : Strip} {d : Dilution} {seed k : ℕ} {first second : List ℕ} {size : List Float} (n : ℕ) {r : Made} (early late : List ℕ) (mag : List Float) (raw : List ℕ)
+pub drawn-set : {s : Strip} {d : Dilution} {seed k : ℕ} {first second : List ℕ} {size : List Float} (n : ℕ) {r : Result Graph Refusal} (early late : List ℕ) (mag : List Float) (raw : List ℕ)
     {early' late' : List ℕ} {mag' : List Float} {raw' : List ℕ} → Drawn s d seed k first second size → n ≡ s.w * s.l
     → Set (cond (too_short (length (kept (take k first) (take k second) (take k size))) early late mag raw) 12 0) n (window_of 0 (take k first) (take k second))
     (kept (take k first) (take k second) (take k size)) r early early' late late' mag mag' raw raw'
@@ -136,15 +124,9 @@ drawn-set {s} n early late mag raw D v S =
     moved (ap (λ es. cond (too_short (length es) early late mag raw) 12 0) same ∙ D.passed early late mag raw) v (ap₂ (window_of 0) D.firsts D.seconds ∙ strip_window s) same S
 
 -- a refused list is a refused graph
-pub refused-drawn : (s : Strip) (d : Dilution) (seed k number : ℕ) (first second : List ℕ) (size : List Float) {r : Answer} (early late : List ℕ) (mag : List Float) (raw : List ℕ)
-    → 4096 ≤ length first → 4096 ≤ length second → 4096 ≤ length size → r ≡ Refused k → r ≡ answered (diluted_refusal s d first second size) number
-    → Set (graph_refusal s d seed early late mag raw) (s.w * s.l) (Strips.window_of s) (diluted_edges s d seed) (Made.Refused k) early early late late mag mag raw raw
-refused-drawn s d seed k number first second size early late mag raw x y z p q = go (diluted_refusal s d first second size) refl (sym q ∙ p)
-  where
-    go : (K : ℕ) → diluted_refusal s d first second size ≡ K → answered K number ≡ Refused k
-        → Set (graph_refusal s d seed early late mag raw) (s.w * s.l) (Strips.window_of s) (diluted_edges s d seed) (Made.Refused k) early early late late mag mag raw raw
-    go zero e h = let apart = ap refusal_in h in absurd (omega arith)
-    go (suc K) e h =
-        let same = ap refusal_in h in
-        let found = list_refused s d seed first second size early late mag raw x y z (λ u. omega arith) in
-        refused-set _ _ _ _ k early late mag raw (omega arith) (λ u. omega arith)
+pub refused-drawn : (s : Strip) (d : Dilution) (seed : ℕ) (e : Refusal) (first second : List ℕ) (size : List Float) (early late : List ℕ) (mag : List Float) (raw : List ℕ)
+    → 4096 ≤ length first → 4096 ≤ length second → 4096 ≤ length size → number e ≡ diluted_refusal s d first second size
+    → Set (graph_refusal s d seed early late mag raw) (s.w * s.l) (Strips.window_of s) (diluted_edges s d seed) (Err e) early early late late mag mag raw raw
+refused-drawn s d seed e first second size early late mag raw x y z q =
+    let found = list_refused s d seed first second size early late mag raw x y z (λ u. number-not_zero e (q ∙ u)) in
+    refused-set _ _ _ _ e early late mag raw (q ∙ found)

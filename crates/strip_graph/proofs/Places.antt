@@ -1,5 +1,5 @@
 -- What an accepted call for the graph of a diluted strip says of raw places, of the window, and of a call for the graph of `diluted`'s list.
-use Rattle.std.specs.Prelude.{◌≡◌, refl, List, ℕ, ◌*◌, ◌<◌, min, max, Float, length, get_or, take}
+use Rattle.std.specs.Prelude.{◌≡◌, refl, Result, List, ℕ, ◌*◌, ◌<◌, min, max, Float, length, get_or, take}
 use Rattle.std.proofs.Common.{sym, ap, ◌∙◌, subst, arith}
 use Rattle.std.specs.Float.{nan}
 use Rattle.std.proofs.lemmas.List.{length-map}
@@ -12,7 +12,8 @@ use Rattle.refusals.proofs.Laws.Places.{kept_remember, agreeing_remember}
 use Rattle.graph_edges.specs.Graphs.{Set}
 use Rattle.graph_edges.specs.Places.{Remembered, remembered}
 use Rattle.graph_edges.proofs.Laws.Setting.{alike}
-use Rattle.graph_edges.specs.declared.Made.{Made}
+use Rattle.graph_edges.specs.declared.Graph.{Graph}
+use Rattle.refusals.specs.declared.Refusal.{Refusal}
 use Rattle.strip.specs.declared.strip.Strip.{Strip}
 use Rattle.strip_bonds.specs.Edges.{edges, early_ends, late_ends}
 use Rattle.strip_dilution.specs.Diluted.{magnitude, state_at, magnitudes}
@@ -23,7 +24,7 @@ use Rattle.strip_graph.proofs.Laws.Accepted.{AcceptedStrip, accepted_strip}
 use Rattle.strip_graph.proofs.Laws.Lists.{front, same_kept}
 use Rattle.strip_graph.proofs.Laws.Window.{window_stays, strip_window, strip_ordered}
 
-module _ (s : Strip) (d : Dilution) (seed : ℕ) {r : Made} {early early' late late' : List ℕ} {mag mag' : List Float} {raw raw' : List ℕ}
+module _ (s : Strip) (d : Dilution) (seed : ℕ) {r : Result Graph Refusal} {early early' late late' : List ℕ} {mag mag' : List Float} {raw raw' : List ℕ}
     (S : Set (graph_refusal s d seed early late mag raw) (s.w * s.l) (Strips.window_of s) (diluted_edges s d seed) r early early' late late' mag mag' raw raw')
     (accepted : graph_refusal s d seed early late mag raw ≡ 0) where
   -- the edges are the strip's, each with the magnitude that was drawn for it
@@ -55,7 +56,7 @@ module _ (s : Strip) (d : Dilution) (seed : ℕ) {r : Made} {early early' late l
       ∙ sym (window_stays a b (magnitudes d seed (length (edges s))) (strip_ordered s ok.sides ok.even)) ∙ w
 
   -- A call for the graph of the list that `diluted` wrote, with the strip's window as floor, answers and leaves the same.
-  pub graph_of_list : (first second : List ℕ) (size : List Float) {first' second' : List ℕ} {size' : List Float} {K : ℕ} {r'' : Made}
+  pub graph_of_list : (first second : List ℕ) (size : List Float) {first' second' : List ℕ} {size' : List Float} {K : ℕ} {r'' : Result Graph Refusal}
       {early'' late'' : List ℕ} {mag'' : List Float} {raw'' : List ℕ}
       → first' ≡ over (early_ends (edges s)) first → second' ≡ over (late_ends (edges s)) second → size' ≡ over (magnitudes d seed (length (edges s))) size
       → let k = length (edges s) in

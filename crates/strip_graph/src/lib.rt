@@ -11,11 +11,11 @@ ghost use Rattle.strip_window.specs.Window.{window_of as strip_window};
 ghost use Rattle.strip_dilution.specs.Diluted.{dilution};
 ghost use Rattle.strip_graph.specs.DilutedGraph.{diluted_edges, graph_refusal};
 
-use graph_edges::{Graph, Made, write_kept};
+use graph_edges::{Graph, write_kept};
 use kept_edges::keep::keep_places;
 use kept_edges::window_of;
 use limits::EDGES;
-use refusals::Answer;
+use refusals::Refusal;
 use strip::{Strip, vertex_count};
 use strip_dilution::diluted;
 
@@ -29,7 +29,7 @@ fn graph_of(
     late: &mut [usize],
     mag: &mut [f64],
     raw: &mut [usize],
-) -> Made
+) -> Result<Graph, Refusal>
     requires { Ordered a.now b.now × (length m.now ≡ length a.now) × (length a.now ≤ most_edges) }
     ensures { Set (cond (too_short (length (kept a.now b.now m.now)) early.old late.old mag.old raw.old) 12 0)
         n (window_of 0 a.now b.now) (kept a.now b.now m.now) result
@@ -38,11 +38,8 @@ fn graph_of(
     let mut places = [0usize; EDGES];
     let edges = keep_places(m, &mut places);
     let win = window_of(0, a, b);
-    let short = write_kept(edges, a, b, m, early, late, mag, raw);
-    if short != 0 {
-        return Made::Refused(short);
-    }
-    Made::Kept(Graph { n, win, edges })
+    write_kept(edges, a, b, m, early, late, mag, raw)?;
+    Ok(Graph { n, win, edges })
 }
 
 // Draws the strip's edges as `diluted` does, and keeps them; the window is the whole strip's.
@@ -56,7 +53,7 @@ pub fn diluted_graph(
     late: &mut [usize],
     mag: &mut [f64],
     raw: &mut [usize],
-) -> Made
+) -> Result<Graph, Refusal>
     ensures { Set (graph_refusal s (dilution keep mlo mhi) seed early.old late.old mag.old raw.old)
         (s.w * s.l) (strip_window s) (diluted_edges s (dilution keep mlo mhi) seed) result
         early.old early.new late.old late.new mag.old mag.new raw.old raw.new }
@@ -64,20 +61,16 @@ pub fn diluted_graph(
     let mut first = [0usize; EDGES];
     let mut second = [0usize; EDGES];
     let mut size = [0.0f64; EDGES];
-    match diluted(s, keep, mlo, mhi, seed, &mut first, &mut second, &mut size) {
-        Answer::Number(k) => {
-            let n = vertex_count(s.w, s.l);
-            graph_of(
-                n,
-                &first[..k],
-                &second[..k],
-                &size[..k],
-                early,
-                late,
-                mag,
-                raw,
-            )
-        }
-        Answer::Refused(refusal) => Made::Refused(refusal),
-    }
+    let k = diluted(s, keep, mlo, mhi, seed, &mut first, &mut second, &mut size)?;
+    let n = vertex_count(s.w, s.l);
+    graph_of(
+        n,
+        &first[..k],
+        &second[..k],
+        &size[..k],
+        early,
+        late,
+        mag,
+        raw,
+    )
 }

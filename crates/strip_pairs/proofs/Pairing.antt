@@ -7,8 +7,7 @@ use native.Mathlib.Nat.{mul-le-mul_right}
 use native.Mathlib.Numerals.{add-one}
 use native.Mathlib.Omega.{arith}
 use lib.Dec.{eqb, ltb}
-use lib.ListN.{length, take, drop, get_or, set, length-append, length-drop, length-take, length-map, length-set}
-use lib.Seq.{take-suc}
+use lib.ListN.{length, take, drop, set, length-append, length-drop, length-take, length-map, length-set}
 use borrow.Author.Tests.{ltb-true}
 use Rattle.list_laws.specs.Front.{over}
 use Rattle.list_laws.proofs.Laws.Front.{over-more, over-length}
@@ -17,12 +16,10 @@ use Rattle.strip.specs.Vertices.{vertex}
 use Rattle.strip.specs.Sides.{Sides}
 use Rattle.strip_candidates.specs.Candidates.{candidate_at}
 use Rattle.strip_candidates.specs.declared.Sites.{Sites}
-use Rattle.strip_labels.specs.Labels.{LabelFits}
-use Rattle.strip_labels.specs.declared.Label.{Label}
 use Rattle.strip_pairs.specs.PairSet.{Pair, taken, pair_at, pairs_below, firsts, seconds, label_bytes}
 use Rattle.strip_pairs.specs.PairListing.{shown, Counted, Put, PairRoom, PairsWritten, Ends, PairPlaced}
-use Rattle.strip_pairs.specs.declared.standard.Pick.{Pick}
-use Rattle.strip_pairs.specs.declared.standard.Pick.TheVariants as Pick
+use Rattle.std.specs.Prelude.{Option, Some, None}
+use Rattle.strip_pairs.specs.declared.standard.Vertices.{Vertices}
 use Rattle.strip_pairs.specs.declared.standard.Filled.{Filled}
 
 -- ---- what a strip takes of a candidate
@@ -52,14 +49,14 @@ taken-low {w} {l} S c t =
     }
 
 pub pick_taken : (w l i : ℕ) (c : Sites) → c ≡ (candidate_at w l i).sites → taken w l c ≡ true → (u v : ℕ) → u ≡ vertex w c.x1 c.y1
-    → v ≡ vertex w c.x2 c.y2 → shown (Pick.Pair u v) (candidate_at w l i).label ≡ pair_at w l i
+    → v ≡ vertex w c.x2 c.y2 → shown (Some (record { u = u; v = v })) (candidate_at w l i).label ≡ pair_at w l i
 unfolding pair_at
 pick_taken w l i c e t u v p q =
     let t' : taken w l (candidate_at w l i).sites ≡ true = rw e at t in
     rw (t', ← e, p, q)
 
 pub pick_omitted : (w l i : ℕ) (c : Sites) → c ≡ (candidate_at w l i).sites → taken w l c ≡ false
-    → shown Pick.Omitted (candidate_at w l i).label ≡ pair_at w l i
+    → shown None (candidate_at w l i).label ≡ pair_at w l i
 unfolding pair_at
 pick_omitted w l i c e t =
     let t' : taken w l (candidate_at w l i).sites ≡ false = rw e at t in
@@ -71,25 +68,25 @@ unfolding label_bytes
 bytes_append [] qs = refl
 bytes_append (p ∷ ps) qs = rw (bytes_append ps qs) (sym (append_assoc (p.label ++ (0 ∷ [])) (label_bytes ps) (label_bytes qs)))
 
-bytes_one : (label : List ℕ) (u v : ℕ) → label_bytes (shown (Pick.Pair u v) label) ≡ label ++ (0 ∷ [])
+bytes_one : (label : List ℕ) (q : Vertices) → label_bytes (shown (Some q) label) ≡ label ++ (0 ∷ [])
 unfolding label_bytes
-bytes_one label u v = append-nil (label ++ (0 ∷ []))
+bytes_one label q = append-nil (label ++ (0 ∷ []))
 
 bytes-none : label_bytes [] ≡ []
 unfolding label_bytes
 bytes-none = refl
 
-pub counted-one : (u v len : ℕ) (at : Filled) → len ≤ 16
-    → Counted (Pick.Pair u v) len at (record { pairs = at.pairs + 1; bytes = at.bytes + (len + 1) })
-counted-one u v len at h =
+pub counted-one : (q : Vertices) (len : ℕ) (at : Filled) → len ≤ 16
+    → Counted (Some q) len at (record { pairs = at.pairs + 1; bytes = at.bytes + (len + 1) })
+counted-one q len at h =
     record {
       pairs = λ label. refl;
-      bytes = λ label e. omega (arith, ap length (bytes_one label u v), length-append label (0 ∷ []));
+      bytes = λ label e. omega (arith, ap length (bytes_one label q), length-append label (0 ∷ []));
       pairs-most = omega arith;
       bytes_most = omega arith;
     }
 
-pub counted_none : (len : ℕ) (at : Filled) → Counted Pick.Omitted len at at
+pub counted_none : (len : ℕ) (at : Filled) → Counted None len at at
 counted_none len at =
     record {
       pairs = λ label. omega arith;
@@ -109,22 +106,7 @@ pub record Putting (bytes : List ℕ) (at j : ℕ) (labels labels' : List ℕ) :
   pub length-kept : length labels' ≡ length labels
   pub then : (front labels₀ : List ℕ) → at ≡ length front → labels ≡ over front labels₀ → labels' ≡ over (front ++ take j bytes) labels₀
 
-pub put-none : (bytes labels : List ℕ) (at : ℕ) → Putting bytes at 0 labels labels
-put-none bytes labels at = record { length-kept = refl; then = λ front labels₀ e h. rw append-nil h }
-
 module _ (bytes : List ℕ) (at j : ℕ) {labels labels' : List ℕ} (P : Putting bytes at j labels labels') (b : at + j < length labels) where
-  pub put-more : j < length bytes → Putting bytes at (j + 1) labels (set labels' (at + j) (get_or bytes j 0))
-  put-more l =
-      record {
-        length-kept = length-set labels' (at + j) (get_or bytes j 0) ∙ P.length-kept;
-        then = λ front labels₀ e h.
-            let t = length-take j bytes in
-            let more = store (front ++ take j bytes) labels' labels₀ (at + j) (get_or bytes j 0) (P.then front labels₀ e h)
-            (omega (arith, length-append front (take j bytes))) (omega (arith, P.length-kept)) in
-            let s : take (j + 1) bytes ≡ take j bytes ++ (get_or bytes j 0 ∷ []) = rw (add-one, take-suc bytes j 0) in
-            rw (s, ← (append_assoc front (take j bytes) (get_or bytes j 0 ∷ []))) more;
-      }
-
   pub put-end : j ≤ length bytes → Put (take j bytes ++ (0 ∷ [])) at (at + (j + 1)) labels (set labels' (at + j) 0)
   put-end l =
       let t = length-take j bytes in
@@ -142,29 +124,29 @@ column : (f : Pair → ℕ) (ps : List Pair) (p : Pair) (l l₀ : List ℕ) (k :
     → set l k (f p) ≡ over (map f (ps ++ (p ∷ []))) l₀
 column f ps p l l₀ k h e b = rw (map-append f ps (p ∷ [])) (store (map f ps) l l₀ k (f p) h (e ∙ sym (length-map ps f)) b)
 
-pub placed_pair : (u v : ℕ) (label : List ℕ) (at : Filled) (us vs labels labels' : List ℕ) (end : ℕ)
-    → PairRoom (shown (Pick.Pair u v) label) at us vs labels → Put (label ++ (0 ∷ [])) at.bytes end labels labels'
-    → PairPlaced (shown (Pick.Pair u v) label) at (record { pairs = at.pairs + 1; bytes = end }) us (set us at.pairs u) vs
-    (set vs at.pairs v) labels labels'
-placed_pair u v label at us vs labels labels' end r q =
-    let p : Pair = record { label = label; u = u; v = v } in
+pub placed_pair : (q : Vertices) (label : List ℕ) (at : Filled) (us vs labels labels' : List ℕ) (end : ℕ)
+    → PairRoom (shown (Some q) label) at us vs labels → Put (label ++ (0 ∷ [])) at.bytes end labels labels'
+    → PairPlaced (shown (Some q) label) at (record { pairs = at.pairs + 1; bytes = end }) us (set us at.pairs q.u) vs
+    (set vs at.pairs q.v) labels labels'
+placed_pair q label at us vs labels labels' end r put =
+    let p : Pair = record { label = label; u = q.u; v = q.v } in
     let k = at.pairs in
     let hu : k < length us = omega (arith, r.firsts) in
     let hv : k < length vs = omega (arith, r.seconds) in
     record {
-      us-length = length-set us k u;
-      vs-length = length-set vs k v;
-      labels_length = q.length-kept;
+      us-length = length-set us k q.u;
+      vs-length = length-set vs k q.v;
+      labels_length = put.length-kept;
       ends = λ ps e.
           record {
             pairs = omega (arith, e.pairs, length-append ps (p ∷ []));
-            bytes = q.number ∙ omega (arith, e.bytes, ap length (bytes_append ps (p ∷ [])), length-append (label_bytes ps) (label_bytes (p ∷ [])), ap length (bytes_one label u v));
+            bytes = put.number ∙ omega (arith, e.bytes, ap length (bytes_append ps (p ∷ [])), length-append (label_bytes ps) (label_bytes (p ∷ [])), ap length (bytes_one label q));
           };
       then = λ ps us₀ vs₀ labels₀ e w.
           record {
             firsts = column (λ z. z.u) ps p us us₀ k w.firsts e.pairs hu;
             seconds = column (λ z. z.v) ps p vs vs₀ k w.seconds e.pairs hv;
-            bytes = rw (bytes_append ps (p ∷ []), bytes_one label u v) (q.then (label_bytes ps) labels₀ e.bytes w.bytes);
+            bytes = rw (bytes_append ps (p ∷ []), bytes_one label q) (put.then (label_bytes ps) labels₀ e.bytes w.bytes);
           };
     }
 
@@ -196,22 +178,20 @@ module _ (w l : ℕ) where
   )
 
   -- a candidate was counted under its label
-  pub count-ends : (i : ℕ) {at next : Filled} {p : Pick} {name : Label} → Ends (pairs_below w l i) at → Counted p name.len at next
-      → shown p (candidate_at w l i).label ≡ pair_at w l i → take name.len name.bytes ≡ (candidate_at w l i).label → LabelFits name
+  pub count-ends : (i : ℕ) {at next : Filled} {p : Option Vertices} {name : List ℕ} → Ends (pairs_below w l i) at → Counted p (length name) at next
+      → shown p (candidate_at w l i).label ≡ pair_at w l i → name ≡ (candidate_at w l i).label
       → Ends (pairs_below w l (i + 1)) next
-  count-ends i {p = p} {name = name} e c q t f =
+  count-ends i {p = p} e c q t =
       let label = (candidate_at w l i).label in
       let n = counts i in
-      let held = f.held in
-      let h : length label ≡ name.len = sym (ap length t) ∙ length-take name.len name.bytes ∙ omega arith in
-      let b = c.bytes label h in
+      let b = c.bytes label (sym (ap length t)) in
       let bl : length (label_bytes (shown p label)) ≡ length (label_bytes (pair_at w l i)) = rw q in
       let pl : length (shown p label) ≡ length (pair_at w l i) = rw q in
       record { pairs = omega (arith, c.pairs label, e.pairs); bytes = omega (arith, e.bytes) }
 
   -- and placed under it
-  pub shown-at : (i : ℕ) (p : Pick) (name : Label) → shown p (candidate_at w l i).label ≡ pair_at w l i
-      → take name.len name.bytes ≡ (candidate_at w l i).label → shown p (take name.len name.bytes) ≡ pair_at w l i
+  pub shown-at : (i : ℕ) (p : Option Vertices) (name : List ℕ) → shown p (candidate_at w l i).label ≡ pair_at w l i
+      → name ≡ (candidate_at w l i).label → shown p name ≡ pair_at w l i
   shown-at i p name q t = rw t q
 
   grow : (i d : ℕ) → (length (pairs_below w l i) ≤ length (pairs_below w l (i + d))) × (length (label_bytes (pairs_below w l i)) ≤ length (label_bytes (pairs_below w l (i + d))))
@@ -258,8 +238,6 @@ unfolding pairs_below label_bytes
 no_pairs_written w l us vs labels = record { firsts = refl; seconds = refl; bytes = refl }
 
 -- the labels' buffer has room for a label and its zero byte
-pub label-room : (u v : ℕ) {us vs labels : List ℕ} (name : Label) (at : Filled) → LabelFits name
-    → PairRoom (shown (Pick.Pair u v) (take name.len name.bytes)) at us vs labels → at.bytes + (name.len + 1) ≤ length labels
-label-room u v name at f r =
-    let label = take name.len name.bytes in
-    omega (arith, r.bytes, f.held, ap length (bytes_one label u v), length-append label (0 ∷ []), length-take name.len name.bytes)
+pub label-room : (q : Vertices) {us vs labels : List ℕ} (name : List ℕ) (at : Filled)
+    → PairRoom (shown (Some q) name) at us vs labels → at.bytes + (length name + 1) ≤ length labels
+label-room q name at r = omega (arith, r.bytes, ap length (bytes_one name q), length-append name (0 ∷ []))

@@ -1,18 +1,17 @@
 -- The pair set on its way into three buffers.
-use Rattle.std.specs.Prelude.{◌≡◌, List, [], ◌∷◌, ◌++◌, ℕ, ◌+◌, ◌≤◌, length}
+use Rattle.std.specs.Prelude.{◌≡◌, Option, Some, None, List, [], ◌∷◌, ◌++◌, ℕ, ◌+◌, ◌≤◌, length}
 use Rattle.list_laws.specs.Front.{over}
 use Rattle.strip_pairs.specs.PairSet.{Pair, firsts, seconds, label_bytes}
-use Rattle.strip_pairs.specs.declared.standard.Pick.{Pick}
-use Rattle.strip_pairs.specs.declared.standard.Pick.TheVariants as Pick
+use Rattle.strip_pairs.specs.declared.standard.Vertices.{Vertices}
 use Rattle.strip_pairs.specs.declared.standard.Filled.{Filled}
 
 -- the pair that was picked, under its label
-abbrev pub shown : Pick → List ℕ → List Pair
-shown (Pick.Pair u v) label = record { label = label; u = u; v = v } ∷ []
-shown Pick.Omitted label = []
+abbrev pub shown : Option Vertices → List ℕ → List Pair
+shown (Some p) label = record { label = label; u = p.u; v = p.v } ∷ []
+shown None label = []
 
 -- a pair under a label of len bytes was counted, or none
-pub record Counted (p : Pick) (len : ℕ) (at next : Filled) : Type 0 where
+pub record Counted (p : Option Vertices) (len : ℕ) (at next : Filled) : Type 0 where
   pub pairs : (label : List ℕ) → next.pairs ≡ at.pairs + length (shown p label)
   pub bytes : (label : List ℕ) → length label ≡ len → next.bytes ≡ at.bytes + length (label_bytes (shown p label))
   pub pairs-most : next.pairs ≤ at.pairs + 1

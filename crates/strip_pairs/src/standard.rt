@@ -1,22 +1,22 @@
 // The standard pair set of a strip, for callers.
 ghost use Rattle.std.specs.Prelude.{◌≡◌, ◌||◌, [], ◌∷◌, ◌++◌, ◌+◌, ◌≤◌, ◌<◌, ltb, length, take};
 ghost use Rattle.list_laws.specs.Front.{over};
-ghost use Rattle.refusals.specs.Answers.{answered, left};
+ghost use Rattle.refusals.specs.Answers.{Answered, left};
 ghost use Rattle.strip.specs.Sides.{Sides};
 ghost use Rattle.strip_candidates.specs.Candidates.{candidate_at};
-ghost use Rattle.strip_labels.specs.Labels.{LabelFits};
 ghost use Rattle.strip_pairs.specs.PairSet.{pair_at, pairs_below, pair_set, firsts, seconds, label_bytes, pairs_refusal};
 ghost use Rattle.strip_pairs.specs.PairListing.{shown, Counted, Put, PairRoom, PairsWritten, PairPlaced};
 
-use refusals::Answer;
+use refusals::Refusal;
 use strip::{Strip, bad_sides};
 use strip_candidates::sites_of;
-use strip_labels::{Label, label_of};
+use strip_labels::label_of;
 
-#[derive(Drop)]
-pub(crate) enum Pick {
-    Pair(usize, usize),
-    Omitted,
+// The two vertices of a pair.
+#[derive(Clone, Copy)]
+pub(crate) struct Vertices {
+    pub u: usize,
+    pub v: usize,
 }
 
 // How many pairs there are, and how many bytes their labels take.
@@ -27,7 +27,7 @@ pub(crate) struct Filled {
 }
 
 // Candidate i, where the strip takes it.
-fn picked(w: usize, l: usize, i: usize) -> Pick
+fn picked(w: usize, l: usize, i: usize) -> Option<Vertices>
     requires { Sides w l × (i < 18) }
     ensures { shown result (candidate_at w l i).label ≡ pair_at w l i }
 {
@@ -35,21 +35,23 @@ fn picked(w: usize, l: usize, i: usize) -> Pick
     let inside = (c.x1 < l) & (c.x2 < l) & (c.y1 < w) & (c.y2 < w);
     let same = (c.x1 == c.x2) & (c.y1 == c.y2);
     if c.wanted & (inside & !same) {
-        return Pick::Pair(c.x1 * w + c.y1, c.x2 * w + c.y2);
+        let u = c.x1 * w + c.y1;
+        let v = c.x2 * w + c.y2;
+        return Some(Vertices { u, v });
     }
-    Pick::Omitted
+    None
 }
 
-fn counted(at: Filled, p: Pick, len: usize) -> Filled
+fn counted(at: Filled, p: Option<Vertices>, len: usize) -> Filled
     requires { (at.pairs ≤ 18) × (at.bytes ≤ 306) × (len ≤ 16) }
     ensures { Counted p len at result }
 {
     match p {
-        Pick::Pair(_, _) => Filled {
+        Some(_) => Filled {
             pairs: at.pairs + 1,
             bytes: at.bytes + (len + 1),
         },
-        Pick::Omitted => at,
+        None => at,
     }
 }
 
@@ -58,55 +60,48 @@ fn count_pairs(w: usize, l: usize) -> Filled
     ensures { (result.pairs ≡ length (pairs_below w l 18)) × (result.bytes ≡ length (label_bytes (pairs_below w l 18))) }
 {
     let mut at = Filled { pairs: 0, bytes: 0 };
-    let mut i: usize = 0;
-    while i < 18 {
+    for i in 0..18 {
         let name = label_of(i);
-        let next = counted(at, picked(w, l, i), name.len);
+        let next = counted(at, picked(w, l, i), name.len());
         at = next;
-        i += 1;
     }
     at
 }
 
 // Writes a label and its zero byte, and answers where they end.
-fn put_label(name: Label, labels: &mut [u8], at: usize) -> usize
-    requires { LabelFits name × (at + (name.len + 1) ≤ length labels.old) }
-    ensures { Put (take name.len name.bytes ++ (0 ∷ [])) at result labels.old labels.new }
+fn put_label(name: &[u8], labels: &mut [u8], at: usize) -> usize
+    requires { at + (length name.now + 1) ≤ length labels.old }
+    ensures { Put (name.now ++ (0 ∷ [])) at result labels.old labels.new }
 {
-    let len = name.len;
-    let bytes = name.bytes;
-    let mut j: usize = 0;
-    while j < len {
-        labels[at + j] = bytes[j];
-        j += 1;
-    }
+    let len = name.len();
+    labels[at..at + len].copy_from_slice(name);
     labels[at + len] = 0;
     at + (len + 1)
 }
 
 fn place_pair(
-    p: Pick,
-    name: Label,
+    p: Option<Vertices>,
+    name: &[u8],
     at: Filled,
     us: &mut [usize],
     vs: &mut [usize],
     labels: &mut [u8],
 ) -> Filled
-    requires { LabelFits name × PairRoom (shown p (take name.len name.bytes)) at us.old vs.old labels.old }
-    ensures { PairPlaced (shown p (take name.len name.bytes)) at result us.old us.new vs.old vs.new labels.old labels.new }
+    requires { PairRoom (shown p name.now) at us.old vs.old labels.old }
+    ensures { PairPlaced (shown p name.now) at result us.old us.new vs.old vs.new labels.old labels.new }
 {
     let k = at.pairs;
     match p {
-        Pick::Pair(u, v) => {
-            us[k] = u;
-            vs[k] = v;
+        Some(pair) => {
+            us[k] = pair.u;
+            vs[k] = pair.v;
             let end = put_label(name, labels, at.bytes);
             Filled {
                 pairs: k + 1,
                 bytes: end,
             }
         }
-        Pick::Omitted => at,
+        None => at,
     }
 }
 
@@ -115,11 +110,9 @@ fn write_pairs(w: usize, l: usize, us: &mut [usize], vs: &mut [usize], labels: &
     ensures { PairsWritten (pairs_below w l 18) us.old us.new vs.old vs.new labels.old labels.new }
 {
     let mut at = Filled { pairs: 0, bytes: 0 };
-    let mut i: usize = 0;
-    while i < 18 {
+    for i in 0..18 {
         let next = place_pair(picked(w, l, i), label_of(i), at, us, vs, labels);
         at = next;
-        i += 1;
     }
 }
 
@@ -130,8 +123,13 @@ fn pairs_too_short(need: Filled, us: usize, vs: usize, labels: usize) -> bool
 }
 
 // Returns the number of pairs, and writes their ends and labels. A honeycomb cylinder of odd width is answered too.
-pub fn pairs(s: Strip, us: &mut [usize], vs: &mut [usize], labels: &mut [u8]) -> Answer
-    ensures value { result ≡ answered (pairs_refusal s us.old vs.old labels.old) (length (pair_set s)) }
+pub fn pairs(
+    s: Strip,
+    us: &mut [usize],
+    vs: &mut [usize],
+    labels: &mut [u8],
+) -> Result<usize, Refusal>
+    ensures value { Answered (pairs_refusal s us.old vs.old labels.old) (length (pair_set s)) result }
     ensures us_after { us.new ≡ left (pairs_refusal s us.old vs.old labels.old) (over (firsts (pair_set s)) us.old) us.old }
     ensures vs_after { vs.new ≡ left (pairs_refusal s us.old vs.old labels.old) (over (seconds (pair_set s)) vs.old) vs.old }
     ensures labels_after { labels.new ≡ left (pairs_refusal s us.old vs.old labels.old) (over (label_bytes (pair_set s)) labels.old) labels.old }
@@ -139,12 +137,12 @@ pub fn pairs(s: Strip, us: &mut [usize], vs: &mut [usize], labels: &mut [u8]) ->
     let w = s.w;
     let l = s.l;
     if bad_sides(w, l) {
-        return Answer::Refused(15);
+        return Err(Refusal::StripSides);
     }
     let need = count_pairs(w, l);
     if pairs_too_short(need, us.len(), vs.len(), labels.len()) {
-        return Answer::Refused(12);
+        return Err(Refusal::Buffer);
     }
     write_pairs(w, l, us, vs, labels);
-    Answer::Number(need.pairs)
+    Ok(need.pairs)
 }

@@ -24,10 +24,10 @@ module _ (s : Strip) where
       unfolding reach
       reach-along v = rw (lt-ltb 1 s.l h, rw p at q, rw u at v)
 
-  pub reach_round : {t : Bool} → t ≡ is_honey s.kind → s.l ≤ 1 → (not t && s.periodic && ltb 2 s.w) ≡ true → s.w - 1 ≡ reach s
+  pub reach_round : {t : Bool} → t ≡ not (is_honey s.kind) → s.l ≤ 1 → (t && s.periodic && ltb 2 s.w) ≡ true → s.w - 1 ≡ reach s
   unfolding reach
   reach_round p h q = rw (le-ltb 1 s.l h, ← p, q)
 
-  pub reach-short : {t : Bool} → t ≡ is_honey s.kind → s.l ≤ 1 → (not t && s.periodic && ltb 2 s.w) ≡ false → 1 ≡ reach s
+  pub reach-short : {t : Bool} → t ≡ not (is_honey s.kind) → s.l ≤ 1 → (t && s.periodic && ltb 2 s.w) ≡ false → 1 ≡ reach s
   unfolding reach
   reach-short p h q = rw (le-ltb 1 s.l h, ← p, q)

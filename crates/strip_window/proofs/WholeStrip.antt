@@ -24,7 +24,8 @@ use Rattle.strip.specs.Kinds.{is_eight}
 use Rattle.strip.specs.Requests.{odd_cylinder}
 use Rattle.strip.specs.Sides.{Sides}
 use Rattle.strip.specs.declared.strip.Strip.{Strip}
-use Rattle.strip_bonds.specs.Edges.{Edge, one, edges, early_ends, late_ends, unit_magnitudes}
+use Rattle.strip_bonds.specs.declared.Edge.{Edge}
+use Rattle.strip_bonds.specs.Edges.{one, edges, early_ends, late_ends, unit_magnitudes}
 use Rattle.strip_window.specs.Window.{window_of}
 use Rattle.strip_window.proofs.WindowLaw.{window-is}
 use Rattle.strip_window.proofs.Laws.Reach.{reach_round, reach-double}

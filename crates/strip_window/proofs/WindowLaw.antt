@@ -13,7 +13,8 @@ use Rattle.list_laws.specs.Most.{most}
 use Rattle.list_laws.proofs.Laws.Most.{most-above, most-least}
 use Rattle.strip.specs.Kinds.{is_honey, is_eight}
 use Rattle.strip.specs.Vertices.{vertex}
-use Rattle.strip_bonds.specs.Edges.{Edge, edge, given, brick, rises, falls, has_next, across, wrap, along, rising, falling, edges_below, edges, early_ends, late_ends}
+use Rattle.strip_bonds.specs.declared.Edge.{Edge}
+use Rattle.strip_bonds.specs.Edges.{edge, given, brick, rises, falls, has_next, across, wrap, along, rising, falling, edges_below, edges, early_ends, late_ends}
 use Rattle.strip_window.specs.Window.{window_of}
 use Rattle.strip.specs.Requests.{odd_cylinder}
 use Rattle.strip.specs.Sides.{Sides}

@@ -2,15 +2,15 @@
 #![tactic(auto)]
 
 ghost use Rattle.std.specs.Prelude.{◌≡◌, false};
-ghost use Rattle.refusals.specs.Answers.{answered};
+ghost use Rattle.refusals.specs.Answers.{Answered};
 ghost use Rattle.refusals.specs.StripRequest.{strip_refusal, of_strip};
 ghost use Rattle.strip_window.specs.Window.{window_of};
 ghost use Rattle.strip.specs.Requests.{strip_request};
 ghost use Rattle.strip.specs.Sides.{Sides};
 ghost use Rattle.strip_window.specs.Reach.{reach};
 
-use refusals::Answer;
-use strip::{Strip, bad_sides, is_eight, is_honey, odd_cylinder};
+use refusals::Refusal;
+use strip::{Kind, Strip, bad_sides, odd_cylinder};
 use strip_bonds::rises;
 
 fn reach(s: Strip) -> usize
@@ -20,7 +20,7 @@ fn reach(s: Strip) -> usize
     let w = s.w;
     let kind = s.kind;
     if 1 < s.l {
-        if is_eight(kind) & s.periodic & (2 < w) {
+        if (kind == Kind::Eight) & s.periodic & (2 < w) {
             return 2 * w - 1;
         }
         if rises(s) & (1 < w) {
@@ -28,21 +28,21 @@ fn reach(s: Strip) -> usize
         }
         return w;
     }
-    if !is_honey(kind) & s.periodic & (2 < w) {
+    if (kind != Kind::Honey) & s.periodic & (2 < w) {
         return w - 1;
     }
     1
 }
 
 // The largest of 1 and the longest edge. No edge is looked at: the longest is known from the kind and the sides.
-pub fn window(s: Strip) -> Answer
-    ensures { result ≡ answered (strip_refusal of_strip (strip_request s false)) (window_of s) }
+pub fn window(s: Strip) -> Result<usize, Refusal>
+    ensures { Answered (strip_refusal of_strip (strip_request s false)) (window_of s) result }
 {
     if bad_sides(s.w, s.l) {
-        return Answer::Refused(15);
+        return Err(Refusal::StripSides);
     }
     if odd_cylinder(s) {
-        return Answer::Refused(16);
+        return Err(Refusal::OddCylinder);
     }
-    Answer::Number(reach(s))
+    Ok(reach(s))
 }

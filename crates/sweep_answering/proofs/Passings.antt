@@ -1,27 +1,24 @@
 -- What is known while the sweep goes from vertex to vertex that pairs ask for.
-use mathlib.Core.Path.{◌≡◌, refl, sym, ap, ◌∙◌, subst}
+use mathlib.Core.Path.{◌≡◌, refl, sym, ◌∙◌}
 use mathlib.Core.Bool.{Bool, true, false, ◌&&◌, true≢false}
 use mathlib.Core.List.{List}
-use mathlib.Core.Logic.{◌⊎◌, inl, inr, dite}
+use mathlib.Core.Logic.{inl, inr, dite}
 use Prim.Native.Nat.{ℕ, ◌+◌, ◌-◌, ◌≤◌, ◌<◌}
 use native.Mathlib.Decide.{dec_lt}
 use native.Mathlib.Omega.{arith}
 use lib.ListN.{length, get_or, drop}
 use lib.Ieee.{Float}
 use Rattle.transfer_matrix.specs.Job.{Job}
-use Rattle.transfer_matrix.specs.Room.{earlier, later}
-use Rattle.transfer_matrix.specs.Rounded.{ieee}
-use Rattle.transfer_matrix.specs.Sweep as S
-use Rattle.plan_steps.specs.Layout.{forward_place, backward_place}
+use Rattle.transfer_matrix.specs.Room.{later}
+use Rattle.plan_steps.specs.Layout.{forward_place}
 use Rattle.vertex_step.proofs.Laws.Same.{symmetric_as}
-use Rattle.vertex_step.specs.Ready.{Ready, PlanOf, Forward, Backward}
-use Rattle.sweep_places.specs.Begun.{Stands, Stayed, Nearer, GoneOn}
+use Rattle.vertex_step.specs.Ready.{PlanOf, Forward}
+use Rattle.sweep_places.specs.Begun.{Stands, GoneOn}
 use Rattle.sweep_places.specs.BackwardInvariant.{NewestBackward, BackwardInvariant}
 use Rattle.sweep_places.proofs.Frames.{place_of, since-forward}
 use Rattle.sweep_backward.proofs.BackwardIteration.{backward-is, gone_on, invariant_then}
 use Rattle.pair_correlations.specs.declared.direct.VertexPlaces.{VertexPlaces}
 use Rattle.pair_correlations.specs.Aim.{VertexHalves}
-use Rattle.pair_correlations.specs.Two.{Answered}
 use Rattle.pair_correlations.specs.Direct.{DirectAsked, AnsweredAt}
 use Rattle.sweep_answering.specs.Passing.{Passing, VertexPairs, AnsweredFrom}
 

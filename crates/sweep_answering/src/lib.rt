@@ -16,18 +16,6 @@ use pair_places::later;
 use plan_steps::forward_place;
 use sweep_backward::{begin_from, go_on_from, kept_from, sweep_down};
 
-fn larger(a: usize, b: usize) -> usize
-    ensures { result ≡ max a b }
-{
-    if a < b { b } else { a }
-}
-
-fn smaller(a: usize, b: usize) -> usize
-    ensures { (result ≤ a) × (result ≤ b) }
-{
-    if a < b { a } else { b }
-}
-
 // The later vertex of the last of the first `left` pairs; 0 where there is none.
 fn last_vertex(us: &[usize], vs: &[usize], order: &[usize], left: usize) -> usize
     requires { (length us.now ≡ length vs.now) × Ordered order.now (length us.now) × (left ≤ length order.now) }
@@ -45,14 +33,12 @@ fn first_of(us: &[usize], vs: &[usize], order: &[usize], left: usize, v: usize) 
     requires { (length us.now ≡ length vs.now) × Ordered order.now (length us.now) × (left ≤ length order.now) }
     ensures { VertexPairs us.now vs.now order.now left v result }
 {
-    let mut k = left;
-    while k > 0 {
-        if last_vertex(us, vs, order, k) != v {
-            return k;
+    for k in (0..left).rev() {
+        if last_vertex(us, vs, order, k + 1) != v {
+            return k + 1;
         }
-        k -= 1;
     }
-    k
+    0
 }
 
 // Sweeps back from the last vertex, down to the first of the backward vectors that the plan has a place for, and keeps these. The first `passing`
@@ -89,7 +75,7 @@ pub fn sweep_answering(
     let mut down2 = [0.0f64; 16];
     let mut left = passing;
     let mut sound = true;
-    let first = larger(changed, last_vertex(us, vs, order, left));
+    let first = changed.max(last_vertex(us, vs, order, left));
     let mut at = begin_from(room, plan, n, w, scales, elementwise, first);
     while left > 0 {
         let v = last_vertex(us, vs, order, left);
@@ -117,10 +103,10 @@ pub fn sweep_answering(
         };
         sound = answer_direct(room, w, us, vs, order, places, from, left, results) & sound;
         left = from;
-        let next = larger(changed, last_vertex(us, vs, order, left));
+        let next = changed.max(last_vertex(us, vs, order, left));
         at = go_on_from(room, plan, n, w, scales, elementwise, next, newest);
     }
-    let stop = smaller(at.vertex, kept_from(plan, n, 0));
+    let stop = at.vertex.min(kept_from(plan, n, 0));
     sweep_down(
         room,
         plan,

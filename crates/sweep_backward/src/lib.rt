@@ -45,12 +45,10 @@ pub fn kept_from(plan: &[usize], n: usize, c: usize) -> usize
     ensures { KeptFrom plan.now n c result }
 {
     let last = n - 1;
-    let mut t = c;
-    while t < last {
+    for t in c..last {
         if backward_place(plan, t) > 0 {
             return t;
         }
-        t += 1;
     }
     last
 }

@@ -9,8 +9,9 @@ use Rattle.refusals.specs.Request.{Source, house, enumerated, sampled, sweep_req
 use Rattle.refusals.specs.Refusal.{refusal, of_enumeration, of_sampling, sourced}
 use Rattle.house_factors.specs.Factors.{paired_factors}
 use Rattle.refusals.specs.AcceptedTotals.{misfits}
-use Rattle.refusals.specs.Answers.{answered}
-use Rattle.refusals.specs.declared.Answer.{Answer}
+use Rattle.std.specs.declared.result.Result.{Result}
+use Rattle.refusals.specs.declared.Refusal.{Refusal}
+use Rattle.refusals.specs.Answers.{Answered}
 use Rattle.plan_layout.specs.declared.Arrangement.{Arrangement}
 use Rattle.plan_layout.specs.Arrangements.{arrangement_of}
 use Rattle.entry_correlations.specs.Correlations.{manner_of, settled, cleared}
@@ -20,16 +21,16 @@ use Rattle.totals_call.specs.Jobs.{unsound_enumeration, unsound_sampling, enumer
 
 -- The answer r of a call for totals, by its refusal's number (0 for accepted) and the count; both lists of totals and the work memory
 -- after it.
-pub record Totalled (refused count : ℕ) (squared fourthed : List Float) (end : ℕ) (r : Answer)
+pub record Totalled (refused count : ℕ) (squared fourthed : List Float) (end : ℕ) (r : Result ℕ Refusal)
     (squares squares' fourths fourths' work work' : List Float) : Type 0 where
-  pub answer : r ≡ answered refused count
+  pub answer : Answered refused count r
   pub squares_are : squares' ≡ settled refused squared squares
   pub fourths_are : fourths' ≡ settled refused fourthed fourths
   pub memory : work' ≡ cleared refused end work
 
 -- The same of a call that stores each correlation.
-pub record Stored (refused count : ℕ) (correlations : List Float) (end : ℕ) (r : Answer) (stored stored' work work' : List Float) : Type 0 where
-  pub answer : r ≡ answered refused count
+pub record Stored (refused count : ℕ) (correlations : List Float) (end : ℕ) (r : Result ℕ Refusal) (stored stored' work work' : List Float) : Type 0 where
+  pub answer : Answered refused count r
   pub stored_are : stored' ≡ settled refused correlations stored
   pub memory : work' ≡ cleared refused end work
 
@@ -85,7 +86,7 @@ module _ (g : Given) where
 -- ---- of the entries
 
 module _ (n floor : ℕ) (a b : List ℕ) (m : List Float) (us vs : List ℕ) (betas factors : List Float) (manner : Manner) (arrangement : Arrangement) (caller : Caller) where
-  abbrev given : Given
+  abbrev pub given : Given
   given = record { n = n; floor = floor; a = a; b = b; m = m; us = us; vs = vs; betas = betas; factors = factors; manner = manner; arrangement = arrangement; caller = caller }
 
   -- The refusal of `exhaustive`, whose lists of totals have so many numbers,
@@ -101,15 +102,15 @@ module _ (n floor : ℕ) (a b : List ℕ) (m : List Float) (us vs : List ℕ) (b
   refused_sampling seed from to samples squares fourths = refused_drawn given seed from to samples (misfits (sums given) squares fourths)
 
   -- What each answers and leaves.
-  pub record Enumerated (r : Answer) (squares squares' fourths fourths' work work' : List Float) : Type 0 where
+  pub record Enumerated (r : Result ℕ Refusal) (squares squares' fourths fourths' work work' : List Float) : Type 0 where
     pub call : Totalled (refused_enumeration (length squares) (length fourths) (length work)) (enumerated_count (free given))
         (totals_of_all given (square ieee)) (totals_of_all given (fourth ieee)) (end given) r squares squares' fourths fourths' work work'
 
-  pub record EnumeratedEach (r : Answer) (stored stored' work work' : List Float) : Type 0 where
+  pub record EnumeratedEach (r : Result ℕ Refusal) (stored stored' work work' : List Float) : Type 0 where
     pub call : Stored (refused_storing (length stored) (length work)) (enumerated_count (free given)) (correlations_of_all given) (end given) r
         stored stored' work work'
 
-  pub record Sampled (seed from to samples : ℕ) (r : Answer) (squares squares' fourths fourths' work work' : List Float) : Type 0 where
+  pub record Sampled (seed from to samples : ℕ) (r : Result ℕ Refusal) (squares squares' fourths fourths' work work' : List Float) : Type 0 where
     pub call : Totalled (refused_sampling seed from to samples (length squares) (length fourths) (length work)) (sampled_count from to samples)
         (totals_of_drawn given seed from to samples (square ieee)) (totals_of_drawn given seed from to samples (fourth ieee)) (end given) r
         squares squares' fourths fourths' work work'
@@ -153,15 +154,15 @@ module _ (n floor : ℕ) (a b : List ℕ) (m : List Float) (us vs : List ℕ) (b
       refused_drawn_by house_given house house_couplings coupling_count seed from to samples (misfits (sums house_given) squares fourths)
 
   -- What each answers and leaves.
-  pub record HouseEnumerated (r : Answer) (squares squares' fourths fourths' work work' : List Float) : Type 0 where
+  pub record HouseEnumerated (r : Result ℕ Refusal) (squares squares' fourths fourths' work work' : List Float) : Type 0 where
     pub call : Totalled (refused_house_enumeration (length squares) (length fourths) (length work)) (enumerated_count (free house_given))
         (totals_of_all house_given (square ieee)) (totals_of_all house_given (fourth ieee)) (end house_given) r squares squares' fourths fourths' work work'
 
-  pub record HouseEnumeratedEach (r : Answer) (stored stored' work work' : List Float) : Type 0 where
+  pub record HouseEnumeratedEach (r : Result ℕ Refusal) (stored stored' work work' : List Float) : Type 0 where
     pub call : Stored (refused_house_storing (length stored) (length work)) (enumerated_count (free house_given)) (correlations_of_all house_given) (end house_given) r
         stored stored' work work'
 
-  pub record HouseSampled (seed from to samples : ℕ) (r : Answer) (squares squares' fourths fourths' work work' : List Float) : Type 0 where
+  pub record HouseSampled (seed from to samples : ℕ) (r : Result ℕ Refusal) (squares squares' fourths fourths' work work' : List Float) : Type 0 where
     pub call : Totalled (refused_house_sampling seed from to samples (length squares) (length fourths) (length work)) (sampled_count from to samples)
         (totals_of_drawn house_given seed from to samples (square ieee)) (totals_of_drawn house_given seed from to samples (fourth ieee)) (end house_given) r
         squares squares' fourths fourths' work work'

@@ -137,8 +137,7 @@ pub fn chunked_totals(
     if nothing(chunks.first, chunks.end, chunks.size, sums) {
         return true;
     }
-    let mut i = chunks.first;
-    while i < chunks.end {
+    for i in chunks.first..chunks.end {
         if !sum_chunk(
             room, plan, shape, us, vs, order, factors, bits, signs, chunks, i, c, subsquares,
             subfourths,
@@ -147,7 +146,6 @@ pub fn chunked_totals(
         }
         add_sums(squares, subsquares);
         add_sums(fourths, subfourths);
-        i += 1;
     }
     true
 }

@@ -108,15 +108,13 @@ pub fn add_configuration(
         × (result ≡ true → AddedPowers (correlation_at J us.now vs.now) (shape.betas * length us.now)
         squares.old squares.new fourths.old fourths.new) }
 {
-    let mut b = 0usize;
-    while b < shape.betas {
+    for b in 0..shape.betas {
         if !answer_signed(
             room, plan, shape, us, vs, order, factors, b, signs, shape.n, c,
         ) {
             return false;
         }
         add_powers(squares, fourths, b * us.len(), c);
-        b += 1;
     }
     true
 }

@@ -45,8 +45,7 @@ fn enumerated_run(
     let sums = squares.len();
     fill(squares, 0, sums, 0.0);
     fill(fourths, 0, sums, 0.0);
-    let mut j = 0usize;
-    while j < size {
+    for j in 0..size {
         let last = enumerated_signs(signs, bits, first + j);
         let changed = standing_from(plan, shape.n, bits, last, j);
         if !add_beta(
@@ -54,7 +53,6 @@ fn enumerated_run(
         ) {
             return false;
         }
-        j += 1;
     }
     true
 }
@@ -84,8 +82,7 @@ pub fn enumerated_chunk(
         → RunSummed J us.now vs.now shape.betas size result squares.new fourths.new }
 {
     let pairs = us.len();
-    let mut b = 0usize;
-    while b < shape.betas {
+    for b in 0..shape.betas {
         let at = b * pairs;
         let end = at + pairs;
         if !enumerated_run(
@@ -107,7 +104,6 @@ pub fn enumerated_chunk(
         ) {
             return false;
         }
-        b += 1;
     }
     true
 }

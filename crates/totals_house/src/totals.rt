@@ -51,8 +51,7 @@ fn total_betas(
 {
     let entries = table();
     let pairs = us.len();
-    let mut b = 0usize;
-    while b < betas.len() {
+    for b in 0..betas.len() {
         lay_beta(&entries, betas[b], mag, factors);
         let at = b * pairs;
         let end = at + pairs;
@@ -75,7 +74,6 @@ fn total_betas(
         ) {
             return false;
         }
-        b += 1;
     }
     true
 }

@@ -20,13 +20,11 @@ pub fn lay_beta(table: &[f64; 1025], beta: f64, mag: &[f64], factors: &mut [f64]
         × ((e : ℕ) → e < length mag.now → off_grid (mul binary64 beta (get_or mag.now e nan)) ≡ false) }
     ensures { factors.new ≡ paired_factors (couplings_of beta mag.now) }
 {
-    let mut e = 0usize;
-    while e < mag.len() {
-        let x = beta * mag[e];
+    for (e, m) in mag.iter().enumerate() {
+        let x = beta * *m;
         let plus = factor(table, x, false);
         let minus = factor(table, x, true);
         factors[2 * e] = plus;
         factors[2 * e + 1] = minus;
-        e += 1;
     }
 }

@@ -53,8 +53,7 @@ fn store_betas(
 {
     let entries = table();
     let row = us.len() * pow2(free);
-    let mut b = 0usize;
-    while b < betas.len() {
+    for b in 0..betas.len() {
         lay_beta(&entries, betas[b], mag, factors);
         let at = b * row;
         let end = at + row;
@@ -74,7 +73,6 @@ fn store_betas(
         ) {
             return false;
         }
-        b += 1;
     }
     true
 }

@@ -6,9 +6,5 @@ ghost use Rattle.totals_record.specs.Written.{zero_bytes};
 pub fn clear_bytes(bytes: &mut [u8])
     ensures { bytes.new ≡ zero_bytes (length bytes.old) }
 {
-    let mut i = 0usize;
-    while i < bytes.len() {
-        bytes[i] = 0;
-        i += 1;
-    }
+    bytes.fill(0);
 }

@@ -38,8 +38,7 @@ pub fn write_chunks(
         return true;
     }
     let chunks = head.end - head.start;
-    let mut c: u64 = 0;
-    while c < chunks {
+    for c in 0..chunks {
         let first = head.start + c;
         let end = first + 1;
         let chunk = Chunks {
@@ -70,7 +69,6 @@ pub fn write_chunks(
             return false;
         }
         put_chunk(bytes, head, c, squares, fourths);
-        c += 1;
     }
     true
 }

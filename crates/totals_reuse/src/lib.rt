@@ -39,12 +39,10 @@ fn step_may_change(plan: &[usize], t: usize, bits: &[usize], last: usize) -> boo
         return true;
     }
     let near = near_count(plan, t);
-    let mut i = 0usize;
-    while i < near {
+    for i in 0..near {
         if may_change(bits, near_edge(plan, t, i), last) {
             return true;
         }
-        i += 1;
     }
     false
 }
@@ -54,12 +52,10 @@ fn changed_vertex(plan: &[usize], n: usize, bits: &[usize], last: usize) -> usiz
     requires { (1 ≤ n) × EdgesIn plan.now (length bits.now) n }
     ensures { SettledAbove plan.now bits.now last n result }
 {
-    let mut t = n - 1;
-    while t > 0 {
+    for t in (1..n).rev() {
         if step_may_change(plan, t, bits, last) {
             return t;
         }
-        t -= 1;
     }
     0
 }

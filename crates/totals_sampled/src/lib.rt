@@ -41,15 +41,13 @@ pub fn sampled_chunk(
     fill(squares, 0, sums, 0.0);
     fill(fourths, 0, sums, 0.0);
     let mut rng = Rng::stream(seed, chunk);
-    let mut j = 0usize;
-    while j < samples {
+    for j in 0..samples {
         rng = sampled_signs(signs, rng);
         if !add_configuration(
             room, plan, shape, us, vs, order, factors, signs, c, squares, fourths,
         ) {
             return false;
         }
-        j += 1;
     }
     true
 }

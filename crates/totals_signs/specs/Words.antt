@@ -1,5 +1,5 @@
 -- The current word on the way through a sample.
-use Rattle.std.specs.Prelude.{◌≡◌, List, ℕ, ◌+◌, ◌-◌, ◌/◌, ◌<◌}
+use Rattle.std.specs.Prelude.{◌≡◌, List, ℕ, ◌-◌, ◌/◌, ◌<◌}
 use Rattle.rng.specs.Xoshiro.{output}
 use Rattle.rng.specs.declared.Drawn.{Drawn}
 use Rattle.transfer_matrix.specs.Configuration.{drawn, words_per_sample}

@@ -24,11 +24,9 @@ pub fn sampled_signs(signs: &mut [bool], rng: Rng) -> Rng
         × (result.s ≡ drawn rng.s (words_per_sample (length signs.old))) }
 {
     let mut at = Drawn { rng, word: 0 };
-    let mut e = 0usize;
-    while e < signs.len() {
+    for (e, sign) in signs.iter_mut().enumerate() {
         at = word_at(at, e);
-        signs[e] = (at.word >> (e % 64)) % 2 == 1;
-        e += 1;
+        *sign = (at.word >> (e % 64)) % 2 == 1;
     }
     at.rng
 }

@@ -20,9 +20,7 @@ pub fn lay_signed(room: &mut [f64], at: usize, factors: &[f64], b: usize, signs:
         (factors_in_use factors.now (length signs.now) b signs.now) }
 {
     let first = b * signs.len();
-    let mut e = 0usize;
-    while e < signs.len() {
-        room[at + e] = factors[factor_at(first + e, signs[e])];
-        e += 1;
+    for (e, minus) in signs.iter().enumerate() {
+        room[at + e] = factors[factor_at(first + e, *minus)];
     }
 }

@@ -41,12 +41,10 @@ pub fn enumerated_signs(signs: &mut [bool], bits: &[usize], x: usize) -> usize
     ensures by_index { (e : ℕ) → result < e → e < length bits.now → get_or signs.new e false ≡ get_or signs.old e false }
 {
     let mut last = 0usize;
-    let mut e = 0usize;
-    while e < bits.len() {
-        let minus = is_minus(bits[e], x);
+    for (e, bit) in bits.iter().enumerate() {
+        let minus = is_minus(*bit, x);
         last = last_changed(signs[e], minus, e, last);
         signs[e] = minus;
-        e += 1;
     }
     last
 }

@@ -15,10 +15,8 @@ fn store_results(stored: &mut [f64], all: usize, x: usize, first: usize, c: &[f6
     ensures { (value : ℕ → ℕ → Float) (n : ℕ) → ((p : ℕ) → p < length c.now → get_or c.now p nan ≡ value x (first + p))
         → Stored value all n x first stored.old → Stored value all n x (first + length c.now) stored.new }
 {
-    let mut p = 0usize;
-    while p < c.len() {
+    for p in 0..c.len() {
         stored[(first + p) * all + x] = c[p];
-        p += 1;
     }
 }
 
@@ -47,15 +45,13 @@ pub(crate) fn store_configuration(
         → Stored value all (shape.betas * length us.now) x 0 stored.old
         → Stored value all (shape.betas * length us.now) x (shape.betas * length us.now) stored.new) }
 {
-    let mut b = 0usize;
-    while b < shape.betas {
+    for b in 0..shape.betas {
         if !answer_signed(
             room, plan, shape, us, vs, order, factors, b, signs, shape.n, c,
         ) {
             return false;
         }
         store_results(stored, all, x, b * us.len(), c);
-        b += 1;
     }
     true
 }

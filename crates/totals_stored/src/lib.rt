@@ -46,15 +46,13 @@ pub fn stored_correlations(
         return true;
     }
     let all = pow2(free);
-    let mut x = 0usize;
-    while x < all {
+    for x in 0..all {
         enumerated_signs(signs, bits, x);
         if !store_configuration(
             room, plan, shape, us, vs, order, factors, signs, x, all, c, stored,
         ) {
             return false;
         }
-        x += 1;
     }
     true
 }

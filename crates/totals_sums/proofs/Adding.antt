@@ -6,11 +6,11 @@ use Prim.Native.Nat.{ℕ, ◌+◌, ◌<◌}
 use native.Mathlib.Numerals.{add-one}
 use native.Mathlib.Omega.{arith}
 use lib.Ieee.{Float, nan, binary64, add}
-use lib.ListN.{length, get_or, drop, set, drop_of_length-le}
+use lib.ListN.{length, get_or, set, drop_of_length-le}
 use Rattle.list_laws.specs.Front.{over}
 use Rattle.list_laws.proofs.Laws.Front.{over-more, over-behind}
 use Rattle.list_laws.specs.Part.{put}
-use Rattle.list_laws.proofs.Laws.Part.{put_out, fill_none, fill_one, fill_length}
+use Rattle.list_laws.proofs.Laws.Part.{put_out, fill_one}
 use Rattle.list_laws.specs.Tabulate.{tabulate}
 use Rattle.list_laws.proofs.Laws.Tabulate.{tabulate_suc, tabulate-length}
 

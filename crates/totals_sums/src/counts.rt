@@ -10,7 +10,7 @@ const CHUNK: usize = 1024;
 pub fn chunk_size(all: usize) -> usize
     ensures { result ≡ min 1024 all }
 {
-    if CHUNK < all { CHUNK } else { all }
+    CHUNK.min(all)
 }
 
 // How many configurations there are: chunks times samples per chunk, 0 where there is no chunk.

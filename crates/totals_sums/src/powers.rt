@@ -11,12 +11,10 @@ pub fn add_powers(squares: &mut [f64], fourths: &mut [f64], at: usize, c: &[f64]
     ensures squares_after { squares.new ≡ added_at squares.old at (length c.now) (λ p. square ieee (get_or c.now p nan)) }
     ensures fourths_after { fourths.new ≡ added_at fourths.old at (length c.now) (λ p. fourth ieee (get_or c.now p nan)) }
 {
-    let mut p = 0usize;
-    while p < c.len() {
-        let x = c[p] * c[p];
+    for (p, value) in c.iter().enumerate() {
+        let x = *value * *value;
         squares[at + p] = squares[at + p] + x;
         fourths[at + p] = fourths[at + p] + x * x;
-        p += 1;
     }
 }
 
@@ -25,9 +23,7 @@ pub fn add_sums(totals: &mut [f64], sums: &[f64])
     requires { length totals.old ≡ length sums.now }
     ensures { totals.new ≡ added_to totals.old (length totals.old) (λ k. get_or sums.now k nan) }
 {
-    let mut k = 0usize;
-    while k < sums.len() {
-        totals[k] = totals[k] + sums[k];
-        k += 1;
+    for (k, sum) in sums.iter().enumerate() {
+        totals[k] += *sum;
     }
 }

@@ -8,10 +8,8 @@ ghost use Rattle.union_find.specs.Forest.{Forest, Fresh, Found, Merged, MergedLo
 pub fn start(p: &mut [usize])
     ensures { Fresh p.new }
 {
-    let mut i: usize = 0;
-    while i < p.len() {
-        p[i] = i;
-        i += 1;
+    for (i, x) in p.iter_mut().enumerate() {
+        *x = i;
     }
 }
 

@@ -26,12 +26,10 @@ fn near_edges(
     ensures by_index_2 { (i : ℕ) → i < near_count plan.now t → get_or bits.new i 0 ≡ near_bit plan.now t i }
 {
     let count = near_count(plan, t);
-    let mut i = 0usize;
-    while i < count {
+    for i in 0..count {
         let e = near_edge(plan, t, i);
         x[i] = room[factors + e];
         bits[i] = near_bit(plan, t, i);
-        i += 1;
     }
 }
 

@@ -1,31 +1,22 @@
 -- The checks of the graph and the betas, of the results, and the couplings.
-use Rattle.couplings.proofs.Calls.{refused, few-couplings, misfitting, fitting, done}
+use Rattle.std.proofs.lemmas.Result.{err_from_is_err_and}
+use Rattle.couplings.proofs.Calls.{refused-graph, few-couplings, misfitting, fitting, done}
 use native.Mathlib.Omega.{arith}
 use Rattle.couplings.proofs.couplings.Goals as goal
 
-pub returns-then-refusal-ne0 : goal.returns-then-refusal-ne0
-returns-then-refusal-ne0 c =
-    let graph = c in
-    refused graph.args.results.now graph.check_graph-graph.ensures c.if-refusal-ne0.true
+pub returns-in_err-edges : goal.returns-in_err-edges
+returns-in_err-edges c =
+    let p = err_from_is_err_and c.from_residual.result c.from_residual.ensures.1 in
+    rw (p.1, p.2) (refused-graph c.args.results.now c.in_err-edges.ensures)
 
 pub overflow_mul-betas : goal.overflow_mul-betas
-overflow_mul-betas c =
-    let graph = c in
-    omega (arith, few-couplings graph.args.results.now graph.check_graph-graph.ensures c.if-refusal-ne0.false)
+overflow_mul-betas c = omega (arith, few-couplings c.args.results.now c.in_ok-edges.ensures)
 
 pub returns-then-results-betas : goal.returns-then-results-betas
-returns-then-results-betas c =
-    let graph = c in
-    misfitting graph.args.results.now graph.check_graph-graph.ensures c.if-refusal-ne0.false (λ e. omega arith)
+returns-then-results-betas c = misfitting c.args.results.now c.in_ok-edges.ensures (λ e. omega arith)
 
 pub couple-requires : goal.couple-requires
-couple-requires c =
-    let fits = c in
-    let graph = fits in
-    fitting graph.args.results.now graph.check_graph-graph.ensures fits.if-refusal-ne0.false fits.if-results-betas.false
+couple-requires c = fitting c.args.results.now c.in_ok-edges.ensures c.if-results-betas.false
 
 pub returns : goal.returns
-returns c =
-    let fits = c in
-    let graph = fits in
-    done graph.args.results.now graph.check_graph-graph.ensures fits.if-refusal-ne0.false fits.if-results-betas.false _ c.couple.ensures
+returns c = done c.args.results.now c.in_ok-edges.ensures c.if-results-betas.false _ c.couple.ensures

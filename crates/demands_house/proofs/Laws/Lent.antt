@@ -12,15 +12,18 @@ use Rattle.transfer_matrix.specs.Configuration.{lent_at}
 use Rattle.coupling_grid.specs.Grid.{off_grid, some_off_grid}
 use Rattle.coupling_grid.proofs.Theorems.{place-only}
 use Rattle.house_table.specs.House.{house}
-use Rattle.refusals.specs.Answers.{answered}
-use Rattle.refusals.specs.declared.Answer.{Answer}
-use Rattle.refusals.specs.declared.Answer.TheVariants.{Number, Refused}
+use Rattle.std.specs.declared.result.Result.{Result}
+use Rattle.refusals.specs.declared.Refusal.{Refusal}
+use Rattle.std.specs.declared.result.Result.TheVariants.{Ok, Err}
+use Rattle.refusals.specs.declared.Refusal.TheVariants.{Couplings}
 use Rattle.refusals.specs.Couplings.{all_couplings}
 use Rattle.refusals.specs.Edges.{kept, kept_magnitudes}
 use Rattle.refusals.specs.Key.{Key}
 use Rattle.refusals.specs.Request.{Request, bad_factor_list, bad_coupling_list, signed_factors}
 use Rattle.refusals.specs.Refusal.{checks, refusal}
 use Rattle.refusals.proofs.Laws.Couplings.{coupling-inside, all-length, all-at, products-on}
+use Rattle.refusals.proofs.Laws.Answers.{number-not_zero, answered-only}
+use Rattle.refusals.specs.Numbers.{refused}
 use Rattle.refusals.proofs.Laws.Later.{answerable, is_among}
 use Rattle.house_factors.specs.Factors.{factor_of, single_factors, paired_factors}
 use Rattle.house_factors.specs.Theorems.{signed, coupling-factors}
@@ -103,23 +106,19 @@ never j concerned r none e =
 
 -- ---- what a call answers and leaves, by another refusal that is the same unless it is 23
 
-module _ {k j count : ℕ} {squared fourthed : List Float} {end : ℕ} {r : Answer} {squares squares' fourths fourths' work work' : List Float} where
-  pub totalled_by : ((k ≡ 23 → ⊥) → k ≡ j) → Totalled k count squared fourthed end r squares squares' fourths fourths' work work' → (r ≡ Refused 23 → ⊥)
+module _ {k j count : ℕ} {squared fourthed : List Float} {end : ℕ} {r : Result ℕ Refusal} {squares squares' fourths fourths' work work' : List Float} where
+  pub totalled_by : ((k ≡ 23 → ⊥) → k ≡ j) → Totalled k count squared fourthed end r squares squares' fourths fourths' work work' → (r ≡ Err Couplings → ⊥)
       → Totalled j count squared fourthed end r squares squares' fourths fourths' work work'
   totalled_by same t h =
       subst (λ (i : ℕ). Totalled i count squared fourthed end r squares squares' fourths fourths' work work')
-      (same (λ p. h (t.answer ∙ ap (λ (i : ℕ). answered i count) p))) t
+      (same (λ p. h (answered-only k count r (Err Couplings) t.answer (sym p, tt)))) t
 
-module _ {k j count : ℕ} {correlations : List Float} {end : ℕ} {r : Answer} {stored stored' work work' : List Float} where
-  pub stored_by : ((k ≡ 23 → ⊥) → k ≡ j) → Stored k count correlations end r stored stored' work work' → (r ≡ Refused 23 → ⊥)
+module _ {k j count : ℕ} {correlations : List Float} {end : ℕ} {r : Result ℕ Refusal} {stored stored' work work' : List Float} where
+  pub stored_by : ((k ≡ 23 → ⊥) → k ≡ j) → Stored k count correlations end r stored stored' work work' → (r ≡ Err Couplings → ⊥)
       → Stored j count correlations end r stored stored' work work'
   stored_by same t h =
-      subst (λ (i : ℕ). Stored i count correlations end r stored stored' work work') (same (λ p. h (t.answer ∙ ap (λ (i : ℕ). answered i count) p))) t
+      subst (λ (i : ℕ). Stored i count correlations end r stored stored' work work') (same (λ p. h (answered-only k count r (Err Couplings) t.answer (sym p, tt)))) t
 
 -- an accepted call is not refused
-pub number_not : {c k : ℕ} → Number c ≡ Refused k → ⊥
-number_not e = let z : ◌≡◌ {A = ℕ} 0 1 = ap kind e in omega arith
-  where
-    kind : Answer → ℕ
-    kind (Number j) = 0
-    kind (Refused j) = 1
+pub number_not : {c : ℕ} {e : Refusal} → ◌≡◌ {A = Result ℕ Refusal} (Ok c) (Err e) → ⊥
+number_not {c} {e} p = number-not_zero e (sym (ap (λ (x : Result ℕ Refusal). refused x) p))

@@ -1,8 +1,7 @@
 -- +0.0 and a double that carries no minus are that double; and such a double is not -0.0 by its bits.
-use Rattle.std.specs.Prelude.{◌≡◌, Bool, true, false, not, ◌&&◌, ℕ, zero, suc, ◌+◌, ◌-◌, ◌*◌, ◌%◌, ◌^◌, ◌≤◌, ◌<◌, ℤ, pos, negsuc, T, leb, ltb, eqb, Float}
+use Rattle.std.specs.Prelude.{◌≡◌, true, false, ◌&&◌, ℕ, zero, suc, ◌+◌, ◌-◌, ◌*◌, ◌%◌, ◌^◌, ◌≤◌, ◌<◌, ℤ, pos, negsuc, T, leb, ltb, eqb, Float}
 use Rattle.std.proofs.Math.Path.{refl}
-use Rattle.std.proofs.Common.{sym, ap, ◌∙◌, subst, not-le_of_lt, lt_of_not-le, le_of_suc-le-suc, one-mul, zero-mul, mul-pos, mul-lt-mul_of_pos_right, lt_of_mul-lt-mul_right, arith, leb→le, ltb→lt, pow-add, pow_pos, ne_eqb}
-use Rattle.std.proofs.Math.Decide.{ℕ_discrete}
+use Rattle.std.proofs.Common.{sym, ap, ◌∙◌, subst, not-le_of_lt, lt_of_not-le, le_of_suc-le-suc, one-mul, mul-pos, mul-lt-mul_of_pos_right, lt_of_mul-lt-mul_right, arith, leb→le, ltb→lt, pow-add, pow_pos, ne_eqb}
 use Rattle.std.proofs.Math.Pow.{pow-lt}
 use Rattle.std.specs.Float.{nan, inf, fin, Format, binary64}
 use Rattle.std.specs.Float.Ieee.{prec, emax, low, up, down, round, add, fits, of_bits, to_bits}
@@ -10,7 +9,7 @@ use Rattle.std.specs.Float.Ieee.Bits.{of_bits-to_bits}
 use Rattle.std.specs.Float.Ieee.Fits.{and_l, and_r, down_pos, up_pos, round-fits}
 use Rattle.std.specs.Float.Ieee.Exact.{HasValue, round_exact}
 use Rattle.std.specs.Float.Ieee.Back.{whole_unique}
-use Rattle.std.specs.Float.Ieee.Positive.{num, den, positive, positive_of_value, value→cross}
+use Rattle.std.specs.Float.Ieee.Positive.{positive_of_value, value→cross}
 use Rattle.nearest.proofs.Laws.Values.{same-value}
 use Rattle.rounding.specs.Under.{nought}
 use Rattle.rounding.specs.Laws.Sign.{not_minus}

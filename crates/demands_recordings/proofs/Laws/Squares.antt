@@ -1,8 +1,7 @@
 -- Sums of squares, or of fourth powers, from +0.0 carry no minus.
-use Rattle.std.specs.Prelude.{◌≡◌, refl, T, Float}
-use Rattle.std.proofs.Common.{sym, ap, ◌∙◌, subst, add-zero, arith}
-use Rattle.std.proofs.Math.Path.{fun_ext}
-use Prim.Native.Nat.{ℕ, zero, suc, ◌+◌, ◌-◌, ◌<◌}
+use Rattle.std.specs.Prelude.{◌≡◌, T, Float}
+use Rattle.std.proofs.Common.{ap, ◌∙◌, add-zero, arith}
+use Prim.Native.Nat.{ℕ, zero, suc, ◌+◌, ◌-◌}
 use Rattle.std.specs.Float.Ieee.{binary64, mul, fits}
 use Rattle.std.specs.Float.Ieee.Fits.{add-fits}
 use Rattle.rounding.proofs.Laws.Sign.{add_not_minus, square-not_minus}

@@ -6,6 +6,3 @@ use Rattle.distance.proofs.sweep_down.Given as goal
 
 abbrev pub invariant-loop-i : goal.invariant-loop-i
 invariant-loop-i l = EdgesRelaxed l.early l.late l.i (length l.early) l.initial.d l.more l.d × (l.i ≤ length l.early)
-
-abbrev pub decreases-loop-i : goal.decreases-loop-i
-decreases-loop-i l = l.i

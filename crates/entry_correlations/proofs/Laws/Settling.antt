@@ -1,5 +1,5 @@
 -- What a refusal leaves, by its number.
-use Rattle.std.specs.Prelude.{◌≡◌, true, false, List, ℕ, zero, suc, Float}
+use Rattle.std.specs.Prelude.{◌≡◌, true, false, List, ℕ, Float}
 use Rattle.std.proofs.Common.{sym, ap, ◌∙◌, arith, ne_eqb}
 use Rattle.refusals.specs.Key.{Key}
 use Rattle.refusals.specs.Refusal.{checks}

@@ -1,17 +1,16 @@
 -- The tests that the code makes of factors, in the machine's own terms, and that they are those of the theorem; and the laws of its arithmetic.
-use Rattle.std.specs.Prelude.{◌≡◌, refl, Bool, true, false, cond, not, ◌&&◌, List, ℕ, zero, suc, ◌+◌, ◌*◌, ◌-◌, ◌/◌, ◌^◌, ◌≤◌, ◌<◌, pos, negsuc, T, leb, eqb, length, get_or, Float}
-use Rattle.std.proofs.Common.{sym, ◌∙◌, ap, subst, true≢false, mul_assoc, mul-pos, le_of_lt, le_trans, le_of_eq, mul-le-mul, mul-one, one-mul, div-mul-le_self, mul-le-mul_right, arith, lit<, lit≤, le→leb, pow-add, pow_mono, pow_pos}
+use Rattle.std.specs.Prelude.{◌≡◌, refl, true, false, cond, not, ◌&&◌, List, ℕ, ◌+◌, ◌*◌, ◌-◌, ◌/◌, ◌^◌, ◌≤◌, ◌<◌, pos, T, leb, eqb, length, get_or, Float}
+use Rattle.std.proofs.Common.{sym, ◌∙◌, ap, subst, true≢false, mul_assoc, mul-pos, le_of_lt, mul-le-mul, mul-one, div-mul-le_self, mul-le-mul_right, arith, lit<, le→leb, pow-add, pow_mono, pow_pos}
 use Rattle.std.proofs.Math.Nat.{min-le_left, min-le_right}
 use Rattle.std.proofs.lemmas.Bool.{not-false, not-true}
 use Rattle.std.proofs.Math.Pow.{pow-lt}
 use Rattle.std.specs.Float.{nan, inf, fin, binary64}
-use Rattle.std.specs.Float.Ieee.{up, down, mul, div, round, of_int, of_bits, in_float, le}
+use Rattle.std.specs.Float.Ieee.{up, down, div, round, of_int, of_bits, le}
 use Rattle.std.specs.Float.Ieee.Exact.{HasValue, round_exact}
 use Rattle.std.specs.Float.Ieee.Scale.{round_same}
 use Rattle.std.specs.Float.Ieee.Back.{round_whole}
 use Rattle.std.specs.Float.Ieee.Fits.{down_pos, and_i, and_l, and_r}
 use Rattle.std.specs.Float.Ieee.Positive.{num, den, positive, own_value, values_of_le, positive_of_value, first_pos}
-use Rattle.list_laws.specs.Search.{some}
 use Rattle.list_laws.proofs.Laws.Search.{none-at}
 use Rattle.accuracy.proofs.Laws.Operations.{dividing}
 use Rattle.accuracy.specs.Stated.{depth, within_powers}

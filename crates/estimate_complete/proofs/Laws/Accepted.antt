@@ -15,8 +15,10 @@ use Rattle.rounding.proofs.Laws.Sign.{square-not_minus}
 use Rattle.rounding.proofs.Laws.Under.{div_under, positive-not_minus}
 use Rattle.rounding.specs.Laws.Under.{Within, Under}
 use Rattle.rounding.proofs.Laws.Whole.{whole-positive}
+use Rattle.std.specs.declared.result.Result.TheVariants.{Ok, Err}
+use Rattle.refusals.specs.declared.Refusal.TheVariants.{Sums}
 use Rattle.estimate.specs.declared.answer.MeanSpread.{MeanSpread}
-use Rattle.estimate.specs.declared.answer.Estimate.TheVariants.{Complete, Refused}
+use Rattle.estimate.specs.declared.answer.Estimate.TheVariants.{Complete}
 use Rattle.estimate.specs.Estimates.{+0·0, number, mean_of, is_in_order}
 use Rattle.estimate_complete.specs.Complete.{is_complete, Power, refuses_complete, spread_of, mean_spread_of, complete_of}
 use Rattle.estimate_complete.proofs.Laws.Counted.{complete_power, few-enough, some-counted}
@@ -24,11 +26,11 @@ use Rattle.estimate_complete.proofs.Laws.Order.{zero_is, ordered-within, ascendi
 use Rattle.estimate_complete.proofs.Laws.Mean.{mean-sign}
 use Rattle.estimate_complete.proofs.Laws.Most.{spread_most}
 
-told : (b : Bool) (r e : MeanSpread) → cond b (Refused 18) (Complete r) ≡ Complete e → (b ≡ false) × (e ≡ r)
+told : (b : Bool) (r e : MeanSpread) → cond b (Err Sums) (Ok (Complete r)) ≡ Ok (Complete e) → (b ≡ false) × (e ≡ r)
 told true r e h = absurd (let z : ◌≡◌ {A = ℕ} 0 1 = cc in omega arith)
 told false r e h = (refl, cc)
 
-module _ (count : ℕ) (squares fourths : Float) (e : MeanSpread) (accepted : complete_of count squares fourths ≡ Complete e) where
+module _ (count : ℕ) (squares fourths : Float) (e : MeanSpread) (accepted : complete_of count squares fourths ≡ Ok (Complete e)) where
   passed : (refuses_complete count squares fourths ≡ false) × (e ≡ mean_spread_of (number count) squares fourths)
   unfolding complete_of
   passed = told (refuses_complete count squares fourths) (mean_spread_of (number count) squares fourths) e accepted

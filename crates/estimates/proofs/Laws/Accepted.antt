@@ -2,11 +2,14 @@
 use Rattle.std.specs.Prelude.{◌≡◌, refl, true, false, not, ◌||◌, List, ℕ, ◌<◌, eqb, Float, length}
 use Rattle.std.proofs.Common.{sym, ap, ◌∙◌, arith, eqb-true}
 use Rattle.std.proofs.Math.Decide.{ℕ_discrete}
+use Rattle.std.specs.declared.result.Result.{Result}
+use Rattle.std.specs.declared.result.Result.TheVariants.{Ok}
 use Rattle.std.specs.Float.{nan}
 use Rattle.std.proofs.lemmas.Bool.{not-false}
 use Rattle.list_laws.specs.Search.{some}
 use Rattle.list_laws.proofs.Laws.Search.{none-at, or-false}
 use Rattle.list_laws.proofs.Laws.Tabulate.{tabulate-at, tabulated}
+use Rattle.refusals.specs.declared.Refusal.{Refusal}
 use Rattle.refusals.proofs.Laws.First.{unless}
 use Rattle.estimate.specs.declared.answer.Estimate.{Estimate}
 use Rattle.estimate.specs.declared.answer.Estimate.TheVariants.{Estimated, TooFew}
@@ -41,10 +44,10 @@ module _ (count : ℕ) (squares fourths : List Float) (means errors : ℕ) (z : 
       (or-false (bad_count count) (some (λ i. not (is_in_order (number count) (at squares i) (at fourths i))) (length squares)) passed.3).1)
 
   estimated : (i : ℕ) → i < length squares → (count ≡ 1 → ⊥)
-      → estimate_at count squares fourths i ≡ Estimated (mean_error_of (number count) (at squares i) (at fourths i))
+      → estimate_at count squares fourths i ≡ Ok (Estimated (mean_error_of (number count) (at squares i) (at fourths i)))
   estimated i h n = sym (enough count (at squares i) (at fourths i) counted (ordered i h) _ refl n)
 
-  alone : (i : ℕ) → i < length squares → count ≡ 1 → estimate_at count squares fourths i ≡ TooFew (mean_of (number count) (at squares i))
+  alone : (i : ℕ) → i < length squares → count ≡ 1 → estimate_at count squares fourths i ≡ Ok (TooFew (mean_of (number count) (at squares i)))
   alone i h e = sym (too_few count (at squares i) (at fourths i) counted (ordered i h) e)
 
   pub means_are : (old : List Float) (i : ℕ) → i < length squares
@@ -52,14 +55,14 @@ module _ (count : ℕ) (squares fourths : List Float) (means errors : ℕ) (z : 
   means_are old i h = tabulate-at _ (length squares) i nan h ∙ go (ℕ_discrete count 1)
     where
       go : Dec (count ≡ 1) → mean_in (estimate_at count squares fourths i) (at old i) ≡ mean_of (number count) (at squares i)
-      go (yes e) = ap (λ (x : Estimate). mean_in x (at old i)) (alone i h e)
-      go (no n) = ap (λ (x : Estimate). mean_in x (at old i)) (estimated i h n)
+      go (yes e) = ap (λ (x : Result Estimate Refusal). mean_in x (at old i)) (alone i h e)
+      go (no n) = ap (λ (x : Result Estimate Refusal). mean_in x (at old i)) (estimated i h n)
 
   pub errors_are : (count ≡ 1 → ⊥) → (old : List Float) (i : ℕ) → i < length squares
       → at (error_column count squares fourths old) i ≡ error_of (number count) (at squares i) (at fourths i)
-  errors_are n old i h = tabulate-at _ (length squares) i nan h ∙ ap (λ (x : Estimate). error_in x (at old i)) (estimated i h n)
+  errors_are n old i h = tabulate-at _ (length squares) i nan h ∙ ap (λ (x : Result Estimate Refusal). error_in x (at old i)) (estimated i h n)
 
   -- one configuration has no error
   pub errors-stay : count ≡ 1 → (old : List Float) → length old ≡ length squares → error_column count squares fourths old ≡ old
   errors-stay e old l =
-      sym (tabulated nan old _ (length squares) l (λ i h. sym (ap (λ (x : Estimate). error_in x (at old i)) (alone i h e))))
+      sym (tabulated nan old _ (length squares) l (λ i h. sym (ap (λ (x : Result Estimate Refusal). error_in x (at old i)) (alone i h e))))

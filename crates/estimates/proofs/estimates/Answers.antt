@@ -1,36 +1,27 @@
 -- A refused call leaves the columns; of another the lists fit, and the columns are filled.
-use mathlib.Core.Path.{sym, ◌∙◌}
+use Rattle.std.proofs.lemmas.Result.{err_from_is_err_and}
+use mathlib.Core.Path.{sym}
 use lib.ListN.{length}
-use borrow.Author.Rules.{rules}
-use Rattle.refusals.proofs.Laws.Answers.{left_alone}
+use Rattle.refusals.proofs.Laws.Answers.{left_alone, number-not_zero}
 use Rattle.estimates.proofs.Laws.Accepted.{fitting}
 use Rattle.estimates.proofs.estimates.Goals as goal
 
-pub refuse-refused-requires : goal.refuse-refused-requires
-refuse-refused-requires c = search rules
-
-pub returns-then-refused-ne0 : goal.returns-then-refused-ne0
-returns-then-refused-ne0 c =
+pub returns-in_err-refuse : goal.returns-in_err-refuse
+returns-in_err-refuse c =
+    let p = err_from_is_err_and c.from_residual.result c.from_residual.ensures.1 in
     let a = c.args in
-    record {
-      answer = c.refuse-refused.ensures;
-      mean-column = left_alone c.refuse-refused.result _ a.means.now c.if-refused-ne0.true;
-      error-column = left_alone c.refuse-refused.result _ a.errors.now c.if-refused-ne0.true;
+    rw (p.1, p.2) record {
+      answer = c.in_err-refuse.ensures;
+      mean-column = left_alone _ _ a.means.now (number-not_zero _);
+      error-column = left_alone _ _ a.errors.now (number-not_zero _);
     }
 
 pub fill_columns-requires : goal.fill_columns-requires
 fill_columns-requires c =
-    let e = c in
-    let a = e.args in
-    fitting a.count a.squares.now a.fourths.now (length a.means.now) (length a.errors.now)
-    (sym e.refuse-refused.ensures ∙ e.if-refused-ne0.false)
+    let a = c.args in
+    fitting a.count a.squares.now a.fourths.now (length a.means.now) (length a.errors.now) (sym c.in_ok-refuse.ensures)
 
 pub returns : goal.returns
 returns c =
-    let f = c in
-    let e = f in
-    record {
-      answer = sym e.if-refused-ne0.false ∙ e.refuse-refused.ensures;
-      mean-column = f.fill_columns.ensures.means_after;
-      error-column = f.fill_columns.ensures.errors_after;
-    }
+    let f = c.fill_columns.ensures in
+    record { answer = c.in_ok-refuse.ensures; mean-column = f.means_after; error-column = f.errors_after }

@@ -4,6 +4,8 @@ use Prim.Native.Nat.{ℕ, ◌≤◌}
 use native.Mathlib.Omega.{arith}
 use lib.Ieee.{Float, nan}
 use lib.ListN.{length, get_or, set}
+use Rattle.std.specs.declared.result.Result.{Result}
+use Rattle.refusals.specs.declared.Refusal.{Refusal}
 use Rattle.list_laws.specs.Tabulate.{tabulate}
 use Rattle.estimate.specs.declared.answer.Estimate.{Estimate}
 use Rattle.estimate.specs.Estimates.{mean_in, error_in}
@@ -34,9 +36,9 @@ loop-i-preserved c =
     let p = c.put_estimate.ensures in (
       omega arith,
       one_more (mean_at a.count a.squares.now a.fourths.now) a.means.now l.i _ _ (omega arith) l.invariant.1
-          (p.means_after ∙ ap (λ (x : Estimate). set l.means l.i (mean_in x (get_or l.means l.i nan))) e),
+          (p.means_after ∙ ap (λ (x : Result Estimate Refusal). set l.means l.i (mean_in x (get_or l.means l.i nan))) e),
       one_more (error_at a.count a.squares.now a.fourths.now) a.errors.now l.i _ _ (omega arith) l.invariant.2
-          (p.errors_after ∙ ap (λ (x : Estimate). set l.errors l.i (error_in x (get_or l.errors l.i nan))) e),
+          (p.errors_after ∙ ap (λ (x : Result Estimate Refusal). set l.errors l.i (error_in x (get_or l.errors l.i nan))) e),
     )
 
 pub shape_of-means : goal.shape_of-means

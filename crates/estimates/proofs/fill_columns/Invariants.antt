@@ -1,7 +1,7 @@
 -- The rows so far are those of the columns.
 use mathlib.Core.Path.{◌≡◌}
 use mathlib.Core.List.{List}
-use Prim.Native.Nat.{ℕ, ◌-◌, ◌≤◌}
+use Prim.Native.Nat.{ℕ, ◌≤◌}
 use lib.Ieee.{Float}
 use lib.ListN.{length}
 use Rattle.estimate.specs.Estimates.{mean_in, error_in}
@@ -18,6 +18,3 @@ error_at count squares fourths i = error_in (estimate_at count squares fourths i
 abbrev pub invariant-loop-i : goal.invariant-loop-i
 invariant-loop-i l =
     (l.i ≤ length l.squares) × (l.means ≡ rows (mean_at l.count l.squares l.fourths) l.initial.means l.i) × (l.errors ≡ rows (error_at l.count l.squares l.fourths) l.initial.errors l.i)
-
-abbrev pub decreases-loop-i : goal.decreases-loop-i
-decreases-loop-i l = length l.squares - l.i

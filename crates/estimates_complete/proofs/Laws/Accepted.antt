@@ -1,6 +1,7 @@
 -- What is known of an accepted call: its lists fit, and each row is what `estimate_complete` answers.
 use Rattle.std.specs.Prelude.{◌≡◌, refl, true, false, not, ◌||◌, List, ℕ, ◌<◌, eqb, Float, length}
 use Rattle.std.proofs.Common.{sym, ap, ◌∙◌, arith, eqb-true, eq-eqb}
+use Rattle.std.specs.declared.result.Result.TheVariants.{Ok}
 use Rattle.std.specs.Float.{nan, binary64}
 use Rattle.std.proofs.lemmas.Bool.{not-false}
 use Rattle.list_laws.specs.Search.{some}
@@ -54,11 +55,11 @@ module _ (count : ℕ) (squares fourths : List Float) (means errors spreads : �
   -- each row is the record that `estimate_complete` answers
   pub rows_are : (i : ℕ) → i < length squares
       → complete_of count (at squares i) (at fourths i)
-      ≡ Complete (record {
+      ≡ Ok (Complete (record {
         mean = at (mean_column (number count) squares) i;
         error = at (error_column squares) i;
         spread = at (spread_column (number count) squares fourths) i;
-      })
+      }))
   rows_are i h =
       rw (
         tabulate-at (λ i. mean_of (number count) (at squares i)) (length squares) i nan h,

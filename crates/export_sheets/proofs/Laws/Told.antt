@@ -1,10 +1,13 @@
 -- What the answers that were told say.
-use Rattle.std.specs.Prelude.{◌≡◌, refl, Bool, true, false, cond, List, ℕ, zero, suc, ◌+◌, ◌≤◌, eqb, Float, length}
+use Rattle.std.specs.Prelude.{◌≡◌, refl, Bool, true, false, cond, List, ℕ, ◌+◌, ◌≤◌, eqb, Float, length}
 use Rattle.std.proofs.Common.{sym, ap, ◌∙◌, arith, eqb-true}
+use Rattle.std.specs.declared.result.Result.{Result}
+use Rattle.std.specs.declared.result.Result.TheVariants.{Ok, Err}
 use Rattle.std.proofs.lemmas.Bool.{eqb-false}
-use Rattle.refusals.specs.Answers.{left}
-use Rattle.refusals.proofs.Laws.Answers.{left_alone}
-use Rattle.refusals.specs.declared.Answer.{Answer}
+use Rattle.refusals.specs.declared.Refusal.{Refusal}
+use Rattle.refusals.specs.Numbers.{number, refused}
+use Rattle.refusals.specs.Answers.{Answered, left}
+use Rattle.refusals.proofs.Laws.Answers.{left_alone, number-not_zero}
 use Rattle.c_answers.specs.Numbers.{Tells}
 use Rattle.c_answers.proofs.Laws.Numbers.{told}
 use Rattle.list_laws.specs.Front.{over}
@@ -16,20 +19,20 @@ use Rattle.job_sheet.specs.Records.{record_length, kind_at, refusal_at, record_o
 use Rattle.job_sheet.proofs.Laws.Records.{accepted, answer_read, answer-refused}
 use Rattle.job_sheet.specs.declared.record.Record.{Record}
 use Rattle.job_sheet.specs.declared.record.Record.TheVariants.{Size, Edge, Beta, Pair, End}
-use Rattle.job_sheet_lists.specs.Lists.{refusal_of, refused_job, numbers_of, ReadJob}
+use Rattle.job_sheet_lists.specs.Lists.{numbers_of, ReadJob}
 use Rattle.job_sheet_lists.specs.declared.answer.SheetJob.{SheetJob}
-use Rattle.export_sheets.specs.Jobs.{TellsJob, Told}
+use Rattle.export_sheets.specs.Jobs.{part_in, TellsJob, Told}
 
 -- ---- a record's end
 
-next-of : (sheet : List ℕ) (place kind : ℕ) → next_of (record_of sheet place kind) place 0 ≡ place + record_length kind
+next-of : (sheet : List ℕ) (place kind : ℕ) → next_of (Ok (record_of sheet place kind)) place 0 ≡ place + record_length kind
 unfolding record_of record_length
 next-of sheet place kind = go (eqb kind 1) (eqb kind 2) (eqb kind 3) (eqb kind 4)
   where
     go : (p q r s : Bool)
-        → next_of (cond p (Size (word_at sheet (place + 1) 2) (word_at sheet (place + 3) 1))
+        → next_of (Ok (cond p (Size (word_at sheet (place + 1) 2) (word_at sheet (place + 3) 1))
         (cond q (Edge (word_at sheet (place + 1) 2) (word_at sheet (place + 3) 2) (word_at sheet (place + 5) 8))
-        (cond r (Beta (word_at sheet (place + 1) 8)) (cond s (Pair (word_at sheet (place + 1) 2) (word_at sheet (place + 3) 2)) End)))) place 0
+        (cond r (Beta (word_at sheet (place + 1) 8)) (cond s (Pair (word_at sheet (place + 1) 2) (word_at sheet (place + 3) 2)) End))))) place 0
         ≡ place + cond p 4 (cond q 13 (cond r 9 (cond s 5 1)))
     go true q r s = refl
     go false true r s = refl
@@ -44,76 +47,45 @@ next-within sheet place last = go (eqb (refusal_at sheet place last) 0) refl
     go : (t : Bool) → eqb (refusal_at sheet place last) 0 ≡ t → next_of (record_at sheet place last) place 0 ≤ length sheet
     go true e =
         let z = eqb-true (refusal_at sheet place last) 0 e in
-        let q = ap (λ (r : Record). next_of r place 0) (answer_read sheet place last z) ∙ next-of sheet place (kind_at sheet place) in
+        let q = ap (λ (r : Result Record ℕ). next_of r place 0) (answer_read sheet place last z) ∙ next-of sheet place (kind_at sheet place) in
         omega (arith, q, (accepted sheet place last z).whole)
     go false e =
-        let q = ap (λ (r : Record). next_of r place 0) (answer-refused sheet place last (refusal_at sheet place last) refl (eqb-false _ _ e)) in
+        let q = ap (λ (r : Result Record ℕ). next_of r place 0) (answer-refused sheet place last (refusal_at sheet place last) refl (eqb-false _ _ e)) in
         omega (arith, q)
 
-pub next_fits : (sheet : List ℕ) (place last : ℕ) (r : Record) → r ≡ record_at sheet place last → next_of r place 0 ≤ length sheet
+pub next_fits : (sheet : List ℕ) (place last : ℕ) (r : Result Record ℕ) → r ≡ record_at sheet place last → next_of r place 0 ≤ length sheet
 next_fits sheet place last r e = rw e (next-within sheet place last)
 
 -- ---- the numbers of a job
 
--- a refused job leaves all
-pub job-refused : (job : SheetJob) (k n floor edges pairs betas : ℕ) → k ≡ job.refusal → (k ≡ 0 → ⊥) → TellsJob job k n n floor floor edges edges pairs pairs betas betas
-job-refused job k n floor edges pairs betas e z =
-    let y : job.refusal ≡ 0 → ⊥ = λ q. z (e ∙ q) in
-    record {
-      number = e;
-      vertices = left_alone job.refusal _ n y;
-      floors = left_alone job.refusal _ floor y;
-      some_edges = left_alone job.refusal _ edges y;
-      some_pairs = left_alone job.refusal _ pairs y;
-      some-betas = left_alone job.refusal _ betas y;
-    }
+-- a part of an answered job, or what was there
+part-is : (answer : Result SheetJob Refusal) (k : ℕ) (x : SheetJob) → Answered k x answer → (part : SheetJob → ℕ) (old : ℕ) → part_in part answer old ≡ left (refused answer) (part x) old
+part-is (Ok job) k x s part old = ap part s.1
+part-is (Err e) k x s part old = left_alone (number e) _ old (number-not_zero e)
 
--- and an accepted one none
-pub job-accepted : (job : SheetJob) (n floor edges pairs betas : ℕ) → job.refusal ≡ 0
-    → TellsJob job 0 n job.n floor job.floor edges job.edges pairs job.pairs betas job.betas
-job-accepted job n floor edges pairs betas z =
-    record { number = sym z; vertices = rw z; floors = rw z; some_edges = rw z; some_pairs = rw z; some-betas = rw z }
-
-module _ {sheet : List ℕ} {job : SheetJob} {a a' b b' m m' x x' us us' vs vs' : List ℕ} (p : ReadJob sheet job a a' b b' m m' x x' us us' vs vs') where
-  refusal_is : job.refusal ≡ refusal_of sheet a b m x us vs
-  refusal_is = ap (λ (j : SheetJob). j.refusal) p.answer ∙ go (refusal_of sheet a b m x us vs)
-    where
-      go : (k : ℕ) → (left k (numbers_of sheet) (refused_job k)).refusal ≡ k
-      go zero = refl
-      go (suc k) = refl
-
-  -- a part of the answer
-  part-is : (f : SheetJob → ℕ) (old : ℕ) → left job.refusal (f job) old ≡ left job.refusal (f (numbers_of sheet)) old
-  part-is f old =
-      ap (λ (k : ℕ). left k (f job) old) refusal_is ∙ ap (λ (j : SheetJob). left (refusal_of sheet a b m x us vs) (f j) old) p.answer
-      ∙ go (refusal_of sheet a b m x us vs) ∙ ap (λ (k : ℕ). left k (f (numbers_of sheet)) old) (sym refusal_is)
-    where
-      go : (k : ℕ) → left k (f (left k (numbers_of sheet) (refused_job k))) old ≡ left k (f (numbers_of sheet)) old
-      go zero = refl
-      go (suc k) = refl
-
-  pub job-told : {r n n' floor floor' edges edges' pairs pairs' betas betas' : ℕ} → TellsJob job r n n' floor floor' edges edges' pairs pairs' betas betas'
+module _ {sheet : List ℕ} {answer : Result SheetJob Refusal} {a a' b b' m m' x x' us us' vs vs' : List ℕ} (p : ReadJob sheet answer a a' b b' m m' x x' us us' vs vs') where
+  pub job-told : {r n n' floor floor' edges edges' pairs pairs' betas betas' : ℕ} → TellsJob answer r n n' floor floor' edges edges' pairs pairs' betas betas'
       → Told sheet r n n' floor floor' a a' b b' m m' us us' vs vs' x x' edges edges' pairs pairs' betas betas'
   job-told {n = n} {floor = floor} {edges = edges} {pairs = pairs} {betas = betas} t =
-      let e = t.number ∙ refusal_is in
+      let e = t.number ∙ p.answer.0 in
       record {
         answer = e;
-        vertices = t.vertices ∙ part-is (λ j. j.n) n ∙ rw t.number;
-        floors = t.floors ∙ part-is (λ j. j.floor) floor ∙ rw t.number;
+        vertices = t.vertices ∙ part-is answer _ (numbers_of sheet) p.answer (λ j. j.n) n ∙ rw t.number;
+        floors = t.floors ∙ part-is answer _ (numbers_of sheet) p.answer (λ j. j.floor) floor ∙ rw t.number;
         ones = p.ones ∙ rw e;
         others = p.others ∙ rw e;
         magnitudes = p.magnitudes ∙ rw e;
         firsts = p.firsts ∙ rw e;
         seconds = p.seconds ∙ rw e;
         values = p.betas ∙ rw e;
-        some_edges = t.some_edges ∙ part-is (λ j. j.edges) edges ∙ rw t.number;
-        some_pairs = t.some_pairs ∙ part-is (λ j. j.pairs) pairs ∙ rw t.number;
-        some-betas = t.some-betas ∙ part-is (λ j. j.betas) betas ∙ rw t.number;
+        some_edges = t.some_edges ∙ part-is answer _ (numbers_of sheet) p.answer (λ j. j.edges) edges ∙ rw t.number;
+        some_pairs = t.some_pairs ∙ part-is answer _ (numbers_of sheet) p.answer (λ j. j.pairs) pairs ∙ rw t.number;
+        some-betas = t.some-betas ∙ part-is answer _ (numbers_of sheet) p.answer (λ j. j.betas) betas ∙ rw t.number;
       }
 
 -- ---- a sheet's length
 
-pub sheet-told : {n floor : ℕ} {a b : List ℕ} {m : List Float} {us vs : List ℕ} {betas : List Float} {answer : Answer} {sheet sheet' : List ℕ} {r old new : ℕ}
+pub sheet-told : {n floor : ℕ} {a b : List ℕ} {m : List Float} {us vs : List ℕ} {betas : List Float} {answer : Result ℕ Refusal} {sheet sheet' : List ℕ} {r old new : ℕ}
     → Wrote n floor a b m us vs betas answer sheet sheet' → Tells answer r old new
     → (r ≡ sheet_refusal n floor a b m us vs betas (length sheet))
     × ((sheet' ≡ left r (over (sheet_of (given n floor a b m us vs betas)) sheet) sheet) × (new ≡ left r (sheet_length (length a) (length betas) (length us)) old))

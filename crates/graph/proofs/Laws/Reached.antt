@@ -1,43 +1,35 @@
 -- Laws of what specs/Reached defines.
-use Rattle.std.specs.Prelude.{◌≡◌, refl, true, false, List, ℕ, zero, suc}
+use Rattle.std.specs.Prelude.{◌≡◌, refl, Option, Some, None, Result, Ok, Err, true, List, ℕ, zero, suc}
 use Rattle.std.proofs.Common.{sym, ap, ◌∙◌, arith}
-use Rattle.graph.specs.declared.graph.Reached.{Reached}
-use Rattle.graph.specs.declared.graph.Reached.TheVariants.{Length, NotJoined, Refused}
-use Rattle.distance.specs.Walks.{Distance}
+use Rattle.refusals.specs.declared.Refusal.{Refusal}
+use Rattle.refusals.specs.Numbers.{number}
+use Rattle.refusals.proofs.Laws.Answers.{number-not_zero, number-only}
 use Rattle.distance.proofs.Laws.Walks.{distance-only}
-use Rattle.distance.specs.declared.Reach.{Reach}
-use Rattle.distance.specs.declared.Reach.TheVariants as Reach
 use Rattle.graph.specs.Reached.{Distanced}
 
 -- ---- one answer is right
 
 module _ {early late : List ℕ} {u v : ℕ} where
   -- accepted, it is no refusal
-  pub distanced_not : (k : ℕ) → Distanced 0 early late u v (Refused k) → ⊥
-  distanced_not k p = p.values refl false 0 0 (p.values refl true 0).0
+  pub distanced_not : (e : Refusal) → Distanced 0 early late u v (Err e) → ⊥
+  distanced_not e p = number-not_zero e p.number
 
   -- refused, it is that refusal
-  pub distanced_refused : (k : ℕ) (r : Reached) → Distanced (suc k) early late u v r → r ≡ Refused (suc k)
-  distanced_refused k (Length j) p = absurd (omega (arith, p.number))
-  distanced_refused k NotJoined p = absurd (omega (arith, p.number))
-  distanced_refused k (Refused j) p = ap Refused p.number
+  pub distanced_refused : (k : ℕ) (r : Result (Option ℕ) Refusal) → Distanced (suc k) early late u v r → (e : Refusal) × (r ≡ Err e) × (number e ≡ suc k)
+  distanced_refused k (Ok x) p = absurd (let z : 0 ≡ suc k = p.number in omega arith)
+  distanced_refused k (Err e) p = (e, refl, p.number)
 
-  pub distanced_only : (refused : ℕ) (r s : Reached) → Distanced refused early late u v r → Distanced refused early late u v s → r ≡ s
-  distanced_only (suc k) r s p q = distanced_refused k r p ∙ sym (distanced_refused k s q)
-  distanced_only zero r s p q = accepted r s p q
+  pub distanced_only : (refused : ℕ) (r s : Result (Option ℕ) Refusal) → Distanced refused early late u v r → Distanced refused early late u v s → r ≡ s
+  distanced_only (suc k) r s p q =
+      let x = distanced_refused k r p in
+      let y = distanced_refused k s q in
+      x.1 ∙ ap Err (number-only x.0 y.0 (x.2 ∙ sym y.2)) ∙ sym y.1
+  distanced_only zero (Err e) s p q = absurd (distanced_not e p)
+  distanced_only zero (Ok x) (Err e) p q = absurd (distanced_not e q)
+  distanced_only zero (Ok x) (Ok y) p q = ap Ok (accepted x y p q)
     where
-      answer : Reach → Reached
-      answer (Reach.Length k) = Length k
-      answer Reach.NotJoined = NotJoined
-
-      only : (a b : Reach) → Distance early late u v a → Distance early late u v b → answer a ≡ answer b
-      only a b d e = ap answer (distance-only early late u v a b d e)
-
-      accepted : (r s : Reached) → Distanced 0 early late u v r → Distanced 0 early late u v s → r ≡ s
-      accepted (Refused k) s p q = absurd (distanced_not k p)
-      accepted (Length j) (Refused k) p q = absurd (distanced_not k q)
-      accepted NotJoined (Refused k) p q = absurd (distanced_not k q)
-      accepted (Length j) (Length k) p q = only (Reach.Length j) (Reach.Length k) (p.values refl true 0) (q.values refl true 0)
-      accepted (Length j) NotJoined p q = only (Reach.Length j) Reach.NotJoined (p.values refl true 0) (q.values refl true 0)
-      accepted NotJoined (Length k) p q = only Reach.NotJoined (Reach.Length k) (p.values refl true 0) (q.values refl true 0)
-      accepted NotJoined NotJoined p q = refl
+      accepted : (x y : Option ℕ) → Distanced 0 early late u v (Ok x) → Distanced 0 early late u v (Ok y) → x ≡ y
+      accepted (Some j) (Some k) p q = distance-only early late u v (Some j) (Some k) (p.values refl true 0) (q.values refl true 0)
+      accepted (Some j) None p q = distance-only early late u v (Some j) None (p.values refl true 0) (q.values refl true 0)
+      accepted None (Some k) p q = distance-only early late u v None (Some k) (p.values refl true 0) (q.values refl true 0)
+      accepted None None p q = refl

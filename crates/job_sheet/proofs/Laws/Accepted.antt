@@ -9,12 +9,11 @@ use native.Mathlib.Omega.{arith}
 use Rattle.std.proofs.Math.Dec.{eqb}
 use borrow.Author.Tests.{eqb-true, eqb-false, ltb-true, ltb-false}
 use Rattle.job_sheet.specs.Records.{record_length, kind_at, refusal_at}
-use Rattle.job_sheet.specs.Counts.{counted, refused, start, behind, read_from, counts_of}
+use Rattle.job_sheet.specs.Counts.{SheetCounts, counted, refused, start, behind, read_from, counts_of}
 use Rattle.job_sheet.specs.Sheets.{edge_place, beta_place, pair_place, end_place, sheet_length, Front, Sheet}
 use Rattle.job_sheet.proofs.Laws.Records.{Behind, follows, stands, accepted, refusal-number, ended, tailed, has_body, length-5}
 use Rattle.job_sheet.proofs.Laws.Counts.{read_refused, read_end, read_more}
 use Rattle.job_sheet.proofs.Laws.Steps.{reading, behind-1, behind-2, behind-3, behind-4}
-use Rattle.job_sheet.specs.declared.counts.Counts.{Counts}
 use Rattle.job_sheet.specs.declared.counts.Reading.{Reading}
 
 module _ (bytes : List ℕ) where
@@ -104,7 +103,7 @@ module _ (bytes : List ℕ) where
     }
 
   -- what the counts of a reading tell
-  pub record Told (c : Counts) : Type 0 where
+  pub record Told (c : SheetCounts) : Type 0 where
     pub number : (c.refusal ≡ 0) ⊎ ((c.refusal ≡ 19) ⊎ (c.refusal ≡ 20))
     pub whole : c.refusal ≡ 0 → Sheet bytes c.edges c.betas c.pairs
     pub tail : c.refusal ≡ 20 → (e : ℕ) × (b : ℕ) × (p : ℕ) × Front bytes e b p × (sheet_length e b p < length bytes)

@@ -6,10 +6,11 @@ use Rattle.std.proofs.Math.Bool.{true, false}
 use Rattle.std.proofs.Math.Logic.{inl, inr}
 use Rattle.std.proofs.Math.Dec.{ltb}
 use Rattle.std.proofs.Math.ListN.{length, get_or-eq_default}
+use Rattle.std.specs.declared.result.Result.TheVariants.{Ok, Err}
 use borrow.Author.Tests.{ne_eqb, lt-ltb, le-ltb, le-leb, lt-leb, eqb-true, eqb-false, ltb-true, ltb-false, leb-true, leb-false}
 use Rattle.little_endian.specs.Words.{word_at}
 use Rattle.job_sheet.specs.Records.{record_length, may_follow, kind_at, bad_record, bad_tail, refusal_at, record_of, record_at}
-use Rattle.job_sheet.specs.declared.record.Record.TheVariants.{Size, Edge, Beta, Pair, End, Refused}
+use Rattle.job_sheet.specs.declared.record.Record.TheVariants.{Size, Edge, Beta, Pair, End}
 
 -- ---- which kind may follow
 
@@ -210,11 +211,11 @@ module _ (sheet : List ℕ) (place kind : ℕ) where
   record_5 p q r s = rw (ne_eqb _ _ p, ne_eqb _ _ q, ne_eqb _ _ r, ne_eqb _ _ s)
 
 -- the answer of a call that is refused, and of one that is not
-pub answer-refused : (sheet : List ℕ) (place last k : ℕ) → k ≡ refusal_at sheet place last → (k ≡ 0 → ⊥) → Refused k ≡ record_at sheet place last
+pub answer-refused : (sheet : List ℕ) (place last k : ℕ) → k ≡ refusal_at sheet place last → (k ≡ 0 → ⊥) → Err k ≡ record_at sheet place last
 unfolding record_at
 answer-refused sheet place last k e z = rw (← e, ne_eqb k 0 z)
 
-pub answer_read : (sheet : List ℕ) (place last : ℕ) → refusal_at sheet place last ≡ 0 → record_at sheet place last ≡ record_of sheet place (kind_at sheet place)
+pub answer_read : (sheet : List ℕ) (place last : ℕ) → refusal_at sheet place last ≡ 0 → record_at sheet place last ≡ Ok (record_of sheet place (kind_at sheet place))
 unfolding record_at
 answer_read sheet place last e = rw e
 

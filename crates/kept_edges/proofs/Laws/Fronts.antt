@@ -1,9 +1,13 @@
 -- The kept edges at the fronts of three lists, as parts of these lists.
 use Rattle.std.specs.Prelude.{◌≡◌, List, map, ℕ, ◌≤◌, ◌<◌, Float, length, get_or, take, drop}
-use Rattle.std.proofs.Common.{sym, ◌∙◌, ap₂, subst₂, arith, length-take, take_at}
+use Rattle.std.specs.declared.result.Result.{Result}
+use Rattle.std.specs.declared.result.Result.TheVariants.{Ok}
+use Rattle.std.proofs.Common.{sym, ◌∙◌, ap, ap₂, subst₂, arith, length-take, take_at}
 use Rattle.std.proofs.lemmas.List.{length-map}
 use Rattle.limits.specs.Limits.{most_edges}
 use Rattle.list_laws.specs.Front.{over}
+use Rattle.refusals.specs.declared.Refusal.{Refusal}
+use Rattle.refusals.specs.Numbers.{refused}
 use Rattle.refusals.specs.Edges.{Kept, kept, kept_early, kept_late, kept_magnitudes}
 use Rattle.refusals.specs.Accepted.{Lengths, Accepted}
 use Rattle.refusals.proofs.Laws.Accepted.{AcceptedRaw, accepted-graph, kept-inside, kept-most}
@@ -66,14 +70,19 @@ kept-edges n a b m ok =
     kept-inside n a b m ok.edges e (omega (arith, p)) in
     record { few = ok.few-vertices; ordered = record { lengths = q ∙ sym p; ends = λ e l. (at e l).0 }; inside = λ e l. (at e l).1 }
 
-module _ {n : ℕ} {a b : List ℕ} {m : List Float} {us vs : List ℕ} {betas : List Float} {r k : ℕ} {early early' late late' : List ℕ}
-    {mag mag' : List Float} (G : CheckedGraph n a b m us vs betas r k early early' late late' mag mag') (z : r ≡ 0) where
+module _ {n : ℕ} {a b : List ℕ} {m : List Float} {us vs : List ℕ} {betas : List Float} {answer : Result ℕ Refusal} {k : ℕ}
+    {early early' late late' : List ℕ} {mag mag' : List Float} (G : CheckedGraph n a b m us vs betas answer early early' late late' mag mag')
+    (z : answer ≡ Ok k) where
+  -- its kept edges were written
+  pub kept-written : Written a b m (length a) k early early' late late' mag mag'
+  kept-written = rw z at G.written
+
   -- with its pairs and betas
   pub is-accepted : Accepted n a b m × AcceptedRaw n a b m us vs betas
-  is-accepted = accepted-graph n 0 a b m us vs betas (sym G.refusal ∙ z)
+  is-accepted = accepted-graph n 0 a b m us vs betas (sym G.refusal ∙ ap refused z)
 
   -- the kept edges at the fronts of the lists
   pub kept_fronts : KeptEdges n (take k early') (take k late')
   kept_fronts =
-      let W = G.written z in
+      let W = kept-written in
       subst₂ (KeptEdges n) (sym (front-early W)) (sym (front-late W)) (kept-edges n a b m is-accepted.0)

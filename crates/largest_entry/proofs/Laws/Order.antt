@@ -1,5 +1,5 @@
 -- The order of the floats from +0.0 up.
-use Rattle.std.specs.Prelude.{◌≡◌, refl, Bool, true, false, not, ◌&&◌, cond, ℕ, zero, suc, ◌+◌, ◌*◌, ◌%◌, ◌/◌, ◌^◌, ◌≤◌, ◌<◌, ℤ, pos, negsuc, T, ltb, eqb, leb, Float}
+use Rattle.std.specs.Prelude.{◌≡◌, refl, Bool, true, false, not, ◌&&◌, ℕ, zero, suc, ◌+◌, ◌*◌, ◌%◌, ◌^◌, ◌≤◌, ◌<◌, ℤ, pos, negsuc, T, ltb, eqb, leb, Float}
 use Rattle.std.proofs.Common.{sym, ap, ◌∙◌, subst, mul-one, one-mul, pow-suc, mul_left_comm, mul_assoc, zero-lt-suc, le_antisymm, mul-pos, zero-mul, arith, eqb→eq, pow_pos, pow-add, ltb-true, ltb-false, le-ltb}
 use Rattle.std.proofs.Math.Nat.{pow-succ', eq_of_mul-eq-mul_right}
 use Rattle.std.specs.Float.{nan, inf, fin, binary64}

@@ -31,11 +31,6 @@ four_at-requires-in-loop-t-3 c =
 pub joined-d-requires : goal.joined-d-requires
 joined-d-requires c = tt
 
-pub overflow_add-t : goal.overflow_add-t
-overflow_add-t c =
-    let in-loop = c in
-    omega (arith, in-loop.loop-t-test.true, in-loop.requires)
-
 pub loop-t-preserved : goal.loop-t-preserved
 loop-t-preserved c =
     let c4 = c in

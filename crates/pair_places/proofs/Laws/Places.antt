@@ -14,7 +14,7 @@ use Rattle.list_laws.specs.Count.{count}
 use Rattle.list_laws.proofs.Laws.Count.{count_hit, count_most}
 use Rattle.list_laws.proofs.Laws.Search.{some_at}
 use Rattle.transfer_matrix.specs.Room.{Arrangement, waits, earlier, later, is_propagated, keeps_forward, keeps_backward}
-use Rattle.plan_steps.specs.Layout.{number, forward_place, backward_place}
+use Rattle.plan_steps.specs.Layout.{forward_place, backward_place}
 use Rattle.pair_places.specs.Places.{Pairs, place_at, moving, backward_from, places_of, Places}
 
 pub pairs_wider : (us vs : List ℕ) (n k : ℕ) → n ≤ k → Pairs us vs n → Pairs us vs k

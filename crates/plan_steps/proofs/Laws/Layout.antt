@@ -3,7 +3,7 @@ use Rattle.std.specs.Prelude.{◌≡◌, List, length}
 use Rattle.std.proofs.Math.Path.{refl, ap}
 use Rattle.std.proofs.Common.{◌∙◌, arith}
 use Prim.Native.Nat.{ℕ, zero, suc, ◌+◌, ◌≤◌, ◌<◌}
-use Rattle.plan_steps.specs.Layout.{numbers, left_edge_at, near_count_at, near_edges_at, near_bits_at, near_count, near_edge, near_bit, named, near_from, step_by, Vertex, SameStep}
+use Rattle.plan_steps.specs.Layout.{left_edge_at, near_count_at, near_edges_at, near_bits_at, near_count, near_edge, near_bit, named, near_from, step_by, Vertex, SameStep}
 
 -- ---- plans that say the same of t's edges: the numbers before the places are equal
 

@@ -6,8 +6,6 @@ use Rattle.refusals.specs.Edges.{dropping}
 use Rattle.refusals.specs.Request.{Request, job_request, bad_vertices, bad_lists}
 use Rattle.refusals.specs.Key.{Key}
 use Rattle.refusals.specs.Refusal.{refusal, of_kept}
-use Rattle.preview.specs.declared.answer.Preview.{Preview}
-use Rattle.preview.specs.declared.answer.Preview.TheVariants.{Refused}
 use Rattle.preview.specs.Previewed.{figures_of, told, cost_of, preview_of}
 
 -- the keys behind 24
@@ -19,27 +17,29 @@ module _ (place : ℕ) (A : Room.Arrangement) (n floor : ℕ) (a b : List ℕ) (
   asked = job_request n floor a b (dropping place m) us vs betas
 
   -- by what 1, 2 and 24 find; the copy's other checks stand behind them
-  abbrev found : (one two none : Bool) → Preview
-  found one two none = told (cond one 1 (cond two 2 (cond none 24 (refusal behind asked)))) (figures_of A n floor a b (dropping place m) us vs)
+  abbrev found : (one two none : Bool) → ℕ
+  found one two none = cond one 1 (cond two 2 (cond none 24 (refusal behind asked)))
 
-  -- the answer is what they find
-  preview_found : found (bad_vertices asked) (bad_lists asked) (leb (length a) place) ≡ preview_of place A n floor a b m us vs betas
+  -- the number is what they find
+  preview_found : found (bad_vertices asked) (bad_lists asked) (leb (length a) place) ≡ (preview_of place A n floor a b m us vs betas).number
   preview_found = refl
 
-  pub no_vertices : bad_vertices asked ≡ true → Refused 1 ≡ preview_of place A n floor a b m us vs betas
+  pub no_vertices : bad_vertices asked ≡ true → 1 ≡ (preview_of place A n floor a b m us vs betas).number
   no_vertices h = ap (λ (x : Bool). found x (bad_lists asked) (leb (length a) place)) (sym h) ∙ preview_found
 
   module _ (h : bad_vertices asked ≡ false) where
-    pub misfit : bad_lists asked ≡ true → Refused 2 ≡ preview_of place A n floor a b m us vs betas
+    pub misfit : bad_lists asked ≡ true → 2 ≡ (preview_of place A n floor a b m us vs betas).number
     misfit e = ap₂ (λ (x y : Bool). found x y (leb (length a) place)) (sym h) (sym e) ∙ preview_found
 
     module _ (e : bad_lists asked ≡ false) where
-      at_place : (t : Bool) → leb (length a) place ≡ t → found false false t ≡ preview_of place A n floor a b m us vs betas
+      at_place : (t : Bool) → leb (length a) place ≡ t → found false false t ≡ (preview_of place A n floor a b m us vs betas).number
       at_place t l = ap (found false false) (sym l) ∙ ap₂ (λ (x y : Bool). found x y (leb (length a) place)) (sym h) (sym e) ∙ preview_found
 
-      pub no_edge : leb (length a) place ≡ true → Refused 24 ≡ preview_of place A n floor a b m us vs betas
+      pub no_edge : leb (length a) place ≡ true → 24 ≡ (preview_of place A n floor a b m us vs betas).number
       no_edge l = at_place true l
 
       -- of the copy 1 and 2 find the same
       pub an_edge : leb (length a) place ≡ false → cost_of A n floor a b (dropping place m) us vs betas ≡ preview_of place A n floor a b m us vs betas
-      an_edge l = ap₂ (λ (x y : Bool). found x y false) h e ∙ at_place false l
+      an_edge l =
+          ap (λ (k : ℕ). told k (figures_of A n floor a b (dropping place m) us vs))
+          (ap₂ (λ (x y : Bool). found x y false) h e ∙ at_place false l)

@@ -1,25 +1,16 @@
 -- What a job comes to, from what its checks and the counts of its kept edges gave.
-use Rattle.std.specs.Prelude.{◌≡◌, refl, List, ℕ, zero, suc, ◌≤◌, Float, length, take}
-use Rattle.std.proofs.Common.{sym, ap, ◌∙◌, arith}
+use Rattle.std.specs.Prelude.{◌≡◌, Ok, List, ℕ, ◌≤◌, Float, length, take}
+use Rattle.std.proofs.Common.{sym, arith}
 use Rattle.limits.specs.declared.Caller.TheVariants.{Desk}
 use Rattle.limits.specs.Limits.{most_edges}
 use Rattle.transfer_matrix.specs.Room as Room
 use Rattle.forest.specs.Paths as Paths
 use Rattle.forest.specs.FreeEdges.{free_count}
 use Rattle.kept_edges.proofs.Laws.Fronts.{front-early, front-late, early-part, of-kept}
+use Rattle.job_checks.specs.declared.job.Job.{Job}
 use Rattle.job_checks.specs.Checked.{ReadyJob, CheckedJob}
 use Rattle.preview.specs.declared.answer.Figures.{Figures}
-use Rattle.preview.specs.declared.answer.Preview.TheVariants.{Costs, Refused}
-use Rattle.preview.specs.Previewed.{told, cost_of}
-
--- refused, or not
-pub refused-told : (q k : ℕ) (f : Figures) → q ≡ k → (q ≡ 0 → ⊥) → Refused q ≡ told k f
-refused-told zero k f e n = absurd (n refl)
-refused-told (suc q) k f e n = ap (λ (x : ℕ). told x f) e
-
-costs_told : (q k : ℕ) (f g : Figures) → q ≡ k → q ≡ 0 → f ≡ g → Costs f ≡ told k g
-costs_told zero k f g e z p = ap Costs p ∙ ap (λ (x : ℕ). told x g) e
-costs_told (suc q) k f g e z p = absurd (omega arith)
+use Rattle.preview.specs.Previewed.{Costs, cost_of}
 
 -- figures are equal where each is
 each : {w w' f f' r r' : ℕ} → w ≡ w' → f ≡ f' → r ≡ r'
@@ -42,11 +33,10 @@ module _ {n floor : ℕ} {a b : List ℕ} {m : List Float} {us vs : List ℕ} {k
   pub few_fronts : length (take k early') ≤ most_edges
   few_fronts = omega (arith, early-part g.written, g.few-edges)
 
-pub costed : {n floor q k w : ℕ} {a b : List ℕ} {m : List Float} {us vs : List ℕ} {betas : List Float} {early early' late late' : List ℕ} {mag mag' : List Float}
-    → CheckedJob Desk n floor a b m us vs betas q k w early early' late late' mag mag' → q ≡ 0 → (A B : Room.Arrangement) → A ≡ B → (free room : ℕ)
-    → free ≡ free_count (take k early') (take k late') → room ≡ Room.room A n w k us vs
-    → Costs (record { window = w; free = free; room = room }) ≡ cost_of B n floor a b m us vs betas
-costed {n} {w = w} {us = us} {vs} checked z A B same free room f r =
-    let job = checked.ready z in
-    costs_told _ _ _ _ checked.refusal z
-    (each job.window (of-kept job.written free_count f) (rw (same, job.window, job.written.edges) at r))
+pub costed : {n floor : ℕ} {job : Job} {a b : List ℕ} {m : List Float} {us vs : List ℕ} {betas : List Float} {early early' late late' : List ℕ} {mag mag' : List Float}
+    → CheckedJob Desk n floor a b m us vs betas (Ok job) early early' late late' mag mag' → (A B : Room.Arrangement) → A ≡ B → (free room : ℕ)
+    → free ≡ free_count (take job.edges early') (take job.edges late') → room ≡ Room.room A n job.window job.edges us vs
+    → Costs (cost_of B n floor a b m us vs betas) (Ok (record { window = job.window; free = free; room = room }))
+costed checked A B same free room f r =
+    let g = checked.ready in
+    (checked.refusal, each g.window (of-kept g.written free_count f) (rw (same, g.window, g.written.edges) at r))

@@ -1,8 +1,8 @@
 -- A magnitude that is zero already: to set it to zero keeps the same edges, and no check of its size fits either way.
-use Rattle.std.specs.Prelude.{◌≡◌, Bool, true, false, cond, not, ◌&&◌, List, [], T, eqb, ltb, ℤ, pos, Float, length, get_or}
+use Rattle.std.specs.Prelude.{◌≡◌, Bool, true, false, List, T, ℤ, pos, Float, length, get_or}
 use Rattle.std.proofs.Math.Path.{refl}
-use Rattle.std.proofs.Common.{sym, ap, ap₂, ◌∙◌, subst, mul-pos, zero-mul, arith, eqb-true, lt-ltb}
-use Prim.Native.Nat.{ℕ, zero, suc, ◌+◌, ◌*◌, ◌≤◌, ◌<◌}
+use Rattle.std.proofs.Common.{sym, ap, ◌∙◌, subst, mul-pos, zero-mul, arith, eqb-true, lt-ltb}
+use Prim.Native.Nat.{ℕ, zero, suc, ◌+◌, ◌*◌, ◌<◌}
 use Rattle.std.proofs.Math.Decide.{ℕ_discrete}
 use Rattle.std.specs.Float.{nan, inf, fin, binary64}
 use Rattle.std.specs.Float.Ieee.{le, lt, eq, neg, of_bits, up, down}

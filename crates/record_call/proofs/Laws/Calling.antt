@@ -5,6 +5,9 @@ use Rattle.std.proofs.Math.Path.{ap}
 use Rattle.std.proofs.Math.Bool.{true, false, cond}
 use Rattle.list_laws.specs.Front.{over}
 use Rattle.limits.specs.declared.Caller.TheVariants.{Desk}
+use Rattle.refusals.specs.declared.Refusal.{Refusal}
+use Rattle.refusals.specs.Numbers.{number}
+use Rattle.refusals.proofs.Laws.Answers.{number-not_zero}
 use Rattle.refusals.specs.Edges.{kept}
 use Rattle.refusals.specs.Request.{Request, Source, lent, house, sampled, sweep_request, call_request}
 use Rattle.refusals.specs.Refusal.{checks, refusal, of_job, of_recording_lists, housed}
@@ -74,38 +77,42 @@ unfolding settled_bytes
 settled_not r run old p q = rw (ne_eqb r 0 p, ne_eqb r 14 q)
 
 -- a number past the checks of the job, and past those of the lists
-module _ {number k : ℕ} (p : Parts number) (u : k ≡ p.early) (v : k ≡ 0) where
-  past-early : number ≡ or_else p.lists (cond p.bad 14 0)
-  past-early = p.whole ∙ ap (λ (i : ℕ). or_else i (or_else p.lists (cond p.bad 14 0))) (sym u ∙ v)
+module _ {found : ℕ} (p : Parts found) (u : 0 ≡ p.early) where
+  past-early : found ≡ or_else p.lists (cond p.bad 14 0)
+  past-early = p.whole ∙ ap (λ (i : ℕ). or_else i (or_else p.lists (cond p.bad 14 0))) (sym u)
 
-  past-lists : {d : ℕ} → d ≡ p.lists → d ≡ 0 → (t : Bool) → p.bad ≡ t → number ≡ cond t 14 0
-  past-lists e z t q = past-early ∙ ap (λ (i : ℕ). or_else i (cond p.bad 14 0)) (sym e ∙ z) ∙ ap (λ (x : Bool). cond x 14 0) q
+  past-lists : 0 ≡ p.lists → (t : Bool) → p.bad ≡ t → found ≡ cond t 14 0
+  past-lists e t q = past-early ∙ ap (λ (i : ℕ). or_else i (cond p.bad 14 0)) (sym e) ∙ ap (λ (x : Bool). cond x 14 0) q
 
-module _ {number : ℕ} {run : List ℕ} {end : ℕ} {bytes : List ℕ} {work : List Float} (p : Parts number) where
-  refused_by : (r : ℕ) → (r ≡ 0 → ⊥) → (r ≡ 14 → ⊥) → number ≡ r → RunWritten number run end r bytes bytes work work
+module _ {found : ℕ} {run : List ℕ} {end : ℕ} {bytes : List ℕ} {work : List Float} (p : Parts found) where
+  refused_by : (r : ℕ) → (r ≡ 0 → ⊥) → (r ≡ 14 → ⊥) → found ≡ r → RunWritten found run end r bytes bytes work work
   refused_by r z q e = record {
     answer = sym e;
     bytes_are = settled_not r run bytes z q ∙ ap (λ (k : ℕ). settled_bytes k run bytes) (sym e);
     memory = cleared_not r end work z q ∙ ap (λ (k : ℕ). cleared k end work) (sym e);
   }
 
-  pub refused-early : (r : ℕ) → r ≡ p.early → (r ≡ 0 → ⊥) → RunWritten number run end r bytes bytes work work
-  refused-early r e z = refused_by r z (λ h. p.early-other (sym e ∙ h)) (p.whole ∙ first p.early r _ z (sym e))
+  pub refused-early : (e : Refusal) → number e ≡ p.early → RunWritten found run end (number e) bytes bytes work work
+  refused-early e s =
+      let z = number-not_zero e in
+      refused_by (number e) z (λ h. p.early-other (sym s ∙ h)) (p.whole ∙ first p.early (number e) _ z (sym s))
 
-  pub refused-lists : {k : ℕ} → k ≡ p.early → k ≡ 0 → (r : ℕ) → r ≡ p.lists → (r ≡ 0 → ⊥) → RunWritten number run end r bytes bytes work work
-  refused-lists u v r e z = refused_by r z (λ h. p.lists-other (sym e ∙ h)) (past-early p u v ∙ first p.lists r _ z (sym e))
+  pub refused-lists : 0 ≡ p.early → (e : Refusal) → number e ≡ p.lists → RunWritten found run end (number e) bytes bytes work work
+  refused-lists u e s =
+      let z = number-not_zero e in
+      refused_by (number e) z (λ h. p.lists-other (sym s ∙ h)) (past-early p u ∙ first p.lists (number e) _ z (sym s))
 
   -- by none of these: what was found decides
-  pub run_written : {k d : ℕ} {s : Bool} {bytes' : List ℕ} {work' : List Float} (n : ℕ) → k ≡ p.early → k ≡ 0 → d ≡ p.lists → d ≡ 0 → s ≡ not p.bad
-      → bytes' ≡ cond s run (zero_bytes n) → work' ≡ over (zeros end) work → s ≡ true → RunWritten number run end 0 bytes bytes' work work'
+  pub run_written : {s : Bool} {bytes' : List ℕ} {work' : List Float} (n : ℕ) → 0 ≡ p.early → 0 ≡ p.lists → s ≡ not p.bad
+      → bytes' ≡ cond s run (zero_bytes n) → work' ≡ over (zeros end) work → s ≡ true → RunWritten found run end 0 bytes bytes' work work'
   unfolding settled_bytes cleared
-  run_written n u v e z verdict values memory y =
-      rw (past-lists p u v e z false (turned true p.bad (sym y ∙ verdict)))
+  run_written n u e verdict values memory y =
+      rw (past-lists p u e false (turned true p.bad (sym y ∙ verdict)))
       (record { answer = refl; bytes_are = values ∙ ap (λ (x : Bool). cond x run (zero_bytes n)) y; memory = memory })
 
-  pub run_wiped : {k d : ℕ} {s : Bool} {bytes' : List ℕ} {work' : List Float} (n : ℕ) → k ≡ p.early → k ≡ 0 → d ≡ p.lists → d ≡ 0 → s ≡ not p.bad
-      → bytes' ≡ cond s run (zero_bytes n) → work' ≡ over (zeros end) work → s ≡ false → length bytes ≡ n → RunWritten number run end 14 bytes bytes' work work'
+  pub run_wiped : {s : Bool} {bytes' : List ℕ} {work' : List Float} (n : ℕ) → 0 ≡ p.early → 0 ≡ p.lists → s ≡ not p.bad
+      → bytes' ≡ cond s run (zero_bytes n) → work' ≡ over (zeros end) work → s ≡ false → length bytes ≡ n → RunWritten found run end 14 bytes bytes' work work'
   unfolding settled_bytes cleared
-  run_wiped n u v e z verdict values memory y l =
-      rw (past-lists p u v e z true (turned false p.bad (sym y ∙ verdict)))
+  run_wiped n u e verdict values memory y l =
+      rw (past-lists p u e true (turned false p.bad (sym y ∙ verdict)))
       (record { answer = refl; bytes_are = values ∙ ap (λ (x : Bool). cond x run (zero_bytes n)) y ∙ ap zero_bytes (sym l); memory = memory })

@@ -1,5 +1,5 @@
 -- A call that its checks pass, from the fronts of the lists that its kept edges stand in.
-use Rattle.std.specs.Prelude.{◌≡◌, refl, Bool, false, not, List, ℕ, ◌*◌, ◌≤◌, ◌<◌, eqb, Float, length, take}
+use Rattle.std.specs.Prelude.{◌≡◌, refl, Bool, false, List, ℕ, ◌*◌, ◌≤◌, ◌<◌, Float, length, take}
 use Rattle.std.proofs.Common.{sym, ap, ◌∙◌, subst, arith, eqb-true}
 use Rattle.std.proofs.lemmas.Bool.{not-false}
 use Rattle.transfer_matrix.specs.Job as Job
@@ -20,7 +20,7 @@ use Rattle.totals_house_betas.proofs.Laws.Entering.{drawn-house-passed}
 use Rattle.run_record.specs.declared.Head.{Head}
 use Rattle.run_record.specs.Records.{record_length}
 use Rattle.record_checks.specs.Recording.{other_length, recording_lists}
-use Rattle.record_checks.proofs.Laws.Parts.{Writable, recording_passed}
+use Rattle.record_checks.proofs.Laws.Parts.{recording_passed}
 use Rattle.totals_record.specs.Written.{RecordIs}
 
 -- what refuses no record refuses no sampling

@@ -1,6 +1,6 @@
 -- The refusal of a call that writes a run record in parts, and what has passed where none refuses.
 use Rattle.std.specs.Prelude.{◌≡◌, refl, Bool, true, false, cond, List, ◌++◌, ℕ, ◌-◌, ◌*◌, ◌≤◌, ◌<◌, ltb, Float, length}
-use Rattle.std.proofs.Common.{sym, ap, ◌∙◌, arith, ltb-false}
+use Rattle.std.proofs.Common.{ap, ◌∙◌, arith, ltb-false}
 use Rattle.limits.specs.declared.Caller.TheVariants.{Desk}
 use Rattle.limits.specs.Limits.{most_samples, most_named}
 use Rattle.list_laws.proofs.Laws.Search.{or-false}

@@ -1,6 +1,6 @@
 -- Magnitudes of which one is set to zero.
 use Rattle.std.specs.Prelude.{◌≡◌, List, ℕ, ◌<◌, Float, length, get_or}
-use Rattle.std.proofs.Common.{sym, ap, arith, length-set, get_or-set_same, get_or-set_other}
+use Rattle.std.proofs.Common.{sym, arith, length-set, get_or-set_same, get_or-set_other}
 use Rattle.std.specs.Float.{nan, binary64}
 use Rattle.std.specs.Float.Ieee.{of_bits}
 use Rattle.std.proofs.Math.Seq.{set_out}

@@ -1,32 +1,13 @@
 -- Sums by their bits.
-use Rattle.std.specs.Prelude.{◌≡◌, refl, Bool, true, false, not, ◌||◌, ℕ, ◌≤◌, ◌<◌, ◌%◌, ◌^◌, T, eqb, Float}
+use Rattle.std.specs.Prelude.{◌≡◌, refl, Bool, true, false, not, ◌||◌, ℕ, ◌<◌, ◌^◌, T, eqb}
 use Rattle.std.proofs.Common.{sym, ap, subst, ◌∙◌, arith}
-use borrow.Author.Tests.{lt-ltb, le-ltb, eq-eqb, ne_eqb}
-use Rattle.std.specs.Float.{nan, inf, fin}
-use Rattle.std.specs.Float.Ieee.{nan_bits, is_nan, binary64, of_bits, to_bits, div}
-use Rattle.std.specs.Float.Ieee.Bits.{nan_bits_above, nan_bits_is, to_bits-of_bits}
+use borrow.Author.Tests.{eq-eqb, ne_eqb}
+use Rattle.std.specs.Float.{nan}
+use Rattle.std.specs.Float.Ieee.{is_nan, binary64, of_bits, to_bits}
+use Rattle.std.specs.Float.Ieee.Bits.{to_bits-of_bits}
 use Rattle.estimate.specs.Estimates.{number, is_in_order}
+use Rattle.little_endian.proofs.Laws.Nans.{is-nan}
 use Rattle.run_record.specs.Reading.{is_minus_zero, bad_sums}
-
--- ---- a pattern that without its sign is at most an infinity's is no NaN's
-
-pub no_nan : (n : ℕ) → n % 0x8000_0000_0000_0000 ≤ 0x7ff0_0000_0000_0000 → T (not (nan_bits binary64 n))
-no_nan n h = subst (λ (b : Bool). T (not b)) (sym (nan_bits_above binary64 n ∙ le-ltb _ _ h)) tt
-
-pub is-nan : (x : Float) → T (is_nan x) → nan ≡ x
-unfolding is_nan
-is-nan nan t = refl
-is-nan (inf s) t = absurd t
-is-nan (fin s m e) t = absurd t
-
--- above it, it is one
-pub a_nan : (n : ℕ) → 0x7ff0_0000_0000_0000 < n % 0x8000_0000_0000_0000 → nan ≡ of_bits binary64 n
-a_nan n h = is-nan (of_bits binary64 n) (subst T (sym (sym (nan_bits_is binary64 n) ∙ nan_bits_above binary64 n ∙ lt-ltb _ _ h)) tt)
-
--- 0.0 / 0.0
-pub quotient_nan : div binary64 (of_bits binary64 0) (of_bits binary64 0) ≡ nan
-unfolding div of_bits
-quotient_nan = refl
 
 -- ---- -0.0 is one pattern
 

@@ -1,5 +1,5 @@
 -- A join by its cases, in the order of the checks.
-use Rattle.std.specs.Prelude.{◌≡◌, refl, Bool, true, false, not, ◌&&◌, ◌||◌, List, ℕ, ◌-◌, T, eqb, length}
+use Rattle.std.specs.Prelude.{◌≡◌, refl, Bool, true, false, not, ◌&&◌, ◌||◌, List, ℕ, T, eqb, length}
 use Rattle.std.proofs.Common.{sym, subst}
 use borrow.Author.Tests.{eq-eqb, ne_eqb, eqb-true, not-false}
 use Rattle.refusals.specs.Request.{too_many_chunks}

@@ -1,6 +1,6 @@
 -- The first k totals are written.
 use mathlib.Core.Path.{◌≡◌}
-use Prim.Native.Nat.{◌-◌, ◌≤◌}
+use Prim.Native.Nat.{◌≤◌}
 use lib.ListN.{length}
 use Rattle.list_laws.specs.Front.{over}
 use Rattle.list_laws.specs.Tabulate.{tabulate}
@@ -10,6 +10,3 @@ use Rattle.run_record_totals.proofs.fill_totals.Given as goal
 abbrev pub invariant-loop-k : goal.invariant-loop-k
 invariant-loop-k l =
     (l.totals ≡ over (tabulate (column_sum l.bytes (length l.initial.totals) l.chunks l.offset) l.k) l.initial.totals) × (l.k ≤ length l.initial.totals) × (length l.totals ≡ length l.initial.totals)
-
-abbrev pub decreases-loop-k : goal.decreases-loop-k
-decreases-loop-k l = length l.initial.totals - l.k

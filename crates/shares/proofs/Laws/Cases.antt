@@ -2,10 +2,11 @@
 use Rattle.std.specs.Prelude.{◌≡◌, true, false, List, ℕ, ◌+◌, ◌-◌, Float}
 use Rattle.std.proofs.Common.{arith}
 use Rattle.std.proofs.Math.ListN.{length}
+use Rattle.std.specs.declared.result.Result.TheVariants.{Ok, Err}
 use Rattle.list_laws.specs.Search.{some}
 use Rattle.list_laws.proofs.Laws.Search.{none-at}
+use Rattle.refusals.specs.declared.Refusal.TheVariants as R
 use Rattle.shares.specs.declared.answer.Shares.{Shares}
-use Rattle.shares.specs.declared.answer.Answer.TheVariants.{Pooled, Refused}
 use Rattle.shares.specs.Shares.{at, is_above, is_zero, is_below, is_half, bad_entry, bad_lists, counted, fractions, shares_of}
 use Rattle.shares.proofs.Laws.Counting.{count-three, count_none, count-some}
 use Rattle.shares.proofs.Laws.Kinds.{one-kind}
@@ -20,18 +21,18 @@ pub none-bad : (stored : List Float) → counted bad_entry stored ≡ 0
 none-bad stored e = all_kinds stored (count_none _ (length stored) e)
 
 module _ (stored : List Float) (lengths : List ℕ) where
-  pub refused-lists : bad_lists lengths (length stored) ≡ true → Refused 25 ≡ shares_of stored lengths
+  pub refused-lists : bad_lists lengths (length stored) ≡ true → Err R.Shares ≡ shares_of stored lengths
   unfolding shares_of
   refused-lists h = rw h
 
   module _ (h : bad_lists lengths (length stored) ≡ false) where
-    pub refused-entry : (counted bad_entry stored ≡ 0 → ⊥) → Refused 25 ≡ shares_of stored lengths
+    pub refused-entry : (counted bad_entry stored ≡ 0 → ⊥) → Err R.Shares ≡ shares_of stored lengths
     unfolding shares_of
     refused-entry e = rw (h, count-some _ (length stored) e)
 
     pub accepted : counted bad_entry stored ≡ 0 → (s : Shares)
         → s ≡ fractions (counted is_above stored) (length stored - counted is_above stored - counted is_below stored) (counted is_below stored) (counted is_half stored) (length stored)
-        → Pooled s ≡ shares_of stored lengths
+        → Ok s ≡ shares_of stored lengths
     unfolding shares_of
     accepted e s f =
         let good = count_none (λ i. bad_entry (at stored i)) (length stored) e in

@@ -5,11 +5,12 @@ use Rattle.std.specs.Float.Ieee.{of_bits, neg, lt, le, eq}
 use Rattle.list_laws.specs.Count.{count}
 use Rattle.list_laws.specs.Search.{some}
 use Rattle.euclid.specs.Euclid.{turns, gcd, reduced}
-use Rattle.shares.specs.declared.answer.Answer.TheVariants.{Pooled}
-use Rattle.shares.specs.Shares.{+0·0, +0·5, +1·0, start_of, bad_lists, shares_of, number_of, words_of, pooled}
+use Rattle.std.specs.declared.result.Result.TheVariants.{Ok}
+use Rattle.refusals.specs.Numbers.{refused}
+use Rattle.shares.specs.Shares.{+0·0, +0·5, +1·0, start_of, bad_lists, shares_of, words_of, pooled}
 
 -- [1.0] and [0.0, 0.0]: 1/3 is above zero, not the mean of 1 and 0
-of-all-entries : shares_of (+1·0 ∷ +0·0 ∷ +0·0 ∷ []) (1 ∷ 2 ∷ []) ≡ Pooled (pooled (+1·0 ∷ +0·0 ∷ +0·0 ∷ []))
+of-all-entries : shares_of (+1·0 ∷ +0·0 ∷ +0·0 ∷ []) (1 ∷ 2 ∷ []) ≡ Ok (pooled (+1·0 ∷ +0·0 ∷ +0·0 ∷ []))
 unfolding shares_of count some start_of of_bits lt le eq neg
 of-all-entries = refl
 
@@ -35,7 +36,7 @@ unfolding some start_of
 lists = (refl, refl)
 
 -- NaN, infinities and the double after 1
-bad-entries : (number_of (shares_of (+1·0 ∷ nan ∷ []) (2 ∷ [])) ≡ 25) × (number_of (shares_of (inf false ∷ []) (1 ∷ [])) ≡ 25)
-    × (number_of (shares_of (inf true ∷ []) (1 ∷ [])) ≡ 25) × (number_of (shares_of (of_bits binary64 0x3ff0_0000_0000_0001 ∷ []) (1 ∷ [])) ≡ 25)
+bad-entries : (refused (shares_of (+1·0 ∷ nan ∷ []) (2 ∷ [])) ≡ 25) × (refused (shares_of (inf false ∷ []) (1 ∷ [])) ≡ 25)
+    × (refused (shares_of (inf true ∷ []) (1 ∷ [])) ≡ 25) × (refused (shares_of (of_bits binary64 0x3ff0_0000_0000_0001 ∷ []) (1 ∷ [])) ≡ 25)
 unfolding shares_of count some start_of of_bits lt le eq neg
 bad-entries = (refl, refl, refl, refl)

@@ -3,7 +3,6 @@ use Prim.Native.Nat.{◌+◌, ◌^◌, ◌<◌}
 use Rattle.step_runs.proofs.Laws.AtRun.{readable, first_run, run_size, run_even, run_ends, run_16, next_run}
 use Rattle.step_tables.proofs.Laws.Constants.{zero_is}
 use Rattle.largest_entry.proofs.Laws.Top.{tops_none}
-use Rattle.step_backward.specs.Ends.{ends}
 use Rattle.step_backward.proofs.Laws.Ends.{ends-none}
 use Rattle.step_backward.proofs.BackwardIteration.{backward_fit, run_apart, runs_iteration, runs-most, ends-most}
 use native.Mathlib.Omega.{arith}
@@ -57,11 +56,6 @@ backward_run-r-requires c =
 pub larger_of-most-requires : goal.larger_of-most-requires
 larger_of-most-requires c = tt
 
-pub overflow_add-k : goal.overflow_add-k
-overflow_add-k c =
-    let iteration = c in
-    omega (arith, run_ends iteration.loop-k.invariant.2 iteration.loop-k.invariant.3 iteration.loop-k-test.true)
-
 pub loop-k-smaller : goal.loop-k-smaller
 loop-k-smaller c =
     let iteration = c in
@@ -92,3 +86,15 @@ returns c =
     let e : at.loop-k.k ≡ 2 ^ s.args.g = omega (arith, i.2.ends, i.3.within) in
     let filled = rw (e, i.2.ends) at i.4 in
     record { v_after = filled; value = ends-most _ _ _ _ _ _ _ (backward_fit _ _ _ _ _) (backward_fit _ _ _ _ _) refl s.requires.2.to filled (rw e at i.5) }
+
+pub returns-2 : goal.returns-2
+returns-2 c =
+    let m = c.pattern_of-m.ensures.value in
+    let under = c.loop-k-test.true in
+    let i = c.loop-k.invariant in
+    let a = c.args in
+    let run = c.backward_run-r in
+    let e : c.loop-k.k + c.step_runs-end.result.size ≡ 2 ^ a.g = omega (arith, i.2.ends, run_ends i.2 i.3 under) in
+    let filled = rw (e, i.2.ends) at (runs_iteration i.2 i.3 under _ _ a.up.now a.down.now _ _ _ a.v.now c.loop-k.v i.1 m i.4 _ run.ensures.v_after) in
+    let most = rw e at (runs-most i.2 i.3 under _ _ a.up.now a.down.now _ _ _ a.v.now c.loop-k.v i.1 m i.4 i.5 run.ensures.value c.larger_of-most.ensures) in
+    record { v_after = filled; value = ends-most _ _ _ _ _ _ _ (backward_fit _ _ _ _ _) (backward_fit _ _ _ _ _) refl c.requires.2.to filled most }

@@ -1,4 +1,4 @@
-use mathlib.Core.Path.{◌≡◌, refl}
+use mathlib.Core.Path.{◌≡◌, refl, ◌∙◌}
 use Prim.Native.Nat.{◌+◌, ◌<◌}
 use lib.ListN.{length-set}
 use Rattle.list_laws.proofs.Laws.Part.{fill_none}
@@ -7,6 +7,7 @@ use Rattle.largest_entry.proofs.Laws.Lanes.{lanes_none}
 use Rattle.step_forward.proofs.ForwardIteration.{run_iteration, run_lanes, run_most}
 use native.Mathlib.Omega.{arith}
 use Rattle.step_forward.proofs.forward_run.Goals as goal
+use Rattle.step_forward.proofs.forward_run.Goals.{else-loop-i-test, then-loop-i-test+else-n-i-gt2}
 
 pub no_entries-m-requires : goal.no_entries-m-requires
 no_entries-m-requires c = tt
@@ -49,8 +50,21 @@ pub larger_of-requires-3 : goal.larger_of-requires-3
 larger_of-requires-3 c = tt
 
 pub returns : goal.returns
+unfolding blend
 returns c =
-    let at = c in
-    let s = at in
-    let g = s.args in
-    let e : at.loop-i.i ≡ g.n = omega arith in record { v_after = rw e at at.loop-i.invariant.3; value = run_most _ _ _ _ _ _ _ _ g.a g.b g.o g.n g.v.now at.loop-i.v s.requires.0 (rw e at at.loop-i.invariant.4) c.larger_of.ensures c.larger_of-2.ensures c.larger_of-3.ensures }
+    let g = c.args in
+    let pre = c.requires in
+    let inv = c.loop-i.invariant in
+    let m = c.loop-i-test.m in
+    let most = run_most _ _ _ _ _ _ _ _ g.a g.b g.o g.n g.v.now c.loop-i-test.v {ma = m.a} {mb = m.b} {mc = m.c} {md = m.d} pre.0 in
+    elim c.loop-i-test.branch [
+      | else-loop-i-test w ↦
+          let e : c.loop-i.i ≡ g.n = omega arith in
+          record { v_after = w.v-is ∙ rw e at inv.3; value = most (rw w.m-is (rw e at inv.4)) c.larger_of.ensures c.larger_of-2.ensures c.larger_of-3.ensures }
+      | then-loop-i-test+else-n-i-gt2 w ↦
+          let h : c.loop-i.i + 1 < g.n = omega arith in
+          let e : c.loop-i.i + 2 ≡ g.n = omega arith in
+          let filled = run_iteration _ _ _ _ _ _ _ _ _ _ _ _ _ _ _ pre.1 pre.2 pre.3 inv.3 h inv.1 in
+          let lanes = run_lanes _ _ _ _ _ _ _ _ _ _ _ _ _ _ _ pre.1 pre.2 pre.3 inv.3 h inv.1 inv.4 w.joined-m.ensures in
+          record { v_after = w.v-is ∙ rw e at filled; value = most (rw w.m-is (rw e at lanes)) c.larger_of.ensures c.larger_of-2.ensures c.larger_of-3.ensures }
+    ]

@@ -61,11 +61,6 @@ forward_run-r-requires c =
 pub larger_of-most-requires : goal.larger_of-most-requires
 larger_of-most-requires c = tt
 
-pub overflow_add-k : goal.overflow_add-k
-overflow_add-k c =
-    let iteration = c in
-    omega (arith, run_ends iteration.loop-k.invariant.2 iteration.loop-k.invariant.3 iteration.loop-k-test.true)
-
 pub loop-k-smaller : goal.loop-k-smaller
 loop-k-smaller c =
     let iteration = c in
@@ -90,9 +85,19 @@ loop-k-preserved c =
 
 pub returns : goal.returns
 returns c =
-    let at = c in
-    let i = at.loop-k.invariant in
-    let s = at in
-    let e : at.loop-k.k ≡ 2 ^ s.args.g = omega (arith, i.2.ends, i.3.within) in
+    let i = c.loop-k.invariant in
+    let e : c.loop-k.k ≡ 2 ^ c.args.g = omega (arith, i.2.ends, i.3.within) in
     let filled = rw e at i.4 in
-    record { v_after = filled; value = rw e at i.5 ∙ filled_top _ _ _ _ _ s.requires.2.to filled }
+    record { v_after = filled; value = rw e at i.5 ∙ filled_top _ _ _ _ _ c.requires.2.to filled }
+
+pub returns-2 : goal.returns-2
+returns-2 c =
+    let m = c.pattern_of-m.ensures.value in
+    let under = c.loop-k-test.true in
+    let i = c.loop-k.invariant in
+    let a = c.args in
+    let run = c.forward_run-r in
+    let e : c.loop-k.k + c.step_runs-end.result.size ≡ 2 ^ a.g = omega (arith, i.2.ends, run_ends i.2 i.3 under) in
+    let filled = rw e at (runs_iteration i.2 i.3 under _ _ _ _ a.up.now a.down.now _ _ _ a.v.now c.loop-k.v i.1 m i.4 _ run.ensures.v_after) in
+    let most = rw e at (runs-most i.2 i.3 under _ _ _ _ a.up.now a.down.now _ _ _ a.v.now c.loop-k.v i.1 m i.4 i.5 run.ensures.value c.larger_of-most.ensures) in
+    record { v_after = filled; value = most ∙ filled_top _ _ _ _ _ c.requires.2.to filled }

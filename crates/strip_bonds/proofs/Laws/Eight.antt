@@ -2,7 +2,8 @@
 use Rattle.std.specs.Prelude.{◌≡◌, refl, Bool, true, false, List, [], ◌∷◌, ℕ}
 use Rattle.strip.specs.declared.kinds.Kind.TheVariants.{Eight}
 use Rattle.strip.specs.declared.strip.Strip.{Strip}
-use Rattle.strip_bonds.specs.Edges.{Edge, edge, across, wrap, along, rising, falling, edges_below, edges}
+use Rattle.strip_bonds.specs.declared.Edge.{Edge}
+use Rattle.strip_bonds.specs.Edges.{edge, across, wrap, along, rising, falling, edges_below, edges}
 
 -- two columns, free or a cylinder
 abbrev pub eight : ℕ → Bool → Strip

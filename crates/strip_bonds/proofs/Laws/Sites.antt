@@ -4,7 +4,8 @@ use Rattle.std.proofs.Math.Path.{refl}
 use Rattle.std.proofs.Common.{sym, ap, ◌∙◌, arith, length-append}
 use Rattle.std.proofs.Math.Numerals.{add-one}
 use Rattle.strip.specs.declared.strip.Strip.{Strip}
-use Rattle.strip_bonds.specs.Edges.{Edge, across, wrap, along, rising, falling, rules, added, edges_below, edges}
+use Rattle.strip_bonds.specs.declared.Edge.{Edge}
+use Rattle.strip_bonds.specs.Edges.{across, wrap, along, rising, falling, rules, added, edges_below, edges}
 use Rattle.strip_bonds.specs.Sites.{site_count}
 
 module _ (s : Strip) where

@@ -2,7 +2,8 @@
 use Rattle.std.specs.Prelude.{◌≡◌, refl, false, List, [], ◌∷◌}
 use Rattle.strip.specs.declared.kinds.Kind.TheVariants.{Square}
 use Rattle.strip.specs.declared.strip.Strip.{Strip}
-use Rattle.strip_bonds.specs.Edges.{Edge, edge, across, wrap, along, rising, falling, edges_below, edges}
+use Rattle.strip_bonds.specs.declared.Edge.{Edge}
+use Rattle.strip_bonds.specs.Edges.{edge, across, wrap, along, rising, falling, edges_below, edges}
 
 -- square 2 by 2, free
 abbrev pub square : Strip

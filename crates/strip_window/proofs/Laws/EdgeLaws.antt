@@ -12,7 +12,8 @@ use Rattle.list_laws.proofs.Laws.Search.{none_of}
 use Rattle.refusals.specs.Request.{joined_twice, same_ends}
 use Rattle.strip.proofs.Laws.Tests.{and-true}
 use Rattle.strip.specs.Vertices.{vertex}
-use Rattle.strip_bonds.specs.Edges.{Edge, edge, given, brick, rises, falls, has_next, across, wrap, along, rising, falling, rules, added, edges_below, edges, early_ends, late_ends}
+use Rattle.strip_bonds.specs.declared.Edge.{Edge}
+use Rattle.strip_bonds.specs.Edges.{edge, given, brick, rises, falls, has_next, across, wrap, along, rising, falling, rules, added, edges_below, edges, early_ends, late_ends}
 use Rattle.strip.specs.Requests.{odd_cylinder}
 use Rattle.strip.specs.Sides.{Sides}
 use Rattle.strip_bonds.specs.Sites.{site_count}

@@ -11,7 +11,8 @@ use borrow.Author.Tests.{eq-eqb, ne_eqb, lt-ltb, le-ltb, eqb-true, ltb-true, ltb
 use Rattle.strip.specs.Kinds.{is_honey, is_tri, is_eight}
 use Rattle.strip.specs.Vertices.{vertex}
 use Rattle.strip.proofs.Laws.Tests.{and-true}
-use Rattle.strip_bonds.specs.Edges.{Edge, edge, brick, rises, falls, has_next}
+use Rattle.strip_bonds.specs.declared.Edge.{Edge}
+use Rattle.strip_bonds.specs.Edges.{edge, brick, rises, falls, has_next}
 use Rattle.strip.specs.Requests.{odd_cylinder}
 use Rattle.strip.specs.Sides.{Sides}
 use Rattle.strip.specs.declared.strip.Strip.{Strip}

@@ -7,6 +7,3 @@ use Rattle.sweep_answering.proofs.first_of.Given as goal
 
 abbrev pub invariant-loop-k : goal.invariant-loop-k
 invariant-loop-k l = (l.k ≤ l.left) × ((j : ℕ) → l.k ≤ j → j < l.left → later l.us l.vs (get_or l.order j 0) ≡ l.v)
-
-abbrev pub decreases-loop-k : goal.decreases-loop-k
-decreases-loop-k l = l.k

@@ -22,10 +22,10 @@ loop-left-init c =
     let s = c in
     let begun = c.begin_from-at.ensures in
     passed_none _ _ _ _ _ _ _ _ _ _ _ _ _ _ _ s.requires.2
-    (begun_invariant s.args.room.now s.requires.1 begun.0 begun.1 begun.2 s.args.changed ((let it : (let a = c.args in a.changed ≤ c.larger-first.result) = omega (arith, c.larger-first.ensures) in it))) ((let it : (let a = c.args in 0 < a.passing → later a.us.now a.vs.now (get_or a.order.now (a.passing - 1) 0) ≤ c.begin_from-at.result.vertex) = λ some. let s = c in
+    (begun_invariant s.args.room.now s.requires.1 begun.0 begun.1 begun.2 s.args.changed ((let it : (let a = c.args in a.changed ≤ c.max-first.result) = omega (arith, c.max-first.ensures) in it))) ((let it : (let a = c.args in 0 < a.passing → later a.us.now a.vs.now (get_or a.order.now (a.passing - 1) 0) ≤ c.begin_from-at.result.vertex) = λ some. let s = c in
     let from = c.begin_from-at.ensures.0 in
     let last = c.last_vertex.ensures some in
-    let most = c.larger-first.ensures in
+    let most = c.max-first.ensures in
     let below = s.requires.2.below (s.args.passing - 1) (omega arith) in
     dite (dec_lt (c.begin_from-at.result.vertex + 1) s.args.n) (λ l. omega (arith, from.from l, most, last)) (λ l. omega (arith, from.below, below)) in it)) s.requires.3
 
@@ -66,7 +66,7 @@ loop-left-preserved c =
     let p = c.requires.2 in
     let passed = passed_on _ _ _ _ _ _ _ _ _ _ _ _ _ _ _ _ _ _ p c.loop-left.invariant c.loop-left-test.true _ (c.last_vertex-v.ensures c.loop-left-test.true)
     _ _ _ _ c.sweep_down-newest.ensures.backward_invariant c.first_of-from.ensures _ _ (rw c.forward_place.ensures at c.answer_direct-sound.ensures) in
-    let most = c.larger-next.ensures in
+    let most = c.max-next.ensures in
     passed_further _ _ _ _ _ _ _ _ _ _ _ _ _ _ _ _ _ _ p passed _ _ _ _ (omega (arith, most)) (λ b. omega (arith, most, c.last_vertex-in-loop-left.ensures b))
     (rw c.sweep_down-newest.ensures.vertex_value at c.go_on_from-at.ensures)
 
@@ -74,7 +74,10 @@ pub kept_from-requires : goal.kept_from-requires
 kept_from-requires c = let s = c in (s.requires.1.holds, s.requires.0)
 
 pub sweep_down-requires : goal.sweep_down-requires
-sweep_down-requires c = let g = c.loop-left.invariant.sweep in (g.ready, g.below, c.smaller-stop.ensures.0, g.free)
+sweep_down-requires c =
+    let g = c.loop-left.invariant.sweep in
+    let below : c.min-stop.result ≤ c.loop-left.at.vertex = omega (arith, c.min-stop.ensures) in
+    (g.ready, g.below, below, g.free)
 
 pub shape_of-room : goal.shape_of-room
 shape_of-room c = c.sweep_down.ensures.backward_invariant.since.same ∙ c.loop-left.invariant.sweep.since.same ∙ c.begin_from-at.auto.room
@@ -86,7 +89,8 @@ pub returns : goal.returns
 returns c =
     let s = c in
     let i = c.loop-left.invariant in
-    let stop = c.smaller-stop.ensures in
+    let stop : (c.min-stop.result ≤ c.loop-left.at.vertex) × (c.min-stop.result ≤ c.kept_from.result) =
+    (omega (arith, c.min-stop.ensures), omega (arith, c.min-stop.ensures)) in
     let g = invariant_then stop.0 i.sweep c.sweep_down.ensures.backward_invariant in
     let begun = c.begin_from-at.ensures in
     let start = begun-since s.args.room.now s.requires.1 begun.0 begun.1 begun.2 in

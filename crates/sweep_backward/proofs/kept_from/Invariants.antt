@@ -6,6 +6,3 @@ use Rattle.sweep_backward.proofs.kept_from.Given as goal
 
 abbrev pub invariant-loop-t : goal.invariant-loop-t
 invariant-loop-t l = (l.last + 1 ≡ l.n) × (l.c ≤ l.t) × ((u : ℕ) → l.c ≤ u → u < l.t → backward_place l.plan u ≡ 0)
-
-abbrev pub decreases-loop-t : goal.decreases-loop-t
-decreases-loop-t l = l.last - l.t

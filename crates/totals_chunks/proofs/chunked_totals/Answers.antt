@@ -118,12 +118,6 @@ add_sums-requires-in-loop-i c =
     let g = c.requires.3 in
     i.fourthds ∙ c.fill-2.auto.room ∙ g.fourthed ∙ sym (c.sum_chunk.auto.fourths ∙ i.part-fourthds ∙ g.part-fourthed)
 
-pub overflow_add-i : goal.overflow_add-i
-overflow_add-i c = omega (arith, c.loop-i-test.true, c.well_formed)
-
-pub loop-i-smaller : goal.loop-i-smaller
-loop-i-smaller c = omega (arith, c.loop-i-test.true)
-
 pub loop-i-preserved : goal.loop-i-preserved
 loop-i-preserved c =
     let s = c in

@@ -107,12 +107,6 @@ returns-then-not-enumerated_run c =
     let said = run.ensures (λ x. J x l.b) (λ x. of x l.b t) in
     (not_summed J _ _ _ l.b _ _ _ (i.summed J of) said.0 _ t (not-true _ c.if-not-enumerated_run.true-raw), λ z. absurd (no (sym z)))
 
-pub overflow_add-b : goal.overflow_add-b
-overflow_add-b c = omega (arith, c.loop-b-test.true, c.struct_known-1.given)
-
-pub loop-b-smaller : goal.loop-b-smaller
-loop-b-smaller c = omega (arith, c.loop-b-test.true)
-
 pub loop-b-preserved : goal.loop-b-preserved
 loop-b-preserved c =
     let s = c in

@@ -5,6 +5,3 @@ use Rattle.totals_enumerated.proofs.enumerated_chunk.Given as goal
 
 abbrev pub invariant-loop-b : goal.invariant-loop-b
 invariant-loop-b l = Ranging l.plan l.us l.vs l.factors l.bits l.first l.shape l.size l.b l.initial.room l.room l.initial.signs l.signs l.initial.c l.c l.initial.squares l.squares l.initial.fourths l.fourths
-
-abbrev pub decreases-loop-b : goal.decreases-loop-b
-decreases-loop-b l = l.shape.betas - l.b

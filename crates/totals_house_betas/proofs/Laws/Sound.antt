@@ -1,5 +1,5 @@
 -- Every Z is sound where it is at each beta alone.
-use Rattle.std.specs.Prelude.{◌≡◌, refl, Bool, true, false, not, List, ℕ, ◌+◌, ◌-◌, ◌<◌, Float}
+use Rattle.std.specs.Prelude.{◌≡◌, refl, Bool, true, false, List, ℕ, ◌+◌, ◌-◌, ◌<◌, Float}
 use Rattle.std.proofs.Common.{sym, ◌∙◌, true≢false, arith}
 use Rattle.list_laws.specs.Search.{some}
 use Rattle.list_laws.proofs.Laws.Search.{none-at, none_of}

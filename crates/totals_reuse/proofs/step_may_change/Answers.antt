@@ -2,7 +2,6 @@ use mathlib.Core.Path.{◌≡◌}
 use mathlib.Core.Bool.{true, false}
 use Prim.Native.Nat.{ℕ}
 use borrow.Author.Count.{below_more}
-use Rattle.plan_steps.specs.Layout.{near_edge}
 use native.Mathlib.Omega.{arith}
 use Rattle.totals_reuse.proofs.step_may_change.Goals as goal
 

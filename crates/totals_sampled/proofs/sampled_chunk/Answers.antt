@@ -66,12 +66,6 @@ returns-then-not-add_configuration c =
     let said = a.ensures (J l.j) (signed_of (J l.j) s.args.plan.now s.args.factors.now _ _ (length s.args.signs.now) s.args.shape q (of l.j)) in
     (not_passed _ _ _ l.j _ _ (l.invariant.passed J of) _ said.0 _ t (not-true _ c.if-not-add_configuration.true-raw), λ z. absurd (no (sym z)))
 
-pub overflow_add-j : goal.overflow_add-j
-overflow_add-j c = omega (arith, c.loop-j-test.true, c.well_formed)
-
-pub loop-j-smaller : goal.loop-j-smaller
-loop-j-smaller c = omega (arith, c.loop-j-test.true)
-
 pub loop-j-preserved : goal.loop-j-preserved
 loop-j-preserved c =
     let s = c in

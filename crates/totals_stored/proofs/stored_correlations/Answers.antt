@@ -72,16 +72,6 @@ returns-then-not-store_configuration c =
     let said = a.ensures (J l.x) (signed_of (J l.x) s.args.plan.now s.args.factors.now _ _ _ s.args.shape q (of l.x)) in
     (one_failed _ l.x _ said.0 _ t (not-true _ c.if-not-store_configuration.true-raw), λ z. absurd (no (sym z)))
 
-pub overflow_add-x : goal.overflow_add-x
-overflow_add-x c =
-    let s = c in
-    let i = c.loop-x.invariant in
-    let m : 2 ^ s.args.free ≤ 2 ^ 34 = pow_mono s.requires.3 in
-    omega (arith, m, i.0, c.loop-x-test.true)
-
-pub loop-x-smaller : goal.loop-x-smaller
-loop-x-smaller c = omega (arith, c.loop-x-test.true)
-
 pub loop-x-preserved : goal.loop-x-preserved
 loop-x-preserved c =
     let s = c in

@@ -1,5 +1,5 @@
 -- The words so far are of the roots.
-use Prim.Native.Nat.{◌*◌, ◌-◌}
+use Prim.Native.Nat.{◌*◌}
 use Rattle.forest.specs.Lowest.{bits}
 use Rattle.components.specs.Marks.{is_root}
 use Rattle.union_find.proofs.Laws.Filled.{Filled}
@@ -7,6 +7,3 @@ use Rattle.components.proofs.marks.mark_roots.Given as goal
 
 abbrev pub invariant-loop-k : goal.invariant-loop-k
 invariant-loop-k l = Filled 0 (λ j. bits (is_root l.p) (64 * j) 64) 16 l.k l.marks
-
-abbrev pub decreases-loop-k : goal.decreases-loop-k
-decreases-loop-k l = 16 - l.k

@@ -7,6 +7,3 @@ use Rattle.components.proofs.marks.word_at.Given as goal
 
 abbrev pub invariant-loop-b : goal.invariant-loop-b
 invariant-loop-b l = (l.word ≡ bits (is_root l.p) (l.first + l.b) (64 - l.b)) × (l.b ≤ 64)
-
-abbrev pub decreases-loop-b : goal.decreases-loop-b
-decreases-loop-b l = l.b

@@ -1,165 +1,138 @@
 -- The checks, then every correlation.
-use mathlib.Core.Path.{◌≡◌, sym, ap, ◌∙◌}
-use mathlib.Core.Bool.{false}
-use mathlib.Core.List.{List}
-use Prim.Native.Nat.{ℕ, ◌*◌, ◌^◌, ◌≤◌}
+use mathlib.Core.Path.{◌≡◌, refl, sym, ap, ◌∙◌}
+use mathlib.Core.Bool.{Bool}
+use Prim.Native.Nat.{ℕ, ◌*◌, ◌^◌}
 use native.Mathlib.Omega.{arith}
-use lib.Ieee.{Float}
-use lib.ListN.{length, take}
+use lib.ListN.{length}
 use lib.Seq.{length-take-le}
-use Rattle.transfer_matrix.specs.Room.{arranged}
+use Rattle.std.proofs.lemmas.Result.{err_from_is_err_and}
 use Rattle.refusals.specs.AcceptedTotals.{misfits}
 use Rattle.refusals.specs.Couplings.{all_couplings}
 use Rattle.refusals.specs.Edges.{kept_magnitudes}
 use Rattle.refusals.specs.Request.{house, most_stored}
 use Rattle.kept_edges.proofs.Laws.Fronts.{early-part, late-part, mag_part, early-fits, late-fits, mag_fits}
-use Rattle.totals_call.specs.Given.{Given, early, late, free, end, sums}
+use Rattle.totals_call.specs.Given.{Given, early, late, sums}
 use Rattle.totals_call.specs.Jobs.{stored_count}
-use Rattle.totals_call.specs.Calls.{unsound_all, correlations_of_all, misfit_stored, house_given}
-use Rattle.totals_call.specs.Finished.{Finished}
-use Rattle.totals_call.proofs.Laws.Refusing.{lists_of_all_by, all_parts_by}
+use Rattle.totals_call.specs.Calls.{house_given, misfit_stored}
+use Rattle.totals_call.proofs.Laws.Refusing.{all_parts_by}
 use Rattle.totals_call.proofs.Laws.Calling.{refused-early, refused-lists, all-added, refused-14, once}
 use Rattle.totals_call.proofs.Laws.Entering.{few-products, fits_both, front_fits, front-is, joined, free-kept}
-use Rattle.totals_house_betas.specs.Betas.{HousePassed}
-use Rattle.totals_house_betas.proofs.Laws.Entering.{stored-house-lists, all-house-passed, stored-housed}
+use Rattle.totals_house_betas.proofs.Laws.Entering.{all-house-passed, stored-house-lists, stored-housed}
 use Rattle.entry_house_exhaustive_c.proofs.entry.house_exhaustive_c.Goals as goal
 
-pub returns-then-refused-ne0 : goal.returns-then-refused-ne0
-returns-then-refused-ne0 c =
-    let s = c in
-    let k = c.check_with_betas-job in
-    record { call = once (refused-early (all_parts_by ((let it : Given = let a = c.args in house_given a.n a.floor a.a.now a.b.now a.m.now a.us.now a.vs.now a.betas.now a.manner a.arrangement a.caller in it)) house ((let it : List Float = let a = c.args in all_couplings a.betas.now (kept_magnitudes a.a.now a.b.now a.m.now) in it)) ((let it : ℕ = let a = c.args in length a.betas.now * length (kept_magnitudes a.a.now a.b.now a.m.now) in it)) (misfit_stored ((let it : Given = let a = c.args in house_given a.n a.floor a.a.now a.b.now a.m.now a.us.now a.vs.now a.betas.now a.manner a.arrangement a.caller in it)) (length s.args.stored.now)) (length s.args.work.now) most_stored) k.result.refusal k.ensures.refusal c.if-refused-ne0.true) }
+pub returns-in_err-job : goal.returns-in_err-job
+returns-in_err-job c =
+    let p = err_from_is_err_and c.from_residual.result c.from_residual.ensures.1 in
+    let a = c.args in
+    let G : Given = house_given a.n a.floor a.a.now a.b.now a.m.now a.us.now a.vs.now a.betas.now a.manner a.arrangement a.caller in
+    let M : Bool = misfit_stored G (length a.stored.now) in
+    rw (p.1, p.2) (record { call = once (refused-early (all_parts_by G house (all_couplings a.betas.now (kept_magnitudes a.a.now a.b.now a.m.now)) (length a.betas.now * length (kept_magnitudes a.a.now a.b.now a.m.now)) M (length a.work.now) most_stored) _ c.in_err-job.ensures.refusal) })
 
 pub slice_bounds-early-end : goal.slice_bounds-early-end
-slice_bounds-early-end c = early-fits (c.check_with_betas-job.ensures.ready c.if-refused-ne0.false).written
+slice_bounds-early-end c = early-fits c.in_ok-job.ensures.ready.written
 
 pub slice_bounds-number_free_edges-end : goal.slice_bounds-number_free_edges-end
-slice_bounds-number_free_edges-end c = early-part (c.check_with_betas-job.ensures.ready c.if-refused-ne0.false).written
+slice_bounds-number_free_edges-end c = early-part c.in_ok-job.ensures.ready.written
 
 pub slice_bounds-late-end : goal.slice_bounds-late-end
-slice_bounds-late-end c = late-fits (c.check_with_betas-job.ensures.ready c.if-refused-ne0.false).written
+slice_bounds-late-end c = late-fits c.in_ok-job.ensures.ready.written
 
 pub slice_bounds-number_free_edges-end-2 : goal.slice_bounds-number_free_edges-end-2
-slice_bounds-number_free_edges-end-2 c = late-part (c.check_with_betas-job.ensures.ready c.if-refused-ne0.false).written
+slice_bounds-number_free_edges-end-2 c = late-part c.in_ok-job.ensures.ready.written
 
 pub slice_bounds-bits-end : goal.slice_bounds-bits-end
-slice_bounds-bits-end c = (c.check_with_betas-job.ensures.ready c.if-refused-ne0.false).few-edges
+slice_bounds-bits-end c = c.in_ok-job.ensures.ready.few-edges
 
 pub slice_bounds-number_free_edges-end-3 : goal.slice_bounds-number_free_edges-end-3
-slice_bounds-number_free_edges-end-3 c = sym (length-take-le _ _ (c.check_with_betas-job.ensures.ready c.if-refused-ne0.false).few-edges)
+slice_bounds-number_free_edges-end-3 c = sym (length-take-le _ _ c.in_ok-job.ensures.ready.few-edges)
 
 pub number_free_edges-free-requires : goal.number_free_edges-free-requires
-number_free_edges-free-requires c = let g = c.check_with_betas-job.ensures.ready c.if-refused-ne0.false in (joined g, g.edges.few, length-take-le _ _ g.few-edges ∙ early-part g.written)
+number_free_edges-free-requires c = let g = c.in_ok-job.ensures.ready in (joined g, g.edges.few, length-take-le _ _ g.few-edges ∙ early-part g.written)
+
+pub slice_bounds-mag-end : goal.slice_bounds-mag-end
+slice_bounds-mag-end c = mag_fits c.in_ok-job.ensures.ready.written
+
+pub slice_bounds-check_house_enumeration-end : goal.slice_bounds-check_house_enumeration-end
+slice_bounds-check_house_enumeration-end c = mag_part c.in_ok-job.ensures.ready.written
 
 pub overflow_mul-betas : goal.overflow_mul-betas
 overflow_mul-betas c =
-    let j = c.check_with_betas-job.ensures in
-    omega (arith, few-products _ _ (j.betas_pass c.if-refused-ne0.false).few (j.ready c.if-refused-ne0.false).passed.few-pairs)
+    let j = c.in_ok-job.ensures in
+    omega (arith, few-products _ _ j.betas_pass.few j.ready.passed.few-pairs)
 
 pub stored_count-requires : goal.stored_count-requires
 stored_count-requires c =
-    let j = c.check_with_betas-job.ensures in
-    few-products _ _ (j.betas_pass c.if-refused-ne0.false).few (j.ready c.if-refused-ne0.false).passed.few-pairs
+    let j = c.in_ok-job.ensures in
+    few-products _ _ j.betas_pass.few j.ready.passed.few-pairs
 
-pub slice_bounds-mag-end : goal.slice_bounds-mag-end
-slice_bounds-mag-end c = mag_fits (c.check_with_betas-job.ensures.ready c.if-refused-ne0.false).written
-
-pub slice_bounds-check_house_enumeration-end : goal.slice_bounds-check_house_enumeration-end
-slice_bounds-check_house_enumeration-end c = mag_part (c.check_with_betas-job.ensures.ready c.if-refused-ne0.false).written
-
-pub check_house_enumeration-unfit-requires : goal.check_house_enumeration-unfit-requires
-check_house_enumeration-unfit-requires c =
-    let j = c.check_with_betas-job.ensures in
-    let g = j.ready c.if-refused-ne0.false in
+pub check_house_enumeration-requires : goal.check_house_enumeration-requires
+check_house_enumeration-requires c =
+    let j = c.in_ok-job.ensures in
+    let g = j.ready in
     (g.pairs, g.edges.few, g.edges.narrow, omega (arith, g.few-edges, mag_part g.written))
 
-pub returns-then-unfit-ne0 : goal.returns-then-unfit-ne0
-returns-then-unfit-ne0 c =
-    let s = c in
-    record {
-      call = once (refused-lists (all_parts_by ((let it : Given = let a = c.args in house_given a.n a.floor a.a.now a.b.now a.m.now a.us.now a.vs.now a.betas.now a.manner a.arrangement a.caller in it)) house ((let it : List Float = let a = c.args in all_couplings a.betas.now (kept_magnitudes a.a.now a.b.now a.m.now) in it)) ((let it : ℕ = let a = c.args in length a.betas.now * length (kept_magnitudes a.a.now a.b.now a.m.now) in it)) (misfit_stored ((let it : Given = let a = c.args in house_given a.n a.floor a.a.now a.b.now a.m.now a.us.now a.vs.now a.betas.now a.manner a.arrangement a.caller in it)) (length s.args.stored.now)) (length s.args.work.now) most_stored) c.check_with_betas-job.ensures.refusal c.if-refused-ne0.false c.check_house_enumeration-unfit.result ((let it : (let s = c in
-          c.check_house_enumeration-unfit.result ≡ lists_of_all_by ((let it : Given = let a = c.args in house_given a.n a.floor a.a.now a.b.now a.m.now a.us.now a.vs.now a.betas.now a.manner a.arrangement a.caller in it)) house ((let it : List Float = let a = c.args in all_couplings a.betas.now (kept_magnitudes a.a.now a.b.now a.m.now) in it)) ((let it : ℕ = let a = c.args in length a.betas.now * length (kept_magnitudes a.a.now a.b.now a.m.now) in it)) (misfit_stored ((let it : Given = let a = c.args in house_given a.n a.floor a.a.now a.b.now a.m.now a.us.now a.vs.now a.betas.now a.manner a.arrangement a.caller in it)) (length s.args.stored.now)) (length s.args.work.now) most_stored) = let a = c.args in
-          let less = c.takes_less-less.ensures in
-          let g = (let it : Given = let a = c.args in house_given a.n a.floor a.a.now a.b.now a.m.now a.us.now a.vs.now a.betas.now a.manner a.arrangement a.caller in it) in
-          let is = (let it : c.number_free_edges-free.result ≡ free ((let it : Given = let a = c.args in house_given a.n a.floor a.a.now a.b.now a.m.now a.us.now a.vs.now a.betas.now a.manner a.arrangement a.caller in it)) = free-kept (c.check_with_betas-job.ensures.ready c.if-refused-ne0.false) _ c.number_free_edges-free.ensures.0 in it) in
-          stored-house-lists (c.check_with_betas-job.ensures.ready c.if-refused-ne0.false) a.betas.now a.caller _ _ less _ _ _ (stored_count (early g) (late g) a.us.now (length a.betas.now)) (length a.stored.now) (length a.work.now) _ is
-          (λ l. c.stored_count.ensures l ∙ ap (λ (i : ℕ). sums g * 2 ^ i) is) c.check_house_enumeration-unfit.ensures in it)) c.if-unfit-ne0.true);
-    }
+pub returns-in_err-check_house_enumeration : goal.returns-in_err-check_house_enumeration
+returns-in_err-check_house_enumeration c =
+    let p = err_from_is_err_and c.from_residual-in_err-check_house_enumeration.result c.from_residual-in_err-check_house_enumeration.ensures.1 in
+    let a = c.args in
+    let G : Given = house_given a.n a.floor a.a.now a.b.now a.m.now a.us.now a.vs.now a.betas.now a.manner a.arrangement a.caller in
+    let M : Bool = misfit_stored G (length a.stored.now) in
+    let j = c.in_ok-job.ensures in
+    let is = free-kept j.ready _ c.number_free_edges-free.ensures.0 in
+    let listed =
+    stored-house-lists j.ready a.betas.now a.caller _ _ c.takes_less-less.ensures _ _ _ (stored_count (early G) (late G) a.us.now (length a.betas.now)) (length a.stored.now) (length a.work.now) _ is
+    (λ l. c.stored_count.ensures l ∙ ap (λ (i : ℕ). sums G * 2 ^ i) is) c.in_err-check_house_enumeration.ensures in
+    rw (p.1, p.2) (record { call = once (refused-lists (all_parts_by G house (all_couplings a.betas.now (kept_magnitudes a.a.now a.b.now a.m.now)) (length a.betas.now * length (kept_magnitudes a.a.now a.b.now a.m.now)) M (length a.work.now) most_stored) j.refusal _ listed) })
 
 pub slice_bounds-early-end-2 : goal.slice_bounds-early-end-2
-slice_bounds-early-end-2 c = early-fits (c.check_with_betas-job.ensures.ready c.if-refused-ne0.false).written
+slice_bounds-early-end-2 c = early-fits c.in_ok-job.ensures.ready.written
 
 pub slice_bounds-store_house_job-end : goal.slice_bounds-store_house_job-end
-slice_bounds-store_house_job-end c = early-part (c.check_with_betas-job.ensures.ready c.if-refused-ne0.false).written
+slice_bounds-store_house_job-end c = early-part c.in_ok-job.ensures.ready.written
 
 pub slice_bounds-late-end-2 : goal.slice_bounds-late-end-2
-slice_bounds-late-end-2 c = late-fits (c.check_with_betas-job.ensures.ready c.if-refused-ne0.false).written
+slice_bounds-late-end-2 c = late-fits c.in_ok-job.ensures.ready.written
 
 pub slice_bounds-store_house_job-end-2 : goal.slice_bounds-store_house_job-end-2
-slice_bounds-store_house_job-end-2 c = late-part (c.check_with_betas-job.ensures.ready c.if-refused-ne0.false).written
+slice_bounds-store_house_job-end-2 c = late-part c.in_ok-job.ensures.ready.written
 
 pub slice_bounds-mag-end-2 : goal.slice_bounds-mag-end-2
-slice_bounds-mag-end-2 c = mag_fits (c.check_with_betas-job.ensures.ready c.if-refused-ne0.false).written
+slice_bounds-mag-end-2 c = mag_fits c.in_ok-job.ensures.ready.written
 
 pub slice_bounds-store_house_job-end-3 : goal.slice_bounds-store_house_job-end-3
-slice_bounds-store_house_job-end-3 c = mag_part (c.check_with_betas-job.ensures.ready c.if-refused-ne0.false).written
+slice_bounds-store_house_job-end-3 c = mag_part c.in_ok-job.ensures.ready.written
 
 pub slice_bounds-bits-end-2 : goal.slice_bounds-bits-end-2
-slice_bounds-bits-end-2 c = front_fits c.number_free_edges-free.new.bits _ ((let it : length c.number_free_edges-free.new.bits ≡ c.check_with_betas-job.result.edges = c.number_free_edges-free.auto.bits ∙ length-take-le _ _ (c.check_with_betas-job.ensures.ready c.if-refused-ne0.false).few-edges in it))
+slice_bounds-bits-end-2 c =
+    let f = c.number_free_edges-free in
+    front_fits f.new.bits _ (f.auto.bits ∙ length-take-le _ _ c.in_ok-job.ensures.ready.few-edges)
 
 pub slice_bounds-store_house_job-end-4 : goal.slice_bounds-store_house_job-end-4
-slice_bounds-store_house_job-end-4 c = sym (length-take-le _ _ (front_fits c.number_free_edges-free.new.bits _ ((let it : length c.number_free_edges-free.new.bits ≡ c.check_with_betas-job.result.edges = c.number_free_edges-free.auto.bits ∙ length-take-le _ _ (c.check_with_betas-job.ensures.ready c.if-refused-ne0.false).few-edges in it))))
+slice_bounds-store_house_job-end-4 c =
+    let f = c.number_free_edges-free in
+    sym (length-take-le _ _ (front_fits f.new.bits _ (f.auto.bits ∙ length-take-le _ _ c.in_ok-job.ensures.ready.few-edges)))
 
 pub store_house_job-requires : goal.store_house_job-requires
 store_house_job-requires c =
-    let p = (let it : (let a = c.args in
-    let k = c.check_with_betas-job in
-    let wanted = c.stored_count.result in
-    HousePassed (arranged c.takes_less-less.result) a.n k.result.window (take k.result.edges k.new.early) (take k.result.edges k.new.late) a.us.now a.vs.now (take k.result.edges k.new.mag) a.betas.now (length a.work.now)
-    × (misfits wanted (length a.stored.now) (length a.stored.now) ≡ false) × (c.number_free_edges-free.result ≤ 24)) = let a = c.args in
-    let k = c.check_with_betas-job.ensures in
-    let v = c.if-refused-ne0.false in
-    let wanted = c.stored_count.result in
-    all-house-passed (k.ready v) a.betas.now a.caller _ _ most_stored (misfits wanted (length a.stored.now) (length a.stored.now)) (length a.work.now) _ (k.betas_pass v).few c.check_house_enumeration-unfit.ensures c.if-unfit-ne0.false in it) in
-    let f = c.number_free_edges-free in (
-      p.0,
-      f.ensures.0,
-      omega (arith, p.2),
-      front-is f.new.bits _ ((let it : length c.number_free_edges-free.new.bits ≡ c.check_with_betas-job.result.edges = c.number_free_edges-free.auto.bits ∙ length-take-le _ _ (c.check_with_betas-job.ensures.ready c.if-refused-ne0.false).few-edges in it)) ∙ f.ensures.1,
-      (let it : length c.args.stored.now ≡ sums ((let it : Given = let a = c.args in house_given a.n a.floor a.a.now a.b.now a.m.now a.us.now a.vs.now a.betas.now a.manner a.arrangement a.caller in it)) * 2 ^ c.number_free_edges-free.result = let n = length c.args.stored.now in
-          let w = c.stored_count in
-          (fits_both w.result n n ((let it : (let a = c.args in
-          let k = c.check_with_betas-job in
-          let wanted = c.stored_count.result in
-          HousePassed (arranged c.takes_less-less.result) a.n k.result.window (take k.result.edges k.new.early) (take k.result.edges k.new.late) a.us.now a.vs.now (take k.result.edges k.new.mag) a.betas.now (length a.work.now)
-          × (misfits wanted (length a.stored.now) (length a.stored.now) ≡ false) × (c.number_free_edges-free.result ≤ 24)) = let a = c.args in
-          let k = c.check_with_betas-job.ensures in
-          let v = c.if-refused-ne0.false in
-          let wanted = c.stored_count.result in
-          all-house-passed (k.ready v) a.betas.now a.caller _ _ most_stored (misfits wanted (length a.stored.now) (length a.stored.now)) (length a.work.now) _ (k.betas_pass v).few c.check_house_enumeration-unfit.ensures c.if-unfit-ne0.false in it)).1).0 ∙ w.ensures ((let it : (let a = c.args in
-          let k = c.check_with_betas-job in
-          let wanted = c.stored_count.result in
-          HousePassed (arranged c.takes_less-less.result) a.n k.result.window (take k.result.edges k.new.early) (take k.result.edges k.new.late) a.us.now a.vs.now (take k.result.edges k.new.mag) a.betas.now (length a.work.now)
-          × (misfits wanted (length a.stored.now) (length a.stored.now) ≡ false) × (c.number_free_edges-free.result ≤ 24)) = let a = c.args in
-          let k = c.check_with_betas-job.ensures in
-          let v = c.if-refused-ne0.false in
-          let wanted = c.stored_count.result in
-          all-house-passed (k.ready v) a.betas.now a.caller _ _ most_stored (misfits wanted (length a.stored.now) (length a.stored.now)) (length a.work.now) _ (k.betas_pass v).few c.check_house_enumeration-unfit.ensures c.if-unfit-ne0.false in it)).2 in it),
-    )
+    let a = c.args in
+    let G : Given = house_given a.n a.floor a.a.now a.b.now a.m.now a.us.now a.vs.now a.betas.now a.manner a.arrangement a.caller in
+    let j = c.in_ok-job.ensures in
+    let n = length a.stored.now in
+    let w = c.stored_count in
+    let p = all-house-passed j.ready a.betas.now a.caller _ _ most_stored (misfits w.result n n) (length a.work.now) _ j.betas_pass.few c.in_ok-check_house_enumeration.ensures refl in
+    let q : n ≡ sums G * 2 ^ c.number_free_edges-free.result = (fits_both w.result n n p.1).0 ∙ w.ensures p.2 in
+    let f = c.number_free_edges-free in
+    let bits = front-is f.new.bits _ (f.auto.bits ∙ length-take-le _ _ j.ready.few-edges) ∙ f.ensures.1 in
+    (p.0, f.ensures.0, omega (arith, p.2), bits, q)
 
 pub pow2-requires : goal.pow2-requires
-pow2-requires c = omega (
-  arith,
-  ((let it : (let a = c.args in
-      let k = c.check_with_betas-job in
-      let wanted = c.stored_count.result in
-      HousePassed (arranged c.takes_less-less.result) a.n k.result.window (take k.result.edges k.new.early) (take k.result.edges k.new.late) a.us.now a.vs.now (take k.result.edges k.new.mag) a.betas.now (length a.work.now)
-      × (misfits wanted (length a.stored.now) (length a.stored.now) ≡ false) × (c.number_free_edges-free.result ≤ 24)) = let a = c.args in
-      let k = c.check_with_betas-job.ensures in
-      let v = c.if-refused-ne0.false in
-      let wanted = c.stored_count.result in
-      all-house-passed (k.ready v) a.betas.now a.caller _ _ most_stored (misfits wanted (length a.stored.now) (length a.stored.now)) (length a.work.now) _ (k.betas_pass v).few c.check_house_enumeration-unfit.ensures c.if-unfit-ne0.false in it)).2,
-)
+pow2-requires c =
+    let a = c.args in
+    let j = c.in_ok-job.ensures in
+    let n = length a.stored.now in
+    let w = c.stored_count in
+    let p = all-house-passed j.ready a.betas.now a.caller _ _ most_stored (misfits w.result n n) (length a.work.now) _ j.betas_pass.few c.in_ok-check_house_enumeration.ensures refl in
+    omega (arith, p.2)
 
 pub shape_of-stored-then-store_house_job : goal.shape_of-stored-then-store_house_job
 shape_of-stored-then-store_house_job c = c.store_house_job.auto.stored
@@ -169,20 +142,16 @@ shape_of-work-then-store_house_job c = c.store_house_job.auto.work
 
 pub returns-then-store_house_job : goal.returns-then-store_house_job
 returns-then-store_house_job c =
-    let s = c in
-    record {
-      call = once (all-added (all_parts_by ((let it : Given = let a = c.args in house_given a.n a.floor a.a.now a.b.now a.m.now a.us.now a.vs.now a.betas.now a.manner a.arrangement a.caller in it)) house ((let it : List Float = let a = c.args in all_couplings a.betas.now (kept_magnitudes a.a.now a.b.now a.m.now) in it)) ((let it : ℕ = let a = c.args in length a.betas.now * length (kept_magnitudes a.a.now a.b.now a.m.now) in it)) (misfit_stored ((let it : Given = let a = c.args in house_given a.n a.floor a.a.now a.b.now a.m.now a.us.now a.vs.now a.betas.now a.manner a.arrangement a.caller in it)) (length s.args.stored.now)) (length s.args.work.now) most_stored) c.check_with_betas-job.ensures.refusal c.if-refused-ne0.false ((let it : (let s = c in
-          c.check_house_enumeration-unfit.result ≡ lists_of_all_by ((let it : Given = let a = c.args in house_given a.n a.floor a.a.now a.b.now a.m.now a.us.now a.vs.now a.betas.now a.manner a.arrangement a.caller in it)) house ((let it : List Float = let a = c.args in all_couplings a.betas.now (kept_magnitudes a.a.now a.b.now a.m.now) in it)) ((let it : ℕ = let a = c.args in length a.betas.now * length (kept_magnitudes a.a.now a.b.now a.m.now) in it)) (misfit_stored ((let it : Given = let a = c.args in house_given a.n a.floor a.a.now a.b.now a.m.now a.us.now a.vs.now a.betas.now a.manner a.arrangement a.caller in it)) (length s.args.stored.now)) (length s.args.work.now) most_stored) = let a = c.args in
-          let less = c.takes_less-less.ensures in
-          let g = (let it : Given = let a = c.args in house_given a.n a.floor a.a.now a.b.now a.m.now a.us.now a.vs.now a.betas.now a.manner a.arrangement a.caller in it) in
-          let is = (let it : c.number_free_edges-free.result ≡ free ((let it : Given = let a = c.args in house_given a.n a.floor a.a.now a.b.now a.m.now a.us.now a.vs.now a.betas.now a.manner a.arrangement a.caller in it)) = free-kept (c.check_with_betas-job.ensures.ready c.if-refused-ne0.false) _ c.number_free_edges-free.ensures.0 in it) in
-          stored-house-lists (c.check_with_betas-job.ensures.ready c.if-refused-ne0.false) a.betas.now a.caller _ _ less _ _ _ (stored_count (early g) (late g) a.us.now (length a.betas.now)) (length a.stored.now) (length a.work.now) _ is
-          (λ l. c.stored_count.ensures l ∙ ap (λ (i : ℕ). sums g * 2 ^ i) is) c.check_house_enumeration-unfit.ensures in it)) c.if-unfit-ne0.false ((let it : (let s = c in
-          let t = c.store_house_job in
-          Finished (unsound_all ((let it : Given = let a = c.args in house_given a.n a.floor a.a.now a.b.now a.m.now a.us.now a.vs.now a.betas.now a.manner a.arrangement a.caller in it))) (correlations_of_all ((let it : Given = let a = c.args in house_given a.n a.floor a.a.now a.b.now a.m.now a.us.now a.vs.now a.betas.now a.manner a.arrangement a.caller in it))) (correlations_of_all ((let it : Given = let a = c.args in house_given a.n a.floor a.a.now a.b.now a.m.now a.us.now a.vs.now a.betas.now a.manner a.arrangement a.caller in it))) (sums ((let it : Given = let a = c.args in house_given a.n a.floor a.a.now a.b.now a.m.now a.us.now a.vs.now a.betas.now a.manner a.arrangement a.caller in it)) * 2 ^ c.number_free_edges-free.result) (end ((let it : Given = let a = c.args in house_given a.n a.floor a.a.now a.b.now a.m.now a.us.now a.vs.now a.betas.now a.manner a.arrangement a.caller in it))) t.result t.new.stored t.new.stored s.args.work.now t.new.work) = let a = c.args in
-          let less = c.takes_less-less.ensures in
-          stored-housed (c.check_with_betas-job.ensures.ready c.if-refused-ne0.false) a.betas.now c.is_elementwise-elementwise.ensures less c.store_house_job.ensures in it)) c.if-store_house_job.true c.pow2.result (c.pow2.ensures ∙ ap (λ (i : ℕ). 2 ^ i) ((let it : c.number_free_edges-free.result ≡ free ((let it : Given = let a = c.args in house_given a.n a.floor a.a.now a.b.now a.m.now a.us.now a.vs.now a.betas.now a.manner a.arrangement a.caller in it)) = free-kept (c.check_with_betas-job.ensures.ready c.if-refused-ne0.false) _ c.number_free_edges-free.ensures.0 in it))));
-    }
+    let a = c.args in
+    let G : Given = house_given a.n a.floor a.a.now a.b.now a.m.now a.us.now a.vs.now a.betas.now a.manner a.arrangement a.caller in
+    let M : Bool = misfit_stored G (length a.stored.now) in
+    let j = c.in_ok-job.ensures in
+    let is = free-kept j.ready _ c.number_free_edges-free.ensures.0 in
+    let listed =
+    stored-house-lists j.ready a.betas.now a.caller _ _ c.takes_less-less.ensures _ _ _ (stored_count (early G) (late G) a.us.now (length a.betas.now)) (length a.stored.now) (length a.work.now) _ is
+    (λ l. c.stored_count.ensures l ∙ ap (λ (i : ℕ). sums G * 2 ^ i) is) c.in_ok-check_house_enumeration.ensures in
+    let found = stored-housed j.ready a.betas.now c.is_elementwise-elementwise.ensures c.takes_less-less.ensures c.store_house_job.ensures in
+    record { call = once (all-added (all_parts_by G house (all_couplings a.betas.now (kept_magnitudes a.a.now a.b.now a.m.now)) (length a.betas.now * length (kept_magnitudes a.a.now a.b.now a.m.now)) M (length a.work.now) most_stored) j.refusal listed found c.if-store_house_job.true c.pow2.result (c.pow2.ensures ∙ ap (λ (i : ℕ). 2 ^ i) is)) }
 
 pub shape_of-stored : goal.shape_of-stored
 shape_of-stored c = c.store_house_job.auto.stored
@@ -192,36 +161,17 @@ shape_of-work c = c.store_house_job.auto.work
 
 pub returns : goal.returns
 returns c =
-    let s = c in
-    let q = (let it : length c.args.stored.now ≡ sums ((let it : Given = let a = c.args in house_given a.n a.floor a.a.now a.b.now a.m.now a.us.now a.vs.now a.betas.now a.manner a.arrangement a.caller in it)) * 2 ^ c.number_free_edges-free.result = let n = length c.args.stored.now in
+    let a = c.args in
+    let G : Given = house_given a.n a.floor a.a.now a.b.now a.m.now a.us.now a.vs.now a.betas.now a.manner a.arrangement a.caller in
+    let M : Bool = misfit_stored G (length a.stored.now) in
+    let j = c.in_ok-job.ensures in
+    let n = length a.stored.now in
     let w = c.stored_count in
-    (fits_both w.result n n ((let it : (let a = c.args in
-    let k = c.check_with_betas-job in
-    let wanted = c.stored_count.result in
-    HousePassed (arranged c.takes_less-less.result) a.n k.result.window (take k.result.edges k.new.early) (take k.result.edges k.new.late) a.us.now a.vs.now (take k.result.edges k.new.mag) a.betas.now (length a.work.now)
-    × (misfits wanted (length a.stored.now) (length a.stored.now) ≡ false) × (c.number_free_edges-free.result ≤ 24)) = let a = c.args in
-    let k = c.check_with_betas-job.ensures in
-    let v = c.if-refused-ne0.false in
-    let wanted = c.stored_count.result in
-    all-house-passed (k.ready v) a.betas.now a.caller _ _ most_stored (misfits wanted (length a.stored.now) (length a.stored.now)) (length a.work.now) _ (k.betas_pass v).few c.check_house_enumeration-unfit.ensures c.if-unfit-ne0.false in it)).1).0 ∙ w.ensures ((let it : (let a = c.args in
-    let k = c.check_with_betas-job in
-    let wanted = c.stored_count.result in
-    HousePassed (arranged c.takes_less-less.result) a.n k.result.window (take k.result.edges k.new.early) (take k.result.edges k.new.late) a.us.now a.vs.now (take k.result.edges k.new.mag) a.betas.now (length a.work.now)
-    × (misfits wanted (length a.stored.now) (length a.stored.now) ≡ false) × (c.number_free_edges-free.result ≤ 24)) = let a = c.args in
-    let k = c.check_with_betas-job.ensures in
-    let v = c.if-refused-ne0.false in
-    let wanted = c.stored_count.result in
-    all-house-passed (k.ready v) a.betas.now a.caller _ _ most_stored (misfits wanted (length a.stored.now) (length a.stored.now)) (length a.work.now) _ (k.betas_pass v).few c.check_house_enumeration-unfit.ensures c.if-unfit-ne0.false in it)).2 in it) in
-    record {
-      call = once (refused-14 (all_parts_by ((let it : Given = let a = c.args in house_given a.n a.floor a.a.now a.b.now a.m.now a.us.now a.vs.now a.betas.now a.manner a.arrangement a.caller in it)) house ((let it : List Float = let a = c.args in all_couplings a.betas.now (kept_magnitudes a.a.now a.b.now a.m.now) in it)) ((let it : ℕ = let a = c.args in length a.betas.now * length (kept_magnitudes a.a.now a.b.now a.m.now) in it)) (misfit_stored ((let it : Given = let a = c.args in house_given a.n a.floor a.a.now a.b.now a.m.now a.us.now a.vs.now a.betas.now a.manner a.arrangement a.caller in it)) (length s.args.stored.now)) (length s.args.work.now) most_stored) c.check_with_betas-job.ensures.refusal c.if-refused-ne0.false ((let it : (let s = c in
-          c.check_house_enumeration-unfit.result ≡ lists_of_all_by ((let it : Given = let a = c.args in house_given a.n a.floor a.a.now a.b.now a.m.now a.us.now a.vs.now a.betas.now a.manner a.arrangement a.caller in it)) house ((let it : List Float = let a = c.args in all_couplings a.betas.now (kept_magnitudes a.a.now a.b.now a.m.now) in it)) ((let it : ℕ = let a = c.args in length a.betas.now * length (kept_magnitudes a.a.now a.b.now a.m.now) in it)) (misfit_stored ((let it : Given = let a = c.args in house_given a.n a.floor a.a.now a.b.now a.m.now a.us.now a.vs.now a.betas.now a.manner a.arrangement a.caller in it)) (length s.args.stored.now)) (length s.args.work.now) most_stored) = let a = c.args in
-          let less = c.takes_less-less.ensures in
-          let g = (let it : Given = let a = c.args in house_given a.n a.floor a.a.now a.b.now a.m.now a.us.now a.vs.now a.betas.now a.manner a.arrangement a.caller in it) in
-          let is = (let it : c.number_free_edges-free.result ≡ free ((let it : Given = let a = c.args in house_given a.n a.floor a.a.now a.b.now a.m.now a.us.now a.vs.now a.betas.now a.manner a.arrangement a.caller in it)) = free-kept (c.check_with_betas-job.ensures.ready c.if-refused-ne0.false) _ c.number_free_edges-free.ensures.0 in it) in
-          stored-house-lists (c.check_with_betas-job.ensures.ready c.if-refused-ne0.false) a.betas.now a.caller _ _ less _ _ _ (stored_count (early g) (late g) a.us.now (length a.betas.now)) (length a.stored.now) (length a.work.now) _ is
-          (λ l. c.stored_count.ensures l ∙ ap (λ (i : ℕ). sums g * 2 ^ i) is) c.check_house_enumeration-unfit.ensures in it)) c.if-unfit-ne0.false ((let it : (let s = c in
-          let t = c.store_house_job in
-          Finished (unsound_all ((let it : Given = let a = c.args in house_given a.n a.floor a.a.now a.b.now a.m.now a.us.now a.vs.now a.betas.now a.manner a.arrangement a.caller in it))) (correlations_of_all ((let it : Given = let a = c.args in house_given a.n a.floor a.a.now a.b.now a.m.now a.us.now a.vs.now a.betas.now a.manner a.arrangement a.caller in it))) (correlations_of_all ((let it : Given = let a = c.args in house_given a.n a.floor a.a.now a.b.now a.m.now a.us.now a.vs.now a.betas.now a.manner a.arrangement a.caller in it))) (sums ((let it : Given = let a = c.args in house_given a.n a.floor a.a.now a.b.now a.m.now a.us.now a.vs.now a.betas.now a.manner a.arrangement a.caller in it)) * 2 ^ c.number_free_edges-free.result) (end ((let it : Given = let a = c.args in house_given a.n a.floor a.a.now a.b.now a.m.now a.us.now a.vs.now a.betas.now a.manner a.arrangement a.caller in it))) t.result t.new.stored t.new.stored s.args.work.now t.new.work) = let a = c.args in
-          let less = c.takes_less-less.ensures in
-          stored-housed (c.check_with_betas-job.ensures.ready c.if-refused-ne0.false) a.betas.now c.is_elementwise-elementwise.ensures less c.store_house_job.ensures in it)) c.if-store_house_job.false q q);
-    }
+    let p = all-house-passed j.ready a.betas.now a.caller _ _ most_stored (misfits w.result n n) (length a.work.now) _ j.betas_pass.few c.in_ok-check_house_enumeration.ensures refl in
+    let q : n ≡ sums G * 2 ^ c.number_free_edges-free.result = (fits_both w.result n n p.1).0 ∙ w.ensures p.2 in
+    let is = free-kept j.ready _ c.number_free_edges-free.ensures.0 in
+    let listed =
+    stored-house-lists j.ready a.betas.now a.caller _ _ c.takes_less-less.ensures _ _ _ (stored_count (early G) (late G) a.us.now (length a.betas.now)) (length a.stored.now) (length a.work.now) _ is
+    (λ l. c.stored_count.ensures l ∙ ap (λ (i : ℕ). sums G * 2 ^ i) is) c.in_ok-check_house_enumeration.ensures in
+    let found = stored-housed j.ready a.betas.now c.is_elementwise-elementwise.ensures c.takes_less-less.ensures c.store_house_job.ensures in
+    record { call = once (refused-14 (all_parts_by G house (all_couplings a.betas.now (kept_magnitudes a.a.now a.b.now a.m.now)) (length a.betas.now * length (kept_magnitudes a.a.now a.b.now a.m.now)) M (length a.work.now) most_stored) j.refusal listed found c.if-store_house_job.false q q) }

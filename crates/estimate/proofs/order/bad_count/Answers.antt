@@ -5,5 +5,5 @@ use Rattle.estimate.proofs.order.bad_count.Goals as goal
 pub returns-then-count-eq0 : goal.returns-then-count-eq0
 returns-then-count-eq0 c = rw (eq-eqb c.args.count 0 c.if-count-eq0.true)
 
-pub returns : goal.returns
-returns c = rw (ne_eqb c.args.count 0 c.if-count-eq0.false)
+pub returns-else-count-eq0 : goal.returns-else-count-eq0
+returns-else-count-eq0 c = rw (ne_eqb c.args.count 0 c.if-count-eq0.false)

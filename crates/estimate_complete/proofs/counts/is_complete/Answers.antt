@@ -18,12 +18,12 @@ pub returns-then-count-power : goal.returns-then-count-power
 returns-then-count-power c =
     let count = c.args.count in
     let l = c.loop-free in
-    hit (λ k. eqb count (2 ^ k)) (suc most_counted) l.free (omega arith) true (sym (eq-eqb count (2 ^ l.free) (c.if-count-power.true ∙ l.invariant.1))) refl
+    hit (λ k. eqb count (2 ^ k)) (suc most_counted) l._free (omega arith) true (sym (eq-eqb count (2 ^ l._free) (c.if-count-power.true ∙ l.invariant.1))) refl
 
 pub overflow_mul-power : goal.overflow_mul-power
 overflow_mul-power c =
     let l = c.loop-free in
-    let h : l.free ≤ 34 = omega arith in
+    let h : l._free ≤ 34 = omega arith in
     let m = pow_mono h in
     record { fits = rw l.invariant.1 (omega arith) }
 
@@ -33,11 +33,11 @@ loop-free-preserved c =
     let l = c.loop-free in (
       omega arith,
       rw (l.invariant.1, add-one, pow-suc) (omega arith),
-      miss (λ k. eqb count (2 ^ k)) l.free l.invariant.2 false (sym (ne_eqb count (2 ^ l.free) (λ e. c.if-count-power.false (e ∙ sym l.invariant.1)))) refl,
+      miss (λ k. eqb count (2 ^ k)) l._free l.invariant.2 false (sym (ne_eqb count (2 ^ l._free) (λ e. c.if-count-power.false (e ∙ sym l.invariant.1)))) refl,
     )
 
 pub returns : goal.returns
 returns c =
     let count = c.args.count in
     let l = c.loop-free in
-    none (λ k. eqb count (2 ^ k)) (suc most_counted) l.free l.invariant.2 (omega arith) l.invariant.0
+    none (λ k. eqb count (2 ^ k)) (suc most_counted) l._free l.invariant.2 (omega arith) l.invariant.0

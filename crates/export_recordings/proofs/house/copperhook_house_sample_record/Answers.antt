@@ -6,4 +6,4 @@ use Rattle.export_recordings.proofs.house.copperhook_house_sample_record.Goals a
 pub returns : goal.returns
 returns c =
     let asked = c.options_numbered-asked.ensures in
-    rw (← (ap (λ (o : Options). o.manner) asked), ← (ap (λ (o : Options). o.arrangement) asked)) c.house_sample_record.ensures
+    rw (c.refused.ensures, ← (ap (λ (o : Options). o.manner) asked), ← (ap (λ (o : Options). o.arrangement) asked)) c.house_sample_record-answer.ensures

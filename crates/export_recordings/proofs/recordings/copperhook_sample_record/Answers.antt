@@ -6,4 +6,4 @@ use Rattle.export_recordings.proofs.recordings.copperhook_sample_record.Goals as
 pub returns : goal.returns
 returns c =
     let asked = c.options_numbered-asked.ensures in
-    rw (← (ap (λ (o : Options). o.manner) asked), ← (ap (λ (o : Options). o.arrangement) asked)) c.sample_record.ensures
+    rw (c.refused.ensures, ← (ap (λ (o : Options). o.manner) asked), ← (ap (λ (o : Options). o.arrangement) asked)) c.sample_record-answer.ensures

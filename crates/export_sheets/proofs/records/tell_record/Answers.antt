@@ -1,36 +1,57 @@
 -- The parts of each kind.
+use mathlib.Core.Path.{refl}
 use native.Mathlib.Omega.{arith}
 use Rattle.export_sheets.proofs.records.tell_record.Goals as goal
 
 pub overflow_add-next : goal.overflow_add-next
-overflow_add-next c = let e = c.in-Size.is in let s = c in omega (arith, rw e at s.requires)
+overflow_add-next c =
+    let at = c.in-Ok-Size in
+    omega (arith, rw (at.is, rw at.is at at.field-0-is) at c.requires)
 
-pub overflow_add-next-in-Edge : goal.overflow_add-next-in-Edge
-overflow_add-next-in-Edge c = let e = c.in-Edge.is in let s = c in omega (arith, rw e at s.requires)
+pub overflow_add-next-in-Ok-Edge : goal.overflow_add-next-in-Ok-Edge
+overflow_add-next-in-Ok-Edge c =
+    let at = c.in-Ok-Edge in
+    omega (arith, rw (at.is, rw at.is at at.field-0-is) at c.requires)
 
-pub overflow_add-next-in-Beta : goal.overflow_add-next-in-Beta
-overflow_add-next-in-Beta c = let e = c.in-Beta.is in let s = c in omega (arith, rw e at s.requires)
+pub overflow_add-next-in-Ok-Beta : goal.overflow_add-next-in-Ok-Beta
+overflow_add-next-in-Ok-Beta c =
+    let at = c.in-Ok-Beta in
+    omega (arith, rw (at.is, rw at.is at at.field-0-is) at c.requires)
 
-pub overflow_add-next-in-Pair : goal.overflow_add-next-in-Pair
-overflow_add-next-in-Pair c = let e = c.in-Pair.is in let s = c in omega (arith, rw e at s.requires)
+pub overflow_add-next-in-Ok-Pair : goal.overflow_add-next-in-Ok-Pair
+overflow_add-next-in-Ok-Pair c =
+    let at = c.in-Ok-Pair in
+    omega (arith, rw (at.is, rw at.is at at.field-0-is) at c.requires)
 
-pub overflow_add-next-in-End : goal.overflow_add-next-in-End
-overflow_add-next-in-End c = let e = c.in-End.is in let s = c in omega (arith, rw e at s.requires)
+pub overflow_add-next-in-Ok-End : goal.overflow_add-next-in-Ok-End
+overflow_add-next-in-Ok-End c =
+    let at = c.in-Ok-End in
+    omega (arith, rw (at.is, rw at.is at at.field-0-is) at c.requires)
 
-pub returns-in-Size : goal.returns-in-Size
-returns-in-Size c = let e = c.in-Size.is in record { number = rw e; kinds = rw e; nexts = rw e; firsts = rw e; seconds = rw e; values = rw e }
+pub returns-in-Ok-Size : goal.returns-in-Ok-Size
+returns-in-Ok-Size c =
+    let at = c.in-Ok-Size in
+    rw (at.is, rw at.is at at.field-0-is) record { number = refl; kinds = refl; nexts = refl; firsts = refl; seconds = refl; values = refl }
 
-pub returns-in-Edge : goal.returns-in-Edge
-returns-in-Edge c = let e = c.in-Edge.is in record { number = rw e; kinds = rw e; nexts = rw e; firsts = rw e; seconds = rw e; values = rw e }
+pub returns-in-Ok-Edge : goal.returns-in-Ok-Edge
+returns-in-Ok-Edge c =
+    let at = c.in-Ok-Edge in
+    rw (at.is, rw at.is at at.field-0-is) record { number = refl; kinds = refl; nexts = refl; firsts = refl; seconds = refl; values = refl }
 
-pub returns-in-Beta : goal.returns-in-Beta
-returns-in-Beta c = let e = c.in-Beta.is in record { number = rw e; kinds = rw e; nexts = rw e; firsts = rw e; seconds = rw e; values = rw e }
+pub returns-in-Ok-Beta : goal.returns-in-Ok-Beta
+returns-in-Ok-Beta c =
+    let at = c.in-Ok-Beta in
+    rw (at.is, rw at.is at at.field-0-is) record { number = refl; kinds = refl; nexts = refl; firsts = refl; seconds = refl; values = refl }
 
-pub returns-in-Pair : goal.returns-in-Pair
-returns-in-Pair c = let e = c.in-Pair.is in record { number = rw e; kinds = rw e; nexts = rw e; firsts = rw e; seconds = rw e; values = rw e }
+pub returns-in-Ok-Pair : goal.returns-in-Ok-Pair
+returns-in-Ok-Pair c =
+    let at = c.in-Ok-Pair in
+    rw (at.is, rw at.is at at.field-0-is) record { number = refl; kinds = refl; nexts = refl; firsts = refl; seconds = refl; values = refl }
 
-pub returns-in-End : goal.returns-in-End
-returns-in-End c = let e = c.in-End.is in record { number = rw e; kinds = rw e; nexts = rw e; firsts = rw e; seconds = rw e; values = rw e }
+pub returns-in-Ok-End : goal.returns-in-Ok-End
+returns-in-Ok-End c =
+    let at = c.in-Ok-End in
+    rw (at.is, rw at.is at at.field-0-is) record { number = refl; kinds = refl; nexts = refl; firsts = refl; seconds = refl; values = refl }
 
-pub returns-in-Refused : goal.returns-in-Refused
-returns-in-Refused c = let e = c.in-Refused.is in record { number = rw e; kinds = rw e; nexts = rw e; firsts = rw e; seconds = rw e; values = rw e }
+pub returns-in-Err : goal.returns-in-Err
+returns-in-Err c = rw c.in-Err.is record { number = c.number.ensures; kinds = refl; nexts = refl; firsts = refl; seconds = refl; values = refl }

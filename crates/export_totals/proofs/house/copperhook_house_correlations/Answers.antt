@@ -7,10 +7,10 @@ use Rattle.export_totals.proofs.house.copperhook_house_correlations.Goals as goa
 pub options_numbered-asked-requires : goal.options_numbered-asked-requires
 options_numbered-asked-requires c = search rules
 
-pub house_correlations-requires : goal.house_correlations-requires
-house_correlations-requires c = search rules
+pub house_correlations-answer-requires : goal.house_correlations-answer-requires
+house_correlations-answer-requires c = search rules
 
 pub returns : goal.returns
 returns c =
     let asked = c.options_numbered-asked.ensures in
-    rw (← (ap (λ (o : Options). o.manner) asked), ← (ap (λ (o : Options). o.arrangement) asked), ← (ap (λ (o : Options). o.caller) asked)) c.house_correlations.ensures
+    rw (c.refused.ensures, ← (ap (λ (o : Options). o.manner) asked), ← (ap (λ (o : Options). o.arrangement) asked), ← (ap (λ (o : Options). o.caller) asked)) c.house_correlations-answer.ensures

@@ -1,6 +1,5 @@
 use Rattle.list_laws.proofs.Laws.Search.{start, hit, miss, none}
 use native.Mathlib.Omega.{arith}
-use mathlib.Core.Bool.{false}
 use Rattle.graph_checks.proofs.lists.bad_edges.Goals as goal
 
 pub loop-i-init : goal.loop-i-init

@@ -5,5 +5,5 @@ use Rattle.graph_checks.proofs.lists.bad_vertices.Goals as goal
 pub returns-then-n-eq0 : goal.returns-then-n-eq0
 returns-then-n-eq0 c = simp (eq-eqb _ _ c.if-n-eq0.true)
 
-pub returns : goal.returns
-returns c = simp (ne_eqb _ _ c.if-n-eq0.false)
+pub returns-else-n-eq0 : goal.returns-else-n-eq0
+returns-else-n-eq0 c = simp (ne_eqb _ _ c.if-n-eq0.false)

@@ -2,7 +2,6 @@ use Rattle.refusals.proofs.Laws.Dropping.{dropping-length}
 use Rattle.refusals.specs.Request.{oversized}
 use Rattle.list_laws.proofs.Laws.Search.{start, hit, miss, none}
 use native.Mathlib.Omega.{arith}
-use mathlib.Core.Bool.{false}
 use mathlib.Core.Path.{ap, ◌∙◌}
 use Rattle.graph_checks.proofs.lists.some_oversized.Goals as goal
 

@@ -3,13 +3,10 @@ use Rattle.coupling_grid.specs.Grid.{off_grid}
 use Rattle.list_laws.specs.Search.{some}
 use lib.Ieee.{nan, binary64, mul}
 use lib.ListN.{length, get_or}
-use Prim.Native.Nat.{◌-◌, ◌≤◌}
+use Prim.Native.Nat.{◌≤◌}
 use mathlib.Core.Bool.{false}
 use mathlib.Core.Path.{◌≡◌}
 use Rattle.house_checks.proofs.couplings.off_products.Given as goal
 
-abbrev pub invariant-loop-e : goal.invariant-loop-e
-invariant-loop-e l = (some (λ i. off_grid (mul binary64 l.beta (get_or l.mag i nan))) l.e ≡ false) × (l.e ≤ length l.mag)
-
-abbrev pub decreases-loop-e : goal.decreases-loop-e
-decreases-loop-e l = length l.mag - l.e
+abbrev pub invariant-loop-m : goal.invariant-loop-m
+invariant-loop-m l = (some (λ i. off_grid (mul binary64 l.beta (get_or l.mag i nan))) l.m-index ≡ false) × (l.m-index ≤ length l.mag)

@@ -2,6 +2,7 @@
 use Rattle.job_checks.proofs.Checking.{edges-of, kept-refused, kept-passed}
 use Rattle.refusals.proofs.Laws.First.{here, past, told}
 use Rattle.limits.specs.Limits.{most_window}
+use Rattle.refusals.specs.declared.Refusal.TheVariants as R
 use borrow.Author.Tests.{lt-ltb, le-ltb}
 use mathlib.Core.Path.{refl}
 use Rattle.job_checks.proofs.job.check_kept.Goals as goal
@@ -9,12 +10,12 @@ use Rattle.job_checks.proofs.job.check_kept.Goals as goal
 pub returns-then-window-gt-WINDOW : goal.returns-then-window-gt-WINDOW
 returns-then-window-gt-WINDOW c =
     let found = c.window_of-window.ensures in
-    kept-refused 5 _ c.refused.ensures found (here _ _ _ (lt-ltb most_window _ c.if-window-gt-WINDOW.true))
+    kept-refused R.Window _ found (here _ _ _ (lt-ltb most_window _ c.if-window-gt-WINDOW.true))
 
 pub returns-then-over_limit : goal.returns-then-over_limit
 returns-then-over_limit c =
     let narrow = c in
-    kept-refused 21 _ c.refused-then-over_limit.ensures narrow.window_of-window.ensures
+    kept-refused R.TesterLimit _ narrow.window_of-window.ensures
     (past _ _ _ _ (le-ltb most_window _ narrow.if-window-gt-WINDOW.false) (here _ _ _ (told c.over_limit.ensures c.if-over_limit.true)))
 
 pub too_many_near-requires : goal.too_many_near-requires
@@ -27,7 +28,7 @@ pub returns-then-too_many_near : goal.returns-then-too_many_near
 returns-then-too_many_near c =
     let within = c in
     let narrow = within in
-    kept-refused 6 _ c.refused-then-too_many_near.ensures narrow.window_of-window.ensures
+    kept-refused R.BackEdges _ narrow.window_of-window.ensures
     (past _ _ _ _ (le-ltb most_window _ narrow.if-window-gt-WINDOW.false)
     (past _ _ _ _ (told within.over_limit.ensures within.if-over_limit.false)
     (here _ _ _ (told c.too_many_near.ensures c.if-too_many_near.true))))
@@ -37,7 +38,7 @@ returns-then-bad_edges c =
     let near = c in
     let within = near in
     let narrow = within in
-    kept-refused 7 _ c.refused-then-bad_edges.ensures narrow.window_of-window.ensures
+    kept-refused R.PairEnds _ narrow.window_of-window.ensures
     (past _ _ _ _ (le-ltb most_window _ narrow.if-window-gt-WINDOW.false)
     (past _ _ _ _ (told within.over_limit.ensures within.if-over_limit.false)
     (past _ _ _ _ (told near.too_many_near.ensures near.if-too_many_near.false)

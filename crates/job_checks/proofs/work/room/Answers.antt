@@ -1,17 +1,19 @@
 -- A job that no check refuses has the room of its window and its kept edges.
-use Rattle.refusals.proofs.Laws.Answers.{refused-is}
+use Rattle.std.proofs.lemmas.Result.{err_from_is_err_and}
 use Rattle.job_checks.proofs.Checking.{room-answered}
 use Rattle.job_checks.proofs.work.room.Goals as goal
 
-pub returns-then-refusal-ne0 : goal.returns-then-refusal-ne0
-returns-then-refusal-ne0 c = refused-is _ _ _ c.check_job-job.ensures.refusal c.if-refusal-ne0.true
+pub returns-in_err-job : goal.returns-in_err-job
+returns-in_err-job c =
+    let p = err_from_is_err_and c.from_residual.result c.from_residual.ensures.1 in
+    rw (p.1, p.2) (c.in_err-job.ensures.refusal, tt)
 
 pub room_needed-requires : goal.room_needed-requires
 room_needed-requires c =
-    let job = c.check_job-job.ensures.ready c.if-refusal-ne0.false in
+    let job = c.in_ok-job.ensures.ready in
     (job.pairs, job.edges.few, job.edges.narrow, job.few-edges)
 
 pub returns : goal.returns
 returns c =
-    room-answered c.check_job-job.ensures c.if-refusal-ne0.false _ _ c.takes_less-less.ensures _
+    room-answered c.in_ok-job.ensures _ _ c.takes_less-less.ensures _
     c.room_needed.ensures

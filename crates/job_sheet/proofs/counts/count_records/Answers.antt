@@ -1,39 +1,38 @@
-use mathlib.Core.Path.{sym, ◌∙◌}
+use Rattle.std.proofs.lemmas.Result.{err_from_is_err_and}
+use mathlib.Core.Path.{refl, sym, ap}
 use native.Mathlib.Omega.{arith}
+use Rattle.refusals.proofs.Laws.Answers.{number-not_zero}
+use Rattle.job_sheet.specs.Counts.{SheetCounts}
 use Rattle.job_sheet.proofs.Laws.Records.{accepted, accepted-within}
 use Rattle.job_sheet.proofs.Laws.Counts.{reached-start, stopped_refused, stopped_end, next-reached, next_less}
 use Rattle.job_sheet.proofs.counts.count_records.Goals as goal
 
-pub loop-at-init : goal.loop-at-init
-loop-at-init c = reached-start _
+pub loop-kind-init : goal.loop-kind-init
+loop-kind-init c = reached-start _
 
-pub returns-then-refusal-ne0 : goal.returns-then-refusal-ne0
-returns-then-refusal-ne0 c =
-    let l = c.before.before.before in
-    c.refused.ensures ∙ stopped_refused _ _ l.loop-at.invariant _ c.check_record-refusal.ensures c.if-refusal-ne0.true
+pub returns-in_err-check_record : goal.returns-in_err-check_record
+returns-in_err-check_record c =
+    let p = err_from_is_err_and c.from_residual.result c.from_residual.ensures.1 in
+    rw (p.1, p.2) (ap (λ (s : SheetCounts). s.refusal) (stopped_refused _ _ c.loop-kind.invariant _ c.in_err-check_record.ensures (number-not_zero _)), tt)
 
 pub bounds-sheet-place : goal.bounds-sheet-place
-bounds-sheet-place c = accepted-within _ _ _ (sym c.check_record-refusal.ensures ∙ c.if-refusal-ne0.false)
+bounds-sheet-place c = accepted-within _ _ _ (sym c.in_ok-check_record.ensures)
 
 pub overflow_cast-kind : goal.overflow_cast-kind
-overflow_cast-kind c = omega (arith, c.type_inv.sheet c.loop-at.at.place)
+overflow_cast-kind c = omega (arith, c.type_inv.sheet c.loop-kind.at.place)
 
 pub returns-then-kind-ge5 : goal.returns-then-kind-ge5
 returns-then-kind-ge5 c =
-    let e = c.before.before in
-    stopped_end _ _ e.loop-at.invariant (sym e.check_record-refusal.ensures ∙ e.if-refusal-ne0.false) c.if-kind-ge5.true
+    rw (← (stopped_end _ _ c.loop-kind.invariant (sym c.in_ok-check_record.ensures) c.if-kind-ge5.true)) (refl, refl)
 
 pub read_on-at-requires : goal.read_on-at-requires
 read_on-at-requires c =
-    let e = c.before.before in
-    (e.loop-at.invariant.passed, omega (arith, (accepted _ _ _ (sym e.check_record-refusal.ensures ∙ e.if-refusal-ne0.false)).whole))
+    (c.loop-kind.invariant.passed, omega (arith, (accepted _ _ _ (sym c.in_ok-check_record.ensures)).whole))
 
-pub loop-at-smaller : goal.loop-at-smaller
-loop-at-smaller c =
-    let e = c.before.before.before in
-    next_less _ _ _ c.read_on-at.ensures (sym e.check_record-refusal.ensures ∙ e.if-refusal-ne0.false)
+pub loop-kind-smaller : goal.loop-kind-smaller
+loop-kind-smaller c =
+    next_less _ _ _ c.read_on-at.ensures (sym c.in_ok-check_record.ensures)
 
-pub loop-at-preserved : goal.loop-at-preserved
-loop-at-preserved c =
-    let e = c.before.before.before in
-    next-reached _ _ _ c.read_on-at.ensures (sym e.check_record-refusal.ensures ∙ e.if-refusal-ne0.false) e.loop-at.invariant c.if-kind-ge5.false
+pub loop-kind-preserved : goal.loop-kind-preserved
+loop-kind-preserved c =
+    next-reached _ _ _ c.read_on-at.ensures (sym c.in_ok-check_record.ensures) c.loop-kind.invariant c.if-kind-ge5.false

@@ -1,5 +1,5 @@
 -- The first i records are written.
-use Prim.Native.Nat.{◌-◌, ◌≤◌}
+use Prim.Native.Nat.{◌≤◌}
 use lib.ListN.{length}
 use Rattle.little_endian.specs.Rows.{rows}
 use Rattle.job_sheet_put.specs.Behind.{Appended, raw_beta}
@@ -7,6 +7,3 @@ use Rattle.job_sheet_put.proofs.rows.put_betas.Given as goal
 
 abbrev pub invariant-loop-i : goal.invariant-loop-i
 invariant-loop-i l = (l.i ≤ length l.betas) × Appended l.place (rows (raw_beta l.betas) l.i) l.initial.sheet l.sheet
-
-abbrev pub decreases-loop-i : goal.decreases-loop-i
-decreases-loop-i l = length l.betas - l.i

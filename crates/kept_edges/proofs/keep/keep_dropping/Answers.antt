@@ -4,13 +4,12 @@ use lib.ListN.{length}
 use Prim.Native.Nat.{◌<◌}
 use native.Mathlib.Omega.{arith}
 use Rattle.kept_edges.proofs.keep.keep_dropping.Goals as goal
-use Rattle.kept_edges.proofs.keep.keep_dropping.Goals.{Then-w}
+use Rattle.kept_edges.proofs.keep.keep_dropping.Goals.{Then-w, then-w, else-w}
 
 -- a kept edge has room in each buffer
 roomy : (c : Then-w) → let l = c.loop-i in (l.k < length l.early) × (l.k < length l.late) × (l.k < length l.mag)
 roomy c =
-    let turn = c.before.before.before.before.before.before.before.before in
-    keep-rooms turn.loop-i.invariant turn.loop-i-test.true (zero_at c.magnitude_dropping-w.ensures (ne_eq _ _ false c.if-w.true))
+    keep-rooms c.loop-i.invariant c.loop-i-test.true (zero_at c.magnitude_dropping-w.ensures (ne_eq _ _ false c.if-w.true))
 
 pub loop-i-init : goal.loop-i-init
 loop-i-init c = keep-none _ _ _ _ _ _ c.requires.2
@@ -36,16 +35,12 @@ bounds-mag-k c = omega (arith, (roomy c).2)
 pub overflow_add-k : goal.overflow_add-k
 overflow_add-k c = omega (arith, (roomy c).0)
 
-pub loop-i-preserved-then-w : goal.loop-i-preserved-then-w
-loop-i-preserved-then-w c =
-    let turn = c.before.before.before.before.before.before.before.before in
-    keep_it turn.loop-i.invariant turn.loop-i-test.true (zero_at c.magnitude_dropping-w.ensures (ne_eq _ _ false c.if-w.true)) _ _ _
-    c.smaller-x.ensures c.larger-y.ensures c.magnitude_dropping-w.ensures
-
 pub loop-i-preserved : goal.loop-i-preserved
 loop-i-preserved c =
-    let turn = c.before.before.before.before.before.before.before.before in
-    keep_not turn.loop-i.invariant turn.loop-i-test.true (zero_at c.magnitude_dropping-w.ensures (ne_eq _ _ true c.if-w.false))
+    elim c.if-w.branch [
+      | then-w w ↦ rw (w.early-is, w.late-is, w.mag-is, w.k-is) (keep_it c.loop-i.invariant c.loop-i-test.true (zero_at c.magnitude_dropping-w.ensures (ne_eq _ _ false w.if-w.true)) _ _ _ c.smaller-x.ensures c.larger-y.ensures c.magnitude_dropping-w.ensures)
+      | else-w w ↦ rw (w.early-is, w.late-is, w.mag-is, w.k-is) (keep_not c.loop-i.invariant c.loop-i-test.true (zero_at c.magnitude_dropping-w.ensures (ne_eq _ _ true w.if-w.false)))
+    ]
 
 pub returns : goal.returns
 returns c = keep_all c.loop-i.invariant c.loop-i-test.false

@@ -5,16 +5,15 @@ use lib.ListN.{length}
 use Prim.Native.Nat.{◌<◌}
 use native.Mathlib.Omega.{arith}
 use Rattle.kept_edges.proofs.keep.keep_places.Goals as goal
-use Rattle.kept_edges.proofs.keep.keep_places.Goals.{Then-m-place}
+use Rattle.kept_edges.proofs.keep.keep_places.Goals.{Then-w, then-w, else-w}
 
 -- a kept edge's place has room
-roomy : (c : Then-m-place) → let l = c.loop-i in l.k < length l.raw
+roomy : (c : Then-w) → let l = c.loop-place in l.k < length l.raw
 roomy c =
-    let turn = c.before.before in
-    place-room turn.loop-i.invariant turn.loop-i-test.true (ne_eq _ _ false c.if-m-place.true)
+    place-room c.loop-place.invariant c.loop-place-test.true (ne_eq _ _ false c.if-w.true)
 
-pub loop-i-init : goal.loop-i-init
-loop-i-init c = place_none _ _ c.requires
+pub loop-place-init : goal.loop-place-init
+loop-place-init c = place_none _ _ c.requires
 
 pub offset_bounds-raw-k : goal.offset_bounds-raw-k
 offset_bounds-raw-k c = omega (arith, roomy c)
@@ -25,11 +24,12 @@ bounds-raw-k c = omega (arith, roomy c)
 pub overflow_add-k : goal.overflow_add-k
 overflow_add-k c = omega (arith, roomy c)
 
-pub loop-i-preserved-then-m-place : goal.loop-i-preserved-then-m-place
-loop-i-preserved-then-m-place c = let turn = c.before.before in place_it turn.loop-i.invariant turn.loop-i-test.true (ne_eq _ _ false c.if-m-place.true)
-
-pub loop-i-preserved : goal.loop-i-preserved
-loop-i-preserved c = let turn = c.before.before in place_not turn.loop-i.invariant turn.loop-i-test.true (ne_eq _ _ true c.if-m-place.false)
+pub loop-place-preserved : goal.loop-place-preserved
+loop-place-preserved c =
+    elim c.if-w.branch [
+      | then-w w ↦ rw (w.raw-is, w.k-is) (place_it c.loop-place.invariant c.loop-place-test.true (ne_eq _ _ false w.if-w.true))
+      | else-w w ↦ rw (w.raw-is, w.k-is) (place_not c.loop-place.invariant c.loop-place-test.true (ne_eq _ _ true w.if-w.false))
+    ]
 
 pub returns : goal.returns
-returns c = place-all c.loop-i.invariant c.loop-i-test.false
+returns c = place-all c.loop-place.invariant c.loop-place-test.false

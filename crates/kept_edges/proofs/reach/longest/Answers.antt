@@ -1,5 +1,4 @@
 use Rattle.transfer_matrix.specs.Job.{longest}
-use Rattle.list_laws.specs.Most as M
 use Rattle.list_laws.proofs.Laws.Most.{most-more, most_zero}
 use lib.ListN.{length}
 use mathlib.Core.Path.{◌≡◌, sym}

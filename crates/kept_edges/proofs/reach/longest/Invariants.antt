@@ -7,6 +7,3 @@ use Rattle.kept_edges.proofs.reach.longest.Given as goal
 
 abbrev pub invariant-loop-e : goal.invariant-loop-e
 invariant-loop-e l = (l.most ≡ M.most (λ f. get_or l.late f 0 - get_or l.early f 0) l.e) × (l.e ≤ length l.early)
-
-abbrev pub decreases-loop-e : goal.decreases-loop-e
-decreases-loop-e l = length l.early - l.e

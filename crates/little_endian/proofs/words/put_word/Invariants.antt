@@ -1,6 +1,6 @@
 -- The first i bytes are written, and what is left of the number is its digits from i on.
 use mathlib.Core.Path.{◌≡◌}
-use Prim.Native.Nat.{ℕ, ◌-◌, ◌/◌, ◌^◌, ◌≤◌}
+use Prim.Native.Nat.{ℕ, ◌/◌, ◌^◌, ◌≤◌}
 use mathlib.Core.List.{List}
 use lib.ListN.{length}
 use Rattle.list_laws.specs.Part.{put}
@@ -8,6 +8,7 @@ use Rattle.little_endian.specs.Words.{bytes_of}
 use Rattle.little_endian.proofs.words.put_word.Given as goal
 
 -- where i bytes are written
+
 pub record Written (bytes₀ : List ℕ) (place x : ℕ) (bytes' : List ℕ) (rest i : ℕ) : Type 0 where
   pub left : rest ≡ x / 256 ^ i
   pub bytes : bytes' ≡ put bytes₀ place (bytes_of i x)
@@ -15,6 +16,3 @@ pub record Written (bytes₀ : List ℕ) (place x : ℕ) (bytes' : List ℕ) (re
 
 abbrev pub invariant-loop-i : goal.invariant-loop-i
 invariant-loop-i l = (l.i ≤ l.width) × Written l.initial.bytes l.place l.x l.bytes l.rest l.i
-
-abbrev pub decreases-loop-i : goal.decreases-loop-i
-decreases-loop-i l = l.width - l.i

@@ -6,6 +6,3 @@ use Rattle.little_endian.proofs.words.word_at.Given as goal
 
 abbrev pub invariant-loop-i : goal.invariant-loop-i
 invariant-loop-i l = (l.i ≤ l.width) × (l.x ≡ word_at l.bytes (l.place + l.i) (l.width - l.i))
-
-abbrev pub decreases-loop-i : goal.decreases-loop-i
-decreases-loop-i l = l.i

@@ -8,6 +8,3 @@ use Rattle.pair_places.proofs.kept.count_marks.Given as goal
 
 abbrev pub invariant-loop-t : goal.invariant-loop-t
 invariant-loop-t l = (l.t ≤ l.n) × (l.c ≡ count (λ u. get_or l.marks u false) l.t)
-
-abbrev pub decreases-loop-t : goal.decreases-loop-t
-decreases-loop-t l = l.n - l.t

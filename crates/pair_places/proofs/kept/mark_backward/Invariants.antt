@@ -8,6 +8,3 @@ use Rattle.pair_places.proofs.kept.mark_backward.Given as goal
 
 abbrev pub invariant-loop-i : goal.invariant-loop-i
 invariant-loop-i l = (l.i ≤ length l.us) × (length l.marks ≡ length l.initial.marks) × Asked l.marks (asks_backward (arranged l.less) l.w l.us l.vs) l.i
-
-abbrev pub decreases-loop-i : goal.decreases-loop-i
-decreases-loop-i l = length l.us - l.i

@@ -9,6 +9,3 @@ use Rattle.pair_places.proofs.kept.number_places.Given as goal
 abbrev pub invariant-loop-t : goal.invariant-loop-t
 invariant-loop-t l =
     (l.t ≤ l.n) × (length l.plan ≡ length l.initial.plan) × Numbered l.initial.plan l.plan (λ u. get_or l.marks u false) l.k l.from l.t l.next
-
-abbrev pub decreases-loop-t : goal.decreases-loop-t
-decreases-loop-t l = l.n - l.t

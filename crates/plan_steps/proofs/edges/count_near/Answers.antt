@@ -1,9 +1,10 @@
-use mathlib.Core.Path.{◌≡◌, refl}
+use mathlib.Core.Path.{◌≡◌, refl, ◌∙◌}
 use Prim.Native.Nat.{ℕ}
 use native.Mathlib.Omega.{arith}
-use lib.ListN.{length, length-set}
+use lib.ListN.{length}
 use Rattle.plan_steps.proofs.Counting.{counts_left, counts_near, counted-few}
 use Rattle.plan_steps.proofs.edges.count_near.Goals as goal
+use Rattle.plan_steps.proofs.edges.count_near.Goals.{then-d-w+else-c-eq-MOST_NEAR, else-d-w}
 
 pub loop-e-init : goal.loop-e-init
 loop-e-init c = (omega arith, refl, c.requires.1)
@@ -54,22 +55,19 @@ bounds-counts-t-then-d-w c =
     let i = g.inside at.loop-e.e in-loop.loop-e-test.true in
     omega (arith, i, at.loop-e.invariant.2.long)
 
-pub loop-e-preserved-then-d-w : goal.loop-e-preserved-then-d-w
-loop-e-preserved-then-d-w c =
-    let in-loop = c in
-    let at = in-loop in
-    let b = in-loop.loop-e-test.true in (
-      omega (arith, b),
-      simp length-set at.loop-e.invariant.1,
-      counts_near _ _ _ _ _ _ at.requires.0 b at.loop-e.invariant.2 c.if-d-w.true c.if-c-eq-MOST_NEAR.false,
-    )
-
 pub loop-e-preserved : goal.loop-e-preserved
 loop-e-preserved c =
-    let in-loop = c in
-    let at = in-loop in
-    let b = in-loop.loop-e-test.true in
-    (omega (arith, b), at.loop-e.invariant.1, counts_left _ _ _ _ _ _ at.requires.0 b at.loop-e.invariant.2 c.if-d-w.false)
+    let b = c.loop-e-test.true in
+    let i = c.loop-e.invariant in
+    let g = c.requires.0 in
+    elim c.if-d-w.branch [
+      | then-d-w+else-c-eq-MOST_NEAR w ↦ (
+        omega (arith, b),
+        c.if-d-w.auto.counts ∙ i.1,
+        rw w.counts-is (counts_near _ _ _ _ _ _ g b i.2 w.if-d-w.true w.if-c-eq-MOST_NEAR.false),
+      )
+      | else-d-w w ↦ (omega (arith, b), c.if-d-w.auto.counts ∙ i.1, rw w.counts-is (counts_left _ _ _ _ _ _ g b i.2 w.if-d-w.false))
+    ]
 
 pub returns : goal.returns
 returns c =

@@ -1,4 +1,5 @@
-use mathlib.Core.Path.{sym, ◌∙◌}
+use mathlib.Core.Path.{◌≡◌, sym, ◌∙◌}
+use lib.ListN.{length}
 use native.Mathlib.Omega.{arith}
 use Rattle.propagation.proofs.Pairings.{front-more}
 use Rattle.propagation.proofs.together.direct_pairs.Goals as goal
@@ -47,4 +48,6 @@ loop-k-preserved c =
     (omega arith, front-more a.us.now a.vs.now a.order.now _ _ at.loop-k.invariant.1 (sym c.is_propagated.ensures ∙ c.if-is_propagated.false))
 
 pub returns : goal.returns
-returns c = record { inside = c.loop-k.invariant.0; near = c.loop-k.invariant.1; far = λ k l b. absurd (omega arith) }
+returns c =
+    let e : c.loop-k.k ≡ length c.args.order.now = omega arith in
+    record { inside = omega arith; near = rw e at c.loop-k.invariant.1; far = λ k l b. absurd (omega arith) }

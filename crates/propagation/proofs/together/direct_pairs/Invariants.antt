@@ -1,11 +1,8 @@
 -- The first k pairs are direct; behind a propagated one all are.
-use Prim.Native.Nat.{◌-◌, ◌≤◌}
+use Prim.Native.Nat.{◌≤◌}
 use lib.ListN.{length}
 use Rattle.propagation.proofs.Pairings.{Front}
 use Rattle.propagation.proofs.together.direct_pairs.Given as goal
 
 abbrev pub invariant-loop-k : goal.invariant-loop-k
 invariant-loop-k l = (l.k ≤ length l.order) × Front l.us l.vs l.order l.w l.k
-
-abbrev pub decreases-loop-k : goal.decreases-loop-k
-decreases-loop-k l = length l.order - l.k

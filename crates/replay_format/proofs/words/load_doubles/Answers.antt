@@ -11,7 +11,7 @@ pub loop-i-preserved : goal.loop-i-preserved
 loop-i-preserved c =
     let l = c in
     let a = l.args in
-    let next = loaded_more (λ j. of_bits binary64 (word_at a.list.now (place_at a.start j))) a.out.now _ _ _ (omega arith) l.loop-i.invariant.0 (c.float_of.ensures ∙ ap (of_bits binary64) (c.word.ensures ∙ ap (word_at a.list.now) c.at.ensures)) in
+    let next = loaded_more (λ j. of_bits binary64 (word_at a.list.now (place_at a.start j))) a.out.now _ _ _ (omega arith) l.loop-i.invariant.0 (c.double_of.ensures ∙ ap (of_bits binary64) (c.word.ensures ∙ ap (word_at a.list.now) c.at.ensures)) in
     (next, omega arith, loaded_length _ _ _ _ (omega arith) next)
 
 pub shape_of-out : goal.shape_of-out

@@ -6,6 +6,3 @@ use Rattle.run_record_put.proofs.rows.put_beta.Given as goal
 
 abbrev pub invariant-loop-p : goal.invariant-loop-p
 invariant-loop-p l = (l.p ≤ l.pairs) × Appended l.place (listed_beta l.chunk l.b l.first l.p l.squares l.fourths) l.initial.bytes l.bytes
-
-abbrev pub decreases-loop-p : goal.decreases-loop-p
-decreases-loop-p l = l.pairs - l.p

@@ -6,6 +6,3 @@ use Rattle.run_record_put.proofs.rows.put_chunk.Given as goal
 
 abbrev pub invariant-loop-b : goal.invariant-loop-b
 invariant-loop-b l = (l.b ≤ l.head.betas) × Appended l.place (first_betas l.head l.c l.squares l.fourths l.b) l.initial.bytes l.bytes
-
-abbrev pub decreases-loop-b : goal.decreases-loop-b
-decreases-loop-b l = l.head.betas - l.b

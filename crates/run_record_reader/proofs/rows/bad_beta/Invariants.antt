@@ -9,6 +9,3 @@ use Rattle.run_record_reader.proofs.rows.bad_beta.Given as goal
 
 abbrev pub invariant-loop-p : goal.invariant-loop-p
 invariant-loop-p l = (l.p ≤ l.pairs) × (some (bad_pair l.bytes l.start l.samples l.betas l.pairs l.chunk l.beta) l.p ≡ false)
-
-abbrev pub decreases-loop-p : goal.decreases-loop-p
-decreases-loop-p l = l.pairs - l.p

@@ -9,6 +9,3 @@ use Rattle.run_record_reader.proofs.rows.bad_chunk.Given as goal
 
 abbrev pub invariant-loop-b : goal.invariant-loop-b
 invariant-loop-b l = (l.b ≤ l.betas) × (some (bad_beta l.bytes l.start l.samples l.betas l.pairs l.chunk) l.b ≡ false)
-
-abbrev pub decreases-loop-b : goal.decreases-loop-b
-decreases-loop-b l = l.betas - l.b

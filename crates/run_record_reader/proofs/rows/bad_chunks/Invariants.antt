@@ -9,6 +9,3 @@ use Rattle.run_record_reader.proofs.rows.bad_chunks.Given as goal
 
 abbrev pub invariant-loop-c : goal.invariant-loop-c
 invariant-loop-c l = (l.c ≤ l.chunks) × (some (bad_chunk l.bytes l.start l.samples l.betas l.pairs) l.c ≡ false)
-
-abbrev pub decreases-loop-c : goal.decreases-loop-c
-decreases-loop-c l = l.chunks - l.c

@@ -19,29 +19,29 @@ returns-then-lengths-gt-LISTS c =
     let n = length c.args.lengths.now in
     rw (ne_eqb n 0 c.if-lengths-eq0.false, lt-ltb most_lists n c.if-lengths-gt-LISTS.true)
 
-pub loop-k-init : goal.loop-k-init
-loop-k-init c = (search rules, start _, sym (start_zero _), search rules)
+pub loop-entries-init : goal.loop-entries-init
+loop-entries-init c = (search rules, start _, sym (start_zero _), search rules)
 
 pub returns-then-bad_length : goal.returns-then-bad_length
 returns-then-bad_length c =
     let l = c in
     let lengths = l.args.lengths.now in
     let test : ℕ → Bool = λ j. bad_length (get_or lengths j 0) in
-    let found : some test (length lengths) ≡ true = some_at test (length lengths) l.loop-k.k (omega arith) (sym c.bad_length.ensures ∙ c.if-bad_length.true) in
+    let found : some test (length lengths) ≡ true = some_at test (length lengths) l.loop-entries.entries-index (omega arith) (sym c.bad_length.ensures ∙ c.if-bad_length.true) in
     rw (ne_eqb (length lengths) 0 l.if-lengths-eq0.false, le-ltb most_lists (length lengths) (omega arith), found)
 
 pub overflow_add-total : goal.overflow_add-total
 overflow_add-total c = let g = (let it : (let l = c in
-    let n = get_or l.args.lengths.now l.loop-k.k 0 in (0 < n) × (n ≤ most_entries)) = good_length _ (sym c.bad_length.ensures ∙ c.if-bad_length.false) in it) in record { fits = omega arith }
+    let n = get_or l.args.lengths.now l.loop-entries.entries-index 0 in (0 < n) × (n ≤ most_entries)) = good_length _ (sym c.bad_length.ensures ∙ c.if-bad_length.false) in it) in record { fits = omega arith }
 
-pub loop-k-preserved : goal.loop-k-preserved
-loop-k-preserved c =
+pub loop-entries-preserved : goal.loop-entries-preserved
+loop-entries-preserved c =
     let l = c in
     let g = (let it : (let l = c in
-    let n = get_or l.args.lengths.now l.loop-k.k 0 in (0 < n) × (n ≤ most_entries)) = good_length _ (sym c.bad_length.ensures ∙ c.if-bad_length.false) in it) in (
+    let n = get_or l.args.lengths.now l.loop-entries.entries-index 0 in (0 < n) × (n ≤ most_entries)) = good_length _ (sym c.bad_length.ensures ∙ c.if-bad_length.false) in it) in (
       omega arith,
-      miss _ _ l.loop-k.invariant.1 _ c.bad_length.ensures c.if-bad_length.false,
-      start_turn _ _ _ l.loop-k.invariant.2,
+      miss _ _ l.loop-entries.invariant.1 _ c.bad_length.ensures c.if-bad_length.false,
+      start_turn _ _ _ l.loop-entries.invariant.2,
       omega arith,
     )
 
@@ -49,7 +49,7 @@ pub returns : goal.returns
 returns c =
     let l = c in
     let lengths = l.args.lengths.now in
-    let e : l.loop-k.k ≡ length lengths = omega arith in
-    let none : some (λ j. bad_length (get_or lengths j 0)) (length lengths) ≡ false = rw e at l.loop-k.invariant.1 in
-    let total : l.loop-k.total ≡ start_of lengths (length lengths) = l.loop-k.invariant.2 ∙ ap (start_of lengths) e in
+    let e : l.loop-entries.entries-index ≡ length lengths = omega arith in
+    let none : some (λ j. bad_length (get_or lengths j 0)) (length lengths) ≡ false = rw e at l.loop-entries.invariant.1 in
+    let total : l.loop-entries.total ≡ start_of lengths (length lengths) = l.loop-entries.invariant.2 ∙ ap (start_of lengths) e in
     rw (ne_eqb (length lengths) 0 l.if-lengths-eq0.false, le-ltb most_lists (length lengths) (omega arith), none, ← total)

@@ -21,3 +21,10 @@ loop-j-preserved c =
 
 pub returns : goal.returns
 returns c = let e : c.loop-j.j ≡ c.args.n = omega arith in rw e at c.loop-j.invariant.3
+
+pub returns-2 : goal.returns-2
+returns-2 c =
+    let i = c.loop-j.invariant in
+    let l : c.loop-j.j + 1 < c.args.n = omega arith in
+    let e : c.loop-j.j + 2 ≡ c.args.n = omega arith in
+    rw e at (alternate_iteration _ _ _ _ _ _ c.requires.1 l i.1 i.3)

@@ -6,6 +6,3 @@ use Rattle.step_tables.proofs.pattern.pattern_of.Given as goal
 
 abbrev pub invariant-loop-i : goal.invariant-loop-i
 invariant-loop-i l = (l.i ≤ l.n) × (l.m ≡ pattern_from l.bits l.i (l.n - l.i) l.k)
-
-abbrev pub decreases-loop-i : goal.decreases-loop-i
-decreases-loop-i l = l.i

@@ -14,6 +14,3 @@ invariant-loop-m l =
     (l.m ≤ l.full) × (l.full ≡ 2 ^ l.count) × (l.full ≤ 16) × (length l.up ≡ length l.initial.up) × (length l.down ≡ length l.initial.down)
     × ((bits : List ℕ) (j : ℕ) → j < l.m → get_or l.up j nan ≡ S.up ieee (near_edges l.factors bits 0 l.count) l.scale j)
     × ((bits : List ℕ) (j : ℕ) → j < l.m → get_or l.down (l.full - 1 - j) nan ≡ S.up ieee (near_edges l.factors bits 0 l.count) l.scale j)
-
-abbrev pub decreases-loop-m : goal.decreases-loop-m
-decreases-loop-m l = l.full - l.m

@@ -1,6 +1,5 @@
 use native.Mathlib.Nat.{sub-zero}
 use native.Mathlib.Omega.{arith}
-use Rattle.transfer_matrix.specs.Sweep as S
 use Rattle.step_tables.proofs.Laws.Constants.{one-is}
 use Rattle.step_tables.proofs.TableIteration.{product_iteration, product-done}
 use Rattle.step_tables.proofs.tables.product.Goals as goal

@@ -11,6 +11,3 @@ abbrev pub invariant-loop-i : goal.invariant-loop-i
 invariant-loop-i l =
     (l.i ≤ l.n)
     × ((bits : List ℕ) → S.product ieee (near_edges l.factors bits l.i (l.n - l.i)) l.r l.f ≡ S.product ieee (near_edges l.factors bits 0 l.n) l.m ieee.𝟙)
-
-abbrev pub decreases-loop-i : goal.decreases-loop-i
-decreases-loop-i l = l.n - l.i

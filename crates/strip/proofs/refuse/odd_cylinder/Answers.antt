@@ -1,9 +1,7 @@
 -- The test, as it comes out.
-use borrow.Author.Rules.{rules}
+use mathlib.Core.Path.{refl}
+use Rattle.strip.proofs.Laws.Kinds.{same-honey}
 use Rattle.strip.proofs.refuse.odd_cylinder.Goals as goal
 
-pub is_honey-requires : goal.is_honey-requires
-is_honey-requires c = search rules
-
 pub returns : goal.returns
-returns c = cc
+returns c = rw (c.eq.ensures, same-honey c.args.s.kind) refl

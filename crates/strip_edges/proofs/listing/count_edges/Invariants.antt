@@ -7,6 +7,3 @@ use Rattle.strip_edges.proofs.listing.count_edges.Given as goal
 
 abbrev pub invariant-loop-v : goal.invariant-loop-v
 invariant-loop-v l = (l.k ≡ length (edges_below l.s l.v)) × (l.v ≤ l.s.w * l.s.l) × (l.k ≤ 5 * l.v)
-
-abbrev pub decreases-loop-v : goal.decreases-loop-v
-decreases-loop-v l = l.s.w * l.s.l - l.v

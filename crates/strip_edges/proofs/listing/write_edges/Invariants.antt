@@ -6,6 +6,3 @@ use Rattle.strip_edges.proofs.listing.write_edges.Given as goal
 
 abbrev pub invariant-loop-v : goal.invariant-loop-v
 invariant-loop-v l = Written (edges_below l.s l.v) l.k l.initial.early l.early l.initial.late l.late l.initial.mag l.mag × (l.v ≤ l.s.w * l.s.l)
-
-abbrev pub decreases-loop-v : goal.decreases-loop-v
-decreases-loop-v l = l.s.w * l.s.l - l.v

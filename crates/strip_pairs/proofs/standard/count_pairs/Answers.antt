@@ -7,7 +7,7 @@ pub loop-i-init : goal.loop-i-init
 loop-i-init c = (no_ends _ _, omega arith, omega arith, omega arith)
 
 pub loop-i-preserved : goal.loop-i-preserved
-loop-i-preserved c = let i = c.loop-i.i in let n = c.counted-next.ensures in (count-ends _ _ i c.loop-i.invariant.0 n c.picked.ensures (c.label_of-name.ensures.0 _ _) c.label_of-name.ensures.1, omega arith, omega arith, omega arith)
+loop-i-preserved c = let i = c.loop-i.i in let n = c.counted-next.ensures in (count-ends _ _ i c.loop-i.invariant.0 n c.picked.ensures (c.label_of-name.ensures.text _ _), omega arith, omega arith, omega arith)
 
 pub returns : goal.returns
 returns c = let e : c.loop-i.i ≡ 18 = omega arith in let n = rw e at c.loop-i.invariant.0 in (n.pairs, n.bytes)

@@ -4,16 +4,16 @@ use native.Mathlib.Omega.{arith}
 use Rattle.strip_pairs.proofs.standard.place_pair.Goals as goal
 
 pub bounds-us-k : goal.bounds-us-k
-bounds-us-k c = let h = rw c.in-Pair.is at c.requires.1.firsts in omega arith
+bounds-us-k c = let h = rw c.in-Some.is at c.requires.firsts in omega arith
 
 pub bounds-vs-k : goal.bounds-vs-k
-bounds-vs-k c = let h = rw c.in-Pair.is at c.requires.1.seconds in omega arith
+bounds-vs-k c = let h = rw c.in-Some.is at c.requires.seconds in omega arith
 
 pub put_label-end-requires : goal.put_label-end-requires
-put_label-end-requires c = (c.requires.0, label-room _ _ c.args.name c.args.at c.requires.0 (rw c.in-Pair.is at c.requires.1))
+put_label-end-requires c = label-room _ c.args.name.now c.args.at (rw c.in-Some.is at c.requires)
 
-pub returns-in-Pair : goal.returns-in-Pair
-returns-in-Pair c = rw c.in-Pair.is (placed_pair _ _ _ _ _ _ _ _ _ (rw c.in-Pair.is at c.requires.1) c.put_label-end.ensures)
+pub returns-in-Some : goal.returns-in-Some
+returns-in-Some c = rw c.in-Some.is (placed_pair _ _ _ _ _ _ _ _ (rw c.in-Some.is at c.requires) c.put_label-end.ensures)
 
-pub returns-in-Omitted : goal.returns-in-Omitted
-returns-in-Omitted c = rw c.in-Omitted.is (placed_omitted _ _ _ _)
+pub returns-in-None : goal.returns-in-None
+returns-in-None c = rw c.in-None.is (placed_omitted _ _ _ _)

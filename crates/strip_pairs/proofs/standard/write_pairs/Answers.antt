@@ -6,10 +6,10 @@ pub loop-i-init : goal.loop-i-init
 loop-i-init c = (no_ends _ _, no_pairs_written _ _ _ _ _, omega arith)
 
 pub place_pair-next-requires : goal.place_pair-next-requires
-place_pair-next-requires c = let i = c.loop-i.i in (c.label_of.ensures.1, rw (shown-at c.args.w c.args.l i c.picked.result c.label_of.result c.picked.ensures (c.label_of.ensures.0 _ _)) (next-room _ _ i c.loop-i.invariant.0 c.loop-i.invariant.1 c.requires.1 (omega arith)))
+place_pair-next-requires c = let i = c.loop-i.i in rw (shown-at c.args.w c.args.l i c.picked.result c.label_of.result.now c.picked.ensures (c.label_of.ensures.text _ _)) (next-room _ _ i c.loop-i.invariant.0 c.loop-i.invariant.1 c.requires.1 (omega arith))
 
 pub loop-i-preserved : goal.loop-i-preserved
-loop-i-preserved c = let i = c.loop-i.i in let w = c.args.w in let l = c.args.l in let e = shown-at w l i c.picked.result c.label_of.result c.picked.ensures (c.label_of.ensures.0 _ _) in let p = rw e at c.place_pair-next.ensures in (rw (pairs-more w l i) (p.ends _ c.loop-i.invariant.0), rw (pairs-more w l i) (p.then _ _ _ _ c.loop-i.invariant.0 c.loop-i.invariant.1), omega arith)
+loop-i-preserved c = let i = c.loop-i.i in let w = c.args.w in let l = c.args.l in let e = shown-at w l i c.picked.result c.label_of.result.now c.picked.ensures (c.label_of.ensures.text _ _) in let p = rw e at c.place_pair-next.ensures in (rw (pairs-more w l i) (p.ends _ c.loop-i.invariant.0), rw (pairs-more w l i) (p.then _ _ _ _ c.loop-i.invariant.0 c.loop-i.invariant.1), omega arith)
 
 pub shape_of-us : goal.shape_of-us
 shape_of-us c = (lengths _ _ c.loop-i.i c.loop-i.invariant.0 c.loop-i.invariant.1 c.requires.1 c.loop-i.invariant.2).0

@@ -102,12 +102,6 @@ returns-then-not-chunked_totals c =
     let said = rw c.requires.1 at (run.ensures (λ i j. alone (J i j) l.b) plan).0 in
     not_summed J _ _ _ l.b _ _ _ c.loop-b-test.true (sym (not-true _ c.if-not-chunked_totals.true-raw) ∙ said)
 
-pub overflow_add-b : goal.overflow_add-b
-overflow_add-b c = omega (arith, c.loop-b-test.true, c.requires.7)
-
-pub loop-b-smaller : goal.loop-b-smaller
-loop-b-smaller c = omega (arith, c.loop-b-test.true)
-
 pub loop-b-preserved : goal.loop-b-preserved
 loop-b-preserved c =
     let a = c.args in

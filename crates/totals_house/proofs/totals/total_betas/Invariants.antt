@@ -7,7 +7,3 @@ use Rattle.totals_house.proofs.totals.total_betas.Given as goal
 abbrev pub invariant-loop-b : goal.invariant-loop-b
 invariant-loop-b l =
     BetasDone l.plan l.us l.vs l.mag l.betas l.bits l.chunks l.shape l.b l.initial.room l.room l.initial.factors l.factors l.initial.signs l.signs l.initial.c l.c l.initial.subsquares l.subsquares l.initial.subfourths l.subfourths l.initial.squares l.squares l.initial.fourths l.fourths
-
-abbrev pub decreases-loop-b : goal.decreases-loop-b
-decreases-loop-b l =
-    length l.betas - l.b

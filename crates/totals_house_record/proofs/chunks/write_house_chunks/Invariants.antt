@@ -11,6 +11,3 @@ use Rattle.totals_house_record.proofs.chunks.write_house_chunks.Given as goal
 abbrev pub invariant-loop-c : goal.invariant-loop-c
 invariant-loop-c l =
     Writing l.n l.w l.early l.late (paired_factors (all_couplings l.betas l.mag)) (stepping l.elementwise) l.us l.vs l.head (arranged l.less) (length l.early) l.c l.initial.squares l.squares l.initial.fourths l.fourths l.initial.bytes l.bytes l.initial.work l.work
-
-abbrev pub decreases-loop-c : goal.decreases-loop-c
-decreases-loop-c l = l.chunks - l.c

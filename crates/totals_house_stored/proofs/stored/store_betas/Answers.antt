@@ -123,12 +123,6 @@ returns-then-not-stored_correlations c =
     let said = rw c.requires.1 at (c.stored_correlations.ensures (λ x. alone (J x) l.b) plan).0 in
     (not_stored J _ _ _ l.b _ c.loop-b-test.true (sym (not-true _ c.if-not-stored_correlations.true-raw) ∙ said), λ z. absurd (no (sym z)))
 
-pub overflow_add-b : goal.overflow_add-b
-overflow_add-b c = omega (arith, c.loop-b-test.true, c.requires.8)
-
-pub loop-b-smaller : goal.loop-b-smaller
-loop-b-smaller c = omega (arith, c.loop-b-test.true)
-
 pub loop-b-preserved : goal.loop-b-preserved
 loop-b-preserved c =
     let a = c.args in

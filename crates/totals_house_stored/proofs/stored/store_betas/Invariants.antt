@@ -8,6 +8,3 @@ use Rattle.totals_house_stored.proofs.stored.store_betas.Given as goal
 abbrev pub invariant-loop-b : goal.invariant-loop-b
 invariant-loop-b l =
     (l.row ≡ length l.us * 2 ^ l.free) × StoredDone l.plan l.us l.vs l.mag l.betas l.bits l.shape (2 ^ l.free) l.b l.initial.room l.room l.initial.factors l.factors l.initial.signs l.signs l.initial.c l.c l.initial.stored l.stored
-
-abbrev pub decreases-loop-b : goal.decreases-loop-b
-decreases-loop-b l = length l.betas - l.b

@@ -61,12 +61,6 @@ put_chunk-requires c =
     let t = c.total_job.auto in
     (i.written.size ∙ s.requires.3, c.loop-c-test.true, t.squares ∙ i.squareds ∙ s.requires.4, t.fourths ∙ i.fourthds ∙ s.requires.5)
 
-pub overflow_add-c : goal.overflow_add-c
-overflow_add-c c = omega (arith, c.loop-c-test.true, c.well_formed)
-
-pub loop-c-smaller : goal.loop-c-smaller
-loop-c-smaller c = omega (arith, c.loop-c-test.true)
-
 pub loop-c-preserved : goal.loop-c-preserved
 loop-c-preserved c =
     let t = c.total_job in

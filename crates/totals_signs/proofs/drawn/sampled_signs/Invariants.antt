@@ -1,5 +1,5 @@
 use mathlib.Core.Path.{◌≡◌}
-use Prim.Native.Nat.{◌-◌, ◌/◌, ◌%◌, ◌≤◌}
+use Prim.Native.Nat.{◌/◌, ◌%◌, ◌≤◌}
 use lib.ListN.{length}
 use Rattle.rng.specs.Xoshiro.{output}
 use Rattle.list_laws.specs.Bits.{bit}
@@ -11,6 +11,3 @@ use Rattle.totals_signs.proofs.drawn.sampled_signs.Given as goal
 
 abbrev pub invariant-loop-e : goal.invariant-loop-e
 invariant-loop-e l = (l.e ≤ length l.initial.signs) × Word l.initial.at.rng.s l.e l.at × (length l.signs ≡ length l.initial.signs) × (l.signs ≡ over (tabulate (λ k. bit (k % 64) (output (drawn l.initial.at.rng.s (k / 64)))) l.e) l.initial.signs)
-
-abbrev pub decreases-loop-e : goal.decreases-loop-e
-decreases-loop-e l = length l.initial.signs - l.e

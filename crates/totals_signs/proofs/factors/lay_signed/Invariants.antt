@@ -1,6 +1,6 @@
 use mathlib.Core.Path.{◌≡◌}
 use mathlib.Core.Bool.{false}
-use Prim.Native.Nat.{◌-◌, ◌≤◌}
+use Prim.Native.Nat.{◌≤◌}
 use lib.Ieee.{nan}
 use lib.ListN.{length, get_or}
 use Rattle.list_laws.specs.Part.{put}
@@ -10,6 +10,3 @@ use Rattle.totals_signs.proofs.factors.lay_signed.Given as goal
 
 abbrev pub invariant-loop-e : goal.invariant-loop-e
 invariant-loop-e l = (l.e ≤ length l.signs) × (length l.room ≡ length l.initial.room) × (l.room ≡ put l.initial.room l.at (tabulate (λ j. get_or l.factors (lent_at (length l.signs) l.b j (get_or l.signs j false)) nan) l.e))
-
-abbrev pub decreases-loop-e : goal.decreases-loop-e
-decreases-loop-e l = length l.signs - l.e

@@ -5,6 +5,3 @@ use Rattle.totals_stored.proofs.configuration.store_configuration.Given as goal
 
 abbrev pub invariant-loop-b : goal.invariant-loop-b
 invariant-loop-b l = Storing l.plan l.us l.vs l.factors l.signs l.shape l.all l.x l.b l.initial.room l.room l.initial.c l.c l.initial.stored l.stored
-
-abbrev pub decreases-loop-b : goal.decreases-loop-b
-decreases-loop-b l = l.shape.betas - l.b

@@ -5,6 +5,3 @@ use Rattle.totals_stored.proofs.configuration.store_results.Given as goal
 
 abbrev pub invariant-loop-p : goal.invariant-loop-p
 invariant-loop-p l = Placing l.all l.x l.first l.c l.p l.initial.stored l.stored
-
-abbrev pub decreases-loop-p : goal.decreases-loop-p
-decreases-loop-p l = length l.c - l.p

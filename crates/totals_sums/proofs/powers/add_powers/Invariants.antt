@@ -1,5 +1,5 @@
 use mathlib.Core.Path.{◌≡◌}
-use Prim.Native.Nat.{◌-◌, ◌≤◌}
+use Prim.Native.Nat.{◌≤◌}
 use lib.Ieee.{nan}
 use lib.ListN.{length, get_or}
 use Rattle.list_laws.specs.Part.{put}
@@ -14,6 +14,3 @@ invariant-loop-p l =
     (l.p ≤ length l.c) × (length l.squares ≡ length l.initial.squares) × (length l.fourths ≡ length l.initial.fourths)
     × (l.squares ≡ put l.initial.squares l.at (tabulate (sum_at l.initial.squares (λ i. square ieee (get_or l.c i nan)) l.at) l.p))
     × (l.fourths ≡ put l.initial.fourths l.at (tabulate (sum_at l.initial.fourths (λ i. fourth ieee (get_or l.c i nan)) l.at) l.p))
-
-abbrev pub decreases-loop-p : goal.decreases-loop-p
-decreases-loop-p l = length l.c - l.p

@@ -10,6 +10,3 @@ abbrev pub invariant-loop-i : goal.invariant-loop-i
 invariant-loop-i l =
     (l.count ≡ near_count l.plan l.t) × (l.i ≤ l.count) × Entered nan (λ j. get_or (drop l.factors l.room) (near_edge l.plan l.t j) nan) l.x (length l.initial.x) l.i
     × Entered 0 (near_bit l.plan l.t) l.bits (length l.initial.bits) l.i
-
-abbrev pub decreases-loop-i : goal.decreases-loop-i
-decreases-loop-i l = l.count - l.i
