@@ -1,15 +1,12 @@
 -- A list at +0.0 throughout, and a list laid into another.
 use mathlib.Core.Path.{◌≡◌, refl, sym, ap, ◌∙◌}
-use mathlib.Core.List.{List, ◌++◌}
+use mathlib.Core.List.{List}
 use Prim.Native.Nat.{ℕ, ◌+◌, ◌≤◌, ◌<◌}
 use native.Mathlib.Nat.{zero-add}
 use native.Mathlib.Omega.{arith}
 use lib.Ieee.{Float, nan}
-use lib.ListN.{length, take, drop, get_or, length-replicate, get_or-replicate}
+use lib.ListN.{length, get_or, length-replicate, get_or-replicate}
 use lib.Seq.{ext_get_or}
-use borrow.Rule.Slice.PartMut.{put_mid}
-use Rattle.std.proofs.Math.Seq.{take-length}
-use Rattle.std.proofs.lemmas.Slice.{put_mid-paste}
 use Rattle.list_laws.specs.Tabulate.{tabulate}
 use Rattle.list_laws.proofs.Laws.Tabulate.{tabulate-length, tabulate-at, tabulated}
 use Rattle.list_laws.specs.Part.{put}
@@ -33,7 +30,6 @@ all-zeros l r z n e s q =
     ∙ ap (λ (x : List Float). get_or x i nan) (part-put l 0 (tabulate (λ _. z) n) fits)
     ∙ tabulate-at (λ _. z) n i nan b' ∙ e ∙ sym (get_or-replicate (length l) i ieee.𝟘 nan (omega arith)))
 
--- a list over the elements of another from `at` on
-pub written_is : (d x ys : List Float) (at k : ℕ) → ys ≡ x → length x ≡ k → put_mid at k d ys ≡ put d at x
-unfolding put
-written_is d x ys at k e l = put_mid-paste at k d ys x (length x) e l refl ∙ ap (λ (t : List Float). take at d ++ t ++ drop (at + length x) d) (take-length x)
+-- the entries of a list, one by one, are the list
+pub entries_are : (d : List Float) (at : ℕ) (x : List Float) (n : ℕ) → n ≡ length x → put d at (tabulate (λ e. get_or x e nan) n) ≡ put d at x
+entries_are d at x n e = ap (put d at) (sym (tabulated nan x (λ e. get_or x e nan) n (sym e) (λ i b. refl)))

@@ -18,7 +18,9 @@ pub fn lay_factors(room: &mut [f64], at: usize, x: &[f64])
     requires { at + length x.now ≤ length room.old }
     ensures { room.new ≡ put room.old at x.now }
 {
-    room[at..at + x.len()].copy_from_slice(x);
+    for (e, f) in x.iter().enumerate() {
+        room[at + e] = *f;
+    }
 }
 
 // All of a list at +0.0.

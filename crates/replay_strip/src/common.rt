@@ -47,10 +47,11 @@ pub(crate) fn is_number(a: Result<usize, Refusal>, n: u64) -> bool {
     }
 }
 
-pub(crate) fn is_refused<T: Drop>(answer: Result<T, Refusal>, by: Refusal) -> bool {
+// Whether it is refused by this number, written out at each caller: the replay does not take it from the library.
+pub(crate) fn is_refused<T: Drop>(answer: Result<T, Refusal>, by: u64) -> bool {
     match answer {
         Ok(_) => false,
-        Err(refusal) => refusal == by,
+        Err(refusal) => wide(refusal.number()) == by,
     }
 }
 

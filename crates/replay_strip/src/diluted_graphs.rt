@@ -56,7 +56,7 @@ fn short_agrees(s: Strip, x: Dilution, k: usize, short: usize) -> bool {
     let answer = lend(s, x, k, short, &mut early, &mut late, &mut mag, &mut raw);
     let seen = see_edges(0, &early, &late, &mag);
     let placed = see_edges(0, &raw, &late, &mag);
-    is_refused(answer, Refusal::Buffer) & seen.rest & placed.rest
+    is_refused(answer, 12) & seen.rest & placed.rest
 }
 
 // Lists of k elements each hold the kept edges and their places, and no more is written.

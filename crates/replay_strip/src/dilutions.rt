@@ -100,7 +100,7 @@ fn short_agrees(s: Strip, x: Dilution, k: usize, buffer: usize) -> bool {
     let c = cut(k, buffer == 2);
     let answer = lend(s, x, a, b, c, &mut early, &mut late, &mut mag);
     let seen = see_edges(0, &early, &late, &mag);
-    is_refused(answer, Refusal::Buffer) & seen.rest
+    is_refused(answer, 12) & seen.rest
 }
 
 // Buffers of exactly k: the same kept edges, and no more is written.

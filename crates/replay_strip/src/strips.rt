@@ -24,9 +24,7 @@ fn odd_agrees(s: Strip) -> bool {
     let mut mag = [GUARD_MAGNITUDE; 4096];
     let answer = strip_edges::raw_edges(s, &mut early, &mut late, &mut mag);
     let seen = see_edges(0, &early, &late, &mag);
-    is_refused(answer, Refusal::OddCylinder)
-        & seen.rest
-        & is_refused(strip_window::window(s), Refusal::OddCylinder)
+    is_refused(answer, 16) & seen.rest & is_refused(strip_window::window(s), 16)
 }
 
 // The edge list into the first a, b and c elements of three buffers.
@@ -72,7 +70,7 @@ fn short_agrees(s: Strip, k: usize, buffer: usize) -> bool {
     let c = cut(k, buffer == 2);
     let answer = lend_edges(s, a, b, c, &mut early, &mut late, &mut mag);
     let seen = see_edges(0, &early, &late, &mag);
-    is_refused(answer, Refusal::Buffer) & seen.rest
+    is_refused(answer, 12) & seen.rest
 }
 
 // Buffers of exactly k.
@@ -158,7 +156,7 @@ fn pairs_short(s: Strip, k: usize, n: usize, buffer: usize) -> bool {
         return is_number(answer, wide(k));
     }
     let seen = see_labels(0, see_ends(0, &us, &vs), &labels);
-    is_refused(answer, Refusal::Buffer) & seen.rest
+    is_refused(answer, 12) & seen.rest
 }
 
 fn pair_lengths_agree(s: Strip, k: usize, n: usize) -> bool {

@@ -17,7 +17,9 @@ fn copy_behind(source: &[u8], from: usize, target: &mut [u8], at: usize)
     ensures { target.new ≡ put target.old at (drop from source.now) }
 {
     let count = source.len() - from;
-    target[at..at + count].copy_from_slice(&source[from..]);
+    for i in 0..count {
+        target[at + i] = source[from + i];
+    }
 }
 
 // Writes the earlier record with the later one's end, then the rows of the later one.

@@ -7,7 +7,8 @@ use native.Mathlib.Nat.{mul-le-mul_right}
 use native.Mathlib.Numerals.{add-one}
 use native.Mathlib.Omega.{arith}
 use lib.Dec.{eqb, ltb}
-use lib.ListN.{length, take, drop, set, length-append, length-drop, length-take, length-map, length-set}
+use lib.ListN.{length, take, drop, get_or, set, length-append, length-drop, length-take, length-map, length-set}
+use lib.Seq.{take-suc}
 use borrow.Author.Tests.{ltb-true}
 use Rattle.list_laws.specs.Front.{over}
 use Rattle.list_laws.proofs.Laws.Front.{over-more, over-length}
@@ -106,7 +107,22 @@ pub record Putting (bytes : List ℕ) (at j : ℕ) (labels labels' : List ℕ) :
   pub length-kept : length labels' ≡ length labels
   pub then : (front labels₀ : List ℕ) → at ≡ length front → labels ≡ over front labels₀ → labels' ≡ over (front ++ take j bytes) labels₀
 
+pub put-none : (bytes labels : List ℕ) (at : ℕ) → Putting bytes at 0 labels labels
+put-none bytes labels at = record { length-kept = refl; then = λ front labels₀ e h. rw append-nil h }
+
 module _ (bytes : List ℕ) (at j : ℕ) {labels labels' : List ℕ} (P : Putting bytes at j labels labels') (b : at + j < length labels) where
+  pub put-more : j < length bytes → Putting bytes at (j + 1) labels (set labels' (at + j) (get_or bytes j 0))
+  put-more l =
+      record {
+        length-kept = length-set labels' (at + j) (get_or bytes j 0) ∙ P.length-kept;
+        then = λ front labels₀ e h.
+            let t = length-take j bytes in
+            let more = store (front ++ take j bytes) labels' labels₀ (at + j) (get_or bytes j 0) (P.then front labels₀ e h)
+            (omega (arith, length-append front (take j bytes))) (omega (arith, P.length-kept)) in
+            let s : take (j + 1) bytes ≡ take j bytes ++ (get_or bytes j 0 ∷ []) = rw (add-one, take-suc bytes j 0) in
+            rw (s, ← (append_assoc front (take j bytes) (get_or bytes j 0 ∷ []))) more;
+      }
+
   pub put-end : j ≤ length bytes → Put (take j bytes ++ (0 ∷ [])) at (at + (j + 1)) labels (set labels' (at + j) 0)
   put-end l =
       let t = length-take j bytes in

@@ -74,7 +74,9 @@ fn put_label(name: &[u8], labels: &mut [u8], at: usize) -> usize
     ensures { Put (name.now ++ (0 ∷ [])) at result labels.old labels.new }
 {
     let len = name.len();
-    labels[at..at + len].copy_from_slice(name);
+    for (j, byte) in name.iter().enumerate() {
+        labels[at + j] = *byte;
+    }
     labels[at + len] = 0;
     at + (len + 1)
 }

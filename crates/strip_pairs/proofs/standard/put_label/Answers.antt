@@ -1,30 +1,21 @@
-use Rattle.std.proofs.Common.{◌≡◌, sym, ◌∙◌, arith, take_at, drop_at, drop-drop}
-use mathlib.Core.List.{List, ◌++◌, append_assoc}
-use Prim.Native.Nat.{ℕ, ◌+◌, ◌-◌, ◌≤◌}
-use lib.ListN.{length, take, drop, length-append, length-drop, length-take}
-use borrow.Rule.Slice.PartMut.{put_mid}
+use mathlib.Core.Path.{◌≡◌}
+use native.Mathlib.Omega.{arith}
+use lib.ListN.{length, length-set}
 use Rattle.std.proofs.Math.Seq.{take-length}
-use Rattle.strip_pairs.proofs.Pairing.{Putting, put-end}
+use Rattle.strip_pairs.proofs.Pairing.{put-none, put-more, put-end}
 use Rattle.strip_pairs.proofs.standard.put_label.Goals as goal
 
--- the label's bytes stand behind the front
-behind : (bytes labels : List ℕ) (at j : ℕ) → j ≤ length bytes → at + j ≤ length labels → Putting bytes at j labels (put_mid at j labels (take j bytes))
-behind bytes labels at j p q =
-    let t = length-take at labels in
-    let u = length-take j bytes in
-    record {
-      length-kept = simp (length-append, length-drop) (omega arith);
-      then = λ front labels₀ e h.
-          let r : List ℕ = drop (length front) labels₀ in
-          let n : length (front ++ take j bytes) ≡ length front + j = length-append front (take j bytes) ∙ omega arith in
-          rw (h, take_at front r at (sym e), drop_at front r at (sym e), drop-drop j (length front) labels₀, n)
-          (sym (append_assoc front (take j bytes) (drop (length front + j) labels₀)));
-    }
+pub loop-j-init : goal.loop-j-init
+loop-j-init c = (put-none _ _ _, omega arith)
+
+pub loop-j-preserved : goal.loop-j-preserved
+loop-j-preserved c = (put-more _ _ _ c.loop-j.invariant.0 (omega arith) (omega arith), omega arith)
+
+pub shape_of-labels : goal.shape_of-labels
+shape_of-labels c = simp length-set c.loop-j.invariant.0.length-kept
 
 pub returns : goal.returns
 returns c =
-    let a = c.args in
-    let bytes = a.name.now in
-    let k : a.at + length bytes - a.at ≡ length bytes = omega arith in
-    let put = put-end bytes a.at (length bytes) (behind bytes a.labels.now a.at (length bytes) (omega arith) (omega arith)) (omega arith) (omega arith) in
-    rw (c.copy_from_slice.ensures.after, k) (rw (take-length bytes) at put)
+    let bytes = c.args.name.now in
+    let e : c.loop-j.j ≡ length bytes = omega arith in
+    rw (take-length bytes) at (put-end _ _ _ (rw e at c.loop-j.invariant.0) (omega arith) (omega arith))
