@@ -47,7 +47,7 @@ pub(crate) fn is_number(a: Result<usize, Refusal>, n: u64) -> bool {
     }
 }
 
-// Whether it is refused by this number, written out at each caller: the replay does not take it from the library.
+// Returns whether it is refused by this number, written out at each caller: the replay does not take it from the library.
 pub(crate) fn is_refused<T: Drop>(answer: Result<T, Refusal>, by: u64) -> bool {
     match answer {
         Ok(_) => false,
