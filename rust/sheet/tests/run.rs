@@ -3,6 +3,7 @@
 mod common;
 use common::folder;
 use std::fs;
+use std::ops::Deref;
 use std::os::unix::fs::{symlink, PermissionsExt};
 use std::path::{Path, PathBuf};
 use std::process::{Command, Output, Stdio};
@@ -69,8 +70,25 @@ fn script(path: &Path, text: &str) {
     fs::set_permissions(path, fs::Permissions::from_mode(0o755)).unwrap();
 }
 
+/// A folder that goes with the test: the gate reads every crates.txt below the repository's top, and would stop at this one.
+struct Repository(PathBuf);
+
+impl Deref for Repository {
+    type Target = Path;
+
+    fn deref(&self) -> &Path {
+        &self.0
+    }
+}
+
+impl Drop for Repository {
+    fn drop(&mut self) {
+        let _ = fs::remove_dir_all(&self.0);
+    }
+}
+
 /// A repository with one crate, and a folder with all tools that the script may find.
-fn repository(name: &str) -> PathBuf {
+fn repository(name: &str) -> Repository {
     let (root, package) = (folder(name), PathBuf::from(env!("CARGO_MANIFEST_DIR")));
     for made in ["rust/sheet", "bin", "crates/one/src"] {
         fs::create_dir_all(root.join(made)).unwrap();
@@ -93,7 +111,7 @@ fn repository(name: &str) -> PathBuf {
     script(&root.join("bin/rt"), PROVER);
     script(&root.join("archive"), ARCHIVE);
     script(&root.join("bin/cargo"), BUILDER);
-    root
+    Repository(root)
 }
 
 fn command(root: &Path, line: &str) -> Command {
